@@ -1,0 +1,42 @@
+-- 01, "Limits and refusal numbers": each limit once.
+use Prim.Native.Nat.{ℕ, _*_, _^_}
+use Rattle.kind.specs.declared.Limits.{Limits}
+
+-- the order sum on each centre, and on the moment operator, and a shell's order
+abbrev pub mostOrder : ℕ
+mostOrder = 4
+
+-- terms of a list
+abbrev pub mostTerms : ℕ
+mostTerms = 65535
+
+-- functions of a matrix
+abbrev pub mostSize : ℕ
+mostSize = 16
+
+-- bytes of a roll that the listing takes
+abbrev pub mostListed : ℕ
+mostListed = 65536
+
+-- centres that a request can name: A, B, C and D
+abbrev pub mostCentres : ℕ
+mostCentres = 4
+
+-- the twelve orders of a request
+abbrev pub requestOrders : ℕ
+requestOrders = 3 * mostCentres
+
+-- L of any kind: the sum of all orders
+abbrev pub mostOrders : ℕ
+mostOrders = mostCentres * mostOrder
+
+-- 4^8: each step with a multiplier above 1 lowers two orders
+abbrev pub mostScale : ℕ
+mostScale = mostOrder ^ (2 * mostOrder)
+
+-- the places in which a prefactor table is handed out
+abbrev pub tablePlaces : ℕ
+tablePlaces = 23
+
+abbrev pub limits : Limits
+limits = record { order = mostOrder; terms = mostTerms; scale = mostScale; size = mostSize; listed = mostListed; request = requestOrders; prefactors = mostOrders; table = tablePlaces }
