@@ -1,0 +1,4 @@
+pub mod Chosen
+pub mod Moves
+pub mod Only
+pub mod Packed

@@ -1,0 +1,99 @@
+-- One order of a centre in a word; a number that no branch has takes nothing.
+use Prim.Native.Nat.{ℕ, _+_, _*_, _-_, _^_, _≤_, zero-le}
+use mathlib.Core.Path.{_≡_, refl, sym, ap, _∙_}
+use mathlib.Core.List.{List}
+use native.Mathlib.Nat.{mul-comm}
+use native.Mathlib.Omega.{arith}
+use lib.Pow.{pow-add}
+use lib.ListN.{length, getD, List·getD-eq-default}
+use Rattle.kind.specs.declared.Kind.{Kind}
+use Rattle.steps.specs.declared.Centre.{Centre}
+use Rattle.steps.specs.declared.Centre.the-variants.{A, B, C, D}
+use Rattle.steps.specs.declared.Axis.{Axis}
+use Rattle.steps.specs.declared.Move.{Move}
+use Rattle.kind.specs.declared.Kind.the-variants.{Overlap, Moment}
+use Rattle.steps.specs.Choice.{pick, centreNumber, axisNumber, operator, orderOf}
+use Rattle.steps.specs.Steps.{Branch, branches, moments, times, partner, other-c, other-d, overlap, kinetic, nuclear, moment, moment-on-operator, coulomb}
+use Rattle.steps.specs.Packed.{noBranch, moved, moveIn, fallWord, unit, multiplierWord}
+
+pub no-arm : (k : Kind) (c : Centre) (x : Axis) (bs : List Branch) (n : ℕ) (m : Move) → length bs ≤ n → m ≡ record { falls = 0; adds = 0; raises = 0; kind = k } → m ≡ moveIn k c x bs n
+unfolding moveIn fallWord
+no-arm k c x bs n m h e = e ∙ sym (ap (moved k c x) (List·getD-eq-default bs noBranch h))
+
+module _ (c : Centre) (x : Axis) (v : ℕ) (on-axis : v ≡ 16 ^ axisNumber x) where
+  unit-is : v * 16 ^ (3 * centreNumber c) ≡ unit c x
+  unit-is = rw (on-axis, pow-add 16 (3 * centreNumber c) (axisNumber x)) (mul-comm (16 ^ axisNumber x) (16 ^ (3 * centreNumber c)))
+
+  pub unit-a : c ≡ A → v * 1 ≡ unit c x
+  unit-a e = (rw e) ∙ unit-is
+
+  pub unit-b : c ≡ B → v * 0x1000 ≡ unit c x
+  unit-b e = (rw e) ∙ unit-is
+
+  pub unit-c : c ≡ C → v * 0x100_0000 ≡ unit c x
+  unit-c e = (rw e) ∙ unit-is
+
+  pub unit-d : c ≡ D → v * 0x10_0000_0000 ≡ unit c x
+  unit-d e = (rw e) ∙ unit-is
+
+-- an arm of a match on the branch's number: what falls and what is added are the branch's
+pub arm : (k : Kind) (c : Centre) (x : Axis) (bs : List Branch) (n i f p : ℕ) (m : Move) → n ≡ i → m ≡ record { falls = f; adds = p; raises = getD bs i noBranch .raises; kind = pick (getD bs i noBranch .as-overlap) Overlap k }
+    → f ≡ fallWord (getD bs i noBranch .falls) c x → p ≡ getD bs i noBranch .adds → m ≡ moveIn k c x bs n
+unfolding moveIn
+arm k c x bs n i f p m e h u v = h ∙ rw (u, v, e)
+
+past-four : (n m : ℕ) → m ≤ n → (n ≡ m → ⊥) → (n ≡ m + 1 → ⊥) → (n ≡ m + 2 → ⊥) → (n ≡ m + 3 → ⊥) → m + 4 ≤ n
+past-four n m l a b c d = omega arith
+
+-- a number that is none of eight is at least eight
+pub past-eight : (n : ℕ) → (n ≡ 0 → ⊥) → (n ≡ 1 → ⊥) → (n ≡ 2 → ⊥) → (n ≡ 3 → ⊥) → (n ≡ 4 → ⊥) → (n ≡ 5 → ⊥) → (n ≡ 6 → ⊥) → (n ≡ 7 → ⊥) → 8 ≤ n
+past-eight n a b c d e f g h = past-four n 4 (past-four n 0 zero-le a b c d) e f g h
+
+module _ (c : Centre) (x : Axis) where
+  pub branch-of : (k j : Kind) (n : ℕ) (m : Move) → k ≡ j → m ≡ moveIn j c x (branches j c x) n → m ≡ moveIn k c x (branches k c x) n
+  branch-of k j n m e h = rw e h
+
+  pub moment-of : (d : Centre) (n : ℕ) (m : Move) → c ≡ d → m ≡ moveIn Moment c x (moments d x) n → m ≡ moveIn Moment c x (moments c x) n
+  moment-of d n m e h = h ∙ rw e
+
+  pub moment-of-a : (n : ℕ) (m : Move) → c ≡ A → m ≡ moveIn Moment c x (moment c x) n → m ≡ moveIn Moment c x (moments c x) n
+  moment-of-a n m e h = h ∙ rw e
+
+  pub moment-of-b : (n : ℕ) (m : Move) → c ≡ B → m ≡ moveIn Moment c x (moment c x) n → m ≡ moveIn Moment c x (moments c x) n
+  moment-of-b n m e h = h ∙ rw e
+
+  pub word-of : (left : List ℕ) (k j : Kind) (m : ℕ) → k ≡ j → m ≡ multiplierWord c x left (branches j c x) → m ≡ multiplierWord c x left (branches k c x)
+  word-of left k j m e h = rw e h
+
+  pub moment-word-of : (left : List ℕ) (d : Centre) (m : ℕ) → c ≡ d → m ≡ multiplierWord c x left (moments d x) → m ≡ multiplierWord c x left (moments c x)
+  moment-word-of left d m e h = h ∙ rw e
+
+  pub other-order : (left : List ℕ) (d e : Centre) (m : ℕ) → d ≡ e → m ≡ orderOf left d x → m ≡ orderOf left e x
+  other-order left d e m f h = h ∙ rw f
+
+module _ (left : List ℕ) (c : Centre) (x : Axis) (p : ℕ) (less : p ≡ orderOf left c x - 1) where
+  pub on-operator-word : 1 + 0x10 * p ≡ multiplierWord c x left (moment-on-operator x)
+  unfolding multiplierWord times
+  on-operator-word = omega arith
+
+  module _ (q : ℕ) (partner-order : q ≡ orderOf left (partner c) x) where
+    pub overlap-word : 1 + 0x10 * p + 0x100 * q ≡ multiplierWord c x left (overlap c x)
+    unfolding multiplierWord times
+    overlap-word = omega arith
+
+    pub kinetic-word : 0x1001 + 0x1_0010 * p + 0x100 * q ≡ multiplierWord c x left (kinetic c x)
+    unfolding multiplierWord times
+    kinetic-word = omega arith
+
+    pub nuclear-word : 0x11 + 0x1100 * p + 0x11_0000 * q ≡ multiplierWord c x left (nuclear c x)
+    unfolding multiplierWord times
+    nuclear-word = omega arith
+
+    pub moment-word : (o : ℕ) → o ≡ orderOf left operator x → 1 + 0x10 * p + 0x100 * q + 0x1000 * o ≡ multiplierWord c x left (moment c x)
+    unfolding multiplierWord times
+    moment-word o e = omega arith
+
+    pub coulomb-word : (r s : ℕ) → r ≡ orderOf left (other-c c) x → s ≡ orderOf left (other-d c) x
+        → 0x11 + 0x1100 * p + 0x11_0000 * q + 0x100_0000 * r + 0x1000_0000 * s ≡ multiplierWord c x left (coulomb c x)
+    unfolding multiplierWord times
+    coulomb-word r s e f = omega arith

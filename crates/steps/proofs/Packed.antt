@@ -1,0 +1,71 @@
+-- Orders packed in a word: what stands at a place, and what is left when an order falls.
+use Prim.Native.Nat.{ℕ, zero, suc, _+_, _*_, _-_, _/_, _%_, _^_, _≤_, _<_, zero-le, suc-le-suc}
+use mathlib.Core.Path.{_≡_, refl, sym, ap, _∙_}
+use mathlib.Core.List.{List, [], _∷_}
+use native.Mathlib.Nat.{div-one, div-div-eq-div-mul, div-eq-of-lt, pow-suc, mul-comm}
+use native.Mathlib.Omega.{arith}
+use lib.ListN.{length, getD, set}
+use lib.Pow.{pow-add}
+use Rattle.kind.specs.Limits.{requestOrders}
+use Rattle.steps.specs.declared.Centre.{Centre}
+use Rattle.steps.specs.declared.Centre.the-variants.{A, B, C, D}
+use Rattle.steps.specs.declared.Axis.{Axis}
+use Rattle.steps.specs.declared.Axis.the-variants.{X, Y, Z}
+use Rattle.steps.specs.Choice.{centreNumber, axisNumber, place, orderOf, sumOf}
+use Rattle.steps.specs.Packed.{nibbles, orders}
+
+pub length-nibbles : (n w : ℕ) → length (nibbles n w) ≡ n
+unfolding nibbles
+length-nibbles zero w = refl
+length-nibbles (suc n) w = ap suc (length-nibbles n (w / 16))
+
+-- what stands at a place
+pub nibble-at : (n i w : ℕ) → i < n → getD (nibbles n w) i 0 ≡ w / 16 ^ i % 16
+unfolding nibbles
+nibble-at (suc n) zero w h = ap (λ (k : ℕ). k % 16) (sym (div-one w))
+nibble-at (suc n) (suc i) w h =
+    nibble-at n i (w / 16) (omega arith)
+    ∙ ap (λ (k : ℕ). k % 16) (div-div-eq-div-mul w 16 (16 ^ i) ∙ ap (λ (k : ℕ). w / k) (mul-comm 16 (16 ^ i) ∙ sym (pow-suc 16 i)))
+
+place-below : (c : Centre) (x : Axis) → place c x < requestOrders
+place-below A X = omega arith
+place-below A Y = omega arith
+place-below A Z = omega arith
+place-below B X = omega arith
+place-below B Y = omega arith
+place-below B Z = omega arith
+place-below C X = omega arith
+place-below C Y = omega arith
+place-below C Z = omega arith
+place-below D X = omega arith
+place-below D Y = omega arith
+place-below D Z = omega arith
+
+-- an order of a word
+pub order-is : (w : ℕ) (c : Centre) (x : Axis) → w / 16 ^ (3 * centreNumber c) / 16 ^ axisNumber x % 16 ≡ orderOf (orders w) c x
+order-is w c x =
+    ap (λ (k : ℕ). k % 16)
+    (div-div-eq-div-mul w (16 ^ (3 * centreNumber c)) (16 ^ axisNumber x) ∙ ap (λ (k : ℕ). w / k) (sym (pow-add 16 (3 * centreNumber c) (axisNumber x))))
+    ∙ sym (nibble-at requestOrders (place c x) w (place-below c x))
+
+module _ (w rest : ℕ) (c : Centre) (starts : rest ≡ w / 16 ^ (3 * centreNumber c)) where
+  along-x : rest % 16 ≡ orderOf (orders w) c X
+  along-x = ap (λ (k : ℕ). k % 16) (sym (div-one rest)) ∙ rw starts (order-is w c X)
+
+  along-y : rest / 16 % 16 ≡ orderOf (orders w) c Y
+  along-y = rw starts (order-is w c Y)
+
+  along-z : rest / 256 % 16 ≡ orderOf (orders w) c Z
+  along-z = rw starts (order-is w c Z)
+
+  pub order-x : (x : Axis) → x ≡ X → rest % 16 ≡ orderOf (orders w) c x
+  order-x x e = rw e along-x
+
+  pub order-y : (x : Axis) → x ≡ Y → rest / 16 % 16 ≡ orderOf (orders w) c x
+  order-y x e = rw e along-y
+
+  pub order-z : (x : Axis) → x ≡ Z → rest / 256 % 16 ≡ orderOf (orders w) c x
+  order-z x e = rw e along-z
+
+  pub sum-is : rest % 16 + rest / 16 % 16 + rest / 256 % 16 ≡ sumOf (orders w) c
+  sum-is = rw (along-x, along-y, along-z)

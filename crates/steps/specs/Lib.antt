@@ -1,0 +1,4 @@
+pub mod Choice
+pub mod Packed
+pub mod States
+pub mod Steps

@@ -1,0 +1,167 @@
+-- 01, "Steps": each branch of each kind on a line of its own, numbered from 0 by its place.
+use Prim.Native.Nat.{ℕ, _+_, _*_, _-_}
+use mathlib.Core.Bool.{Bool, true, false}
+use mathlib.Core.List.{List, [], _∷_}
+use lib.ListN.{getD, set}
+use Rattle.kind.specs.declared.Kind.{Kind}
+use Rattle.kind.specs.declared.Kind.the-variants.{Overlap, Kinetic, Nuclear, Moment, Coulomb}
+use Rattle.steps.specs.declared.Centre.{Centre}
+use Rattle.steps.specs.declared.Centre.the-variants.{A, B, C, D}
+use Rattle.steps.specs.declared.Axis.{Axis}
+use Rattle.steps.specs.Choice.{centreNumber, axisNumber, operator, place, orderOf}
+
+-- what falls: a is the chosen centre, b its partner, o the operator
+pub data Falls : Type 0 where
+  a : Falls
+  a-twice : Falls
+  a-and-b : Falls
+  a-and-c : Falls
+  a-and-d : Falls
+  a-and-o : Falls
+  nothing : Falls
+
+-- what falls, the prefactor added, what is added to the Boys order, whether the term goes on as overlap
+pub record Branch : Type 0 where
+  pub falls : Falls
+  pub adds : ℕ
+  pub raises : ℕ
+  pub as-overlap : Bool
+
+infix 70 _adds_
+infix 70 _adds-and-raises_
+infix 70 _adds-and-goes-on-as-overlap_
+abbrev pub _adds_ : Falls → ℕ → Branch
+f adds p = record { falls = f; adds = p; raises = 0; as-overlap = false }
+
+abbrev pub _adds-and-raises_ : Falls → ℕ → Branch
+f adds-and-raises p = record { falls = f; adds = p; raises = 1; as-overlap = false }
+
+abbrev pub _adds-and-goes-on-as-overlap_ : Falls → ℕ → Branch
+f adds-and-goes-on-as-overlap p = record { falls = f; adds = p; raises = 0; as-overlap = true }
+
+-- P = 2·axis for A, one more for B
+abbrev pub P : Centre → Axis → ℕ
+P c x = 2 * axisNumber x + centreNumber c
+
+abbrev pub overlap : Centre → Axis → List Branch
+overlap c x =
+    a adds P c x
+    ∷ a-twice adds 6
+    ∷ a-and-b adds 7
+    ∷ []
+
+-- 9 for A, 10 for B
+abbrev pub kinetic : Centre → Axis → List Branch
+kinetic c x =
+    a adds P c x
+    ∷ a-twice adds 6
+    ∷ a-and-b adds 7
+    ∷ nothing adds-and-goes-on-as-overlap 8
+    ∷ a-twice adds-and-goes-on-as-overlap (9 + centreNumber c)
+    ∷ []
+
+abbrev pub nuclear : Centre → Axis → List Branch
+nuclear c x =
+    a adds P c x
+    ∷ a adds-and-raises (6 + axisNumber x)
+    ∷ a-twice adds 9
+    ∷ a-twice adds-and-raises 10
+    ∷ a-and-b adds 9
+    ∷ a-and-b adds-and-raises 10
+    ∷ []
+
+abbrev pub moment : Centre → Axis → List Branch
+moment c x =
+    a adds P c x
+    ∷ a-twice adds 9
+    ∷ a-and-b adds 10
+    ∷ a-and-o adds 11
+    ∷ []
+
+-- on the operator
+abbrev pub moment-on-operator : Axis → List Branch
+moment-on-operator x =
+    a adds (6 + axisNumber x)
+    ∷ a-twice adds 9
+    ∷ []
+
+-- one more for C, D than for A, B
+abbrev pub side : Centre → ℕ
+side A = 0
+side B = 0
+side C = 1
+side D = 1
+
+abbrev pub R : Centre → Axis → ℕ
+R c x = 6 * axisNumber x + centreNumber c
+
+abbrev pub Q : Centre → Axis → ℕ
+Q c x = 6 * axisNumber x + (4 + side c)
+
+abbrev pub coulomb : Centre → Axis → List Branch
+coulomb c x =
+    a adds R c x
+    ∷ a adds-and-raises Q c x
+    ∷ a-twice adds (18 + side c)
+    ∷ a-twice adds-and-raises (20 + side c)
+    ∷ a-and-b adds (18 + side c)
+    ∷ a-and-b adds-and-raises (20 + side c)
+    ∷ a-and-c adds-and-raises 22
+    ∷ a-and-d adds-and-raises 22
+    ∷ []
+
+abbrev pub moments : Centre → Axis → List Branch
+moments A x = moment A x
+moments B x = moment B x
+moments C x = moment-on-operator x
+moments D x = []
+
+unfoldable pub branches : Kind → Centre → Axis → List Branch
+branches Overlap c x = overlap c x
+branches Kinetic c x = kinetic c x
+branches Nuclear c x = nuclear c x
+branches Moment c x = moments c x
+branches Coulomb c x = coulomb c x
+
+-- its partner: A with B, C with D
+abbrev pub partner : Centre → Centre
+partner A = B
+partner B = A
+partner C = D
+partner D = C
+
+-- c, d are D, C when a is A or B, and B, A otherwise
+abbrev pub other-c : Centre → Centre
+other-c A = D
+other-c B = D
+other-c C = B
+other-c D = B
+
+abbrev pub other-d : Centre → Centre
+other-d A = C
+other-d B = C
+other-d C = A
+other-d D = A
+
+-- the multiplier: 1, a−1, or the order left on the other centre
+unfoldable pub times : Falls → Centre → Axis → List ℕ → ℕ
+times a c x left = 1
+times a-twice c x left = orderOf left c x - 1
+times a-and-b c x left = orderOf left (partner c) x
+times a-and-c c x left = orderOf left (other-c c) x
+times a-and-d c x left = orderOf left (other-d c) x
+times a-and-o c x left = orderOf left operator x
+times nothing c x left = 1
+
+-- one order less at a place
+abbrev pub less : List ℕ → Centre → Axis → List ℕ
+less left c x = set left (place c x) (orderOf left c x - 1)
+
+unfoldable pub lowered : Falls → Centre → Axis → List ℕ → List ℕ
+lowered a c x left = less left c x
+lowered a-twice c x left = less (less left c x) c x
+lowered a-and-b c x left = less (less left c x) (partner c) x
+lowered a-and-c c x left = less (less left c x) (other-c c) x
+lowered a-and-d c x left = less (less left c x) (other-d c) x
+lowered a-and-o c x left = less (less left c x) operator x
+lowered nothing c x left = left

@@ -1,0 +1,129 @@
+// One step of the recurrences: which centre and axis are lowered, and what each branch does.
+// The orders left of a term are packed in a word, four bits each, A's x lowest.
+
+mod branches;
+mod choice;
+
+pub use branches::branch;
+pub use branches::multipliers;
+pub use choice::find_component_to_lower;
+pub use choice::find_fun_to_lower;
+ghost use mathlib.Core.Path.{_≡_};
+ghost use Prim.Native.Nat.{_≤_};
+ghost use Rattle.steps.specs.Choice.{centreNumber, axisNumber};
+ghost use Rattle.steps.specs.Steps.{partner, other-c, other-d, side};
+use kind::Kind;
+
+// The operator of a moment stands in C's place.
+pub enum Centre {
+    A,
+    B,
+    C,
+    D,
+}
+
+impl Centre {
+    pub(crate) fn number(self) -> u64
+        ensures { λ r. ⌜ (r ≡ centreNumber self) × (r ≤ 3) ⌝ }
+    {
+        match self {
+            Centre::A => 0,
+            Centre::B => 1,
+            Centre::C => 2,
+            Centre::D => 3,
+        }
+    }
+
+    // One for C and D.
+    pub(crate) fn side(self) -> u64
+        ensures { λ r. ⌜ (r ≡ side self) × (r ≤ 1) ⌝ }
+    {
+        match self {
+            Centre::A => 0,
+            Centre::B => 0,
+            Centre::C => 1,
+            Centre::D => 1,
+        }
+    }
+
+    // A with B, C with D.
+    pub(crate) fn partner(self) -> Centre
+        ensures { λ r. ⌜ r ≡ partner self ⌝ }
+    {
+        match self {
+            Centre::A => Centre::B,
+            Centre::B => Centre::A,
+            Centre::C => Centre::D,
+            Centre::D => Centre::C,
+        }
+    }
+
+    // The centre that branch 6 of Coulomb lowers.
+    pub(crate) fn other_c(self) -> Centre
+        ensures { λ r. ⌜ r ≡ other-c self ⌝ }
+    {
+        match self {
+            Centre::A => Centre::D,
+            Centre::B => Centre::D,
+            Centre::C => Centre::B,
+            Centre::D => Centre::B,
+        }
+    }
+
+    // The centre that branch 7 of Coulomb lowers.
+    pub(crate) fn other_d(self) -> Centre
+        ensures { λ r. ⌜ r ≡ other-d self ⌝ }
+    {
+        match self {
+            Centre::A => Centre::C,
+            Centre::B => Centre::C,
+            Centre::C => Centre::A,
+            Centre::D => Centre::A,
+        }
+    }
+}
+
+pub enum Axis {
+    X,
+    Y,
+    Z,
+}
+
+impl Axis {
+    pub(crate) fn number(self) -> u64
+        ensures { λ r. ⌜ (r ≡ axisNumber self) × (r ≤ 2) ⌝ }
+    {
+        match self {
+            Axis::X => 0,
+            Axis::Y => 1,
+            Axis::Z => 2,
+        }
+    }
+}
+
+// What find_fun_to_lower finds.
+pub enum Fun {
+    Lower(Centre),
+    Nothing,
+}
+
+// What find_component_to_lower finds.
+pub enum Component {
+    Along(Axis),
+    Nowhere,
+}
+
+// A centre with the sum of its orders, or none with 0.
+pub struct Best {
+    pub fun: Fun,
+    pub sum: u64,
+}
+
+// A branch for the packed orders: what is taken from the word, the prefactor added, what the Boys order gains, and the
+// kind that the term goes on as.
+pub struct Move {
+    pub falls: u64,
+    pub adds: u64,
+    pub raises: u64,
+    pub kind: Kind,
+}
