@@ -1,0 +1,9 @@
+pub mod Ascends
+pub mod Bounds
+pub mod Choices
+pub mod Demand
+pub mod Fair
+pub mod Nexts
+pub mod Orders
+pub mod Walk
+pub mod Whole
