@@ -16,5 +16,5 @@ refusal-only n = only
 pub length-only : (n : ℕ) {a b : ℕ} → a ≡ lengthOf n → b ≡ lengthOf n → a ≡ b
 length-only n = only
 
-pub write-only : (before : List ℕ) (at n : ℕ) {a b : Written} {x y : List ℕ} → Wrote before at n a x → Wrote before at n b y → (a ≡ b) × (x ≡ y)
-write-only before at n p q = (only (p .answer) (q .answer), only (p .out) (q .out))
+pub write-only : (before : List ℕ) (at : ℕ) (bytes : List ℕ) {a b : Written} {x y : List ℕ} → Wrote before at bytes a x → Wrote before at bytes b y → (a ≡ b) × (x ≡ y)
+write-only before at bytes p q = (only (p .answer) (q .answer), only (p .out) (q .out))

@@ -22,6 +22,10 @@ pub groups-more : (more n : ℕ) → 128 ≤ n → groups (suc more) n ≡ (128 
 unfolding groups
 groups-more more n big = simp (le-ltb n 128 big)
 
+groups-nought : (n : ℕ) → groups 0 n ≡ n ∷ []
+unfolding groups
+groups-nought n = refl
+
 -- room for one byte more changes nothing where there is enough
 groups-enough : (more n : ℕ) → n < 128 ^ suc more → groups (suc more) n ≡ groups more n
 groups-enough zero n small = groups-last 1 n small ∙ sym (groups-last 0 n small)
@@ -90,6 +94,18 @@ length-some n = by (ltb n 128)
     by true = lit≤ tt
     by false = suc-le-suc zero-le
 
+groups-few : (more n : ℕ) → length (groups more n) ≤ more + 1
+groups-few zero n = omega (arith, ap length (groups-nought n))
+groups-few (suc more) n = by (ltb n 128) refl (groups-few more (n / 128))
+  where
+    by : (q : Bool) → ltb n 128 ≡ q → length (groups more (n / 128)) ≤ more + 1 → length (groups (suc more) n) ≤ suc more + 1
+    by true lt rest = omega (arith, ap length (groups-last (suc more) n (ltb-true n 128 lt)))
+    by false ge rest = omega (arith, ap length (groups-more more n (ltb-false n 128 ge)))
+
+pub length-few : (n : ℕ) → lengthOf n ≤ 5
+unfolding lengthOf bytesOf
+length-few n = groups-few 4 n
+
 -- what is left to store, from `at` on, makes the whole
 pub record Put (before : List ℕ) (start n : ℕ) (out : List ℕ) (left at : ℕ) : Type 0 where
   pub below : left < 2 ^ 32
@@ -117,10 +133,10 @@ put-end before start n out left at p small = omega (arith, length-last left smal
 pub put-all : (before : List ℕ) (start n : ℕ) (out : List ℕ) (left at : ℕ) → Put before start n out left at → left < 128 → set out at left ≡ sets before start (bytesOf n)
 put-all before start n out left at p small = store-last out at left small ∙ p .stores
 
-pub wrote-none : (out : List ℕ) (at n : ℕ) → length out < at + lengthOf n → Wrote out at n NoRoom out
+pub wrote-none : (out : List ℕ) (at : ℕ) (bytes : List ℕ) → length out < at + length bytes → Wrote out at bytes NoRoom out
 unfolding writtenAt outAfter
-wrote-none out at n over = record { answer = simp (lt-leb (at + lengthOf n) (length out) over); out = simp (lt-leb (at + lengthOf n) (length out) over) }
+wrote-none out at bytes over = record { answer = simp (lt-leb (at + length bytes) (length out) over); out = simp (lt-leb (at + length bytes) (length out) over) }
 
-pub wrote-all : (out after : List ℕ) (at n next : ℕ) → at + lengthOf n ≤ length out → next ≡ at + lengthOf n → after ≡ sets out at (bytesOf n) → Wrote out at n (Next next) after
+pub wrote-all : (out after : List ℕ) (at : ℕ) (bytes : List ℕ) (next : ℕ) → at + length bytes ≤ length out → next ≡ at + length bytes → after ≡ sets out at bytes → Wrote out at bytes (Next next) after
 unfolding writtenAt outAfter
-wrote-all out after at n next room is stored = record { answer = simp (le-leb (at + lengthOf n) (length out) room, is); out = simp (le-leb (at + lengthOf n) (length out) room, stored) }
+wrote-all out after at bytes next room is stored = record { answer = simp (le-leb (at + length bytes) (length out) room, is); out = simp (le-leb (at + length bytes) (length out) room, stored) }

@@ -64,14 +64,14 @@ refusalOf Ended = 7
 refusalOf NotShortest = 7
 refusalOf TooLarge = 7
 
--- the bytes of n fit into a lent list from `at` on, or not
-unfoldable pub writtenAt : List ℕ → ℕ → ℕ → Written
-writtenAt out at n = cond (leb (at + lengthOf n) (length out)) (Next (at + lengthOf n)) NoRoom
+-- bytes fit into a lent list from `at` on, or not
+unfoldable pub writtenAt : List ℕ → ℕ → List ℕ → Written
+writtenAt out at bytes = cond (leb (at + length bytes) (length out)) (Next (at + length bytes)) NoRoom
 
 -- where they fit they are stored from `at` on; otherwise nothing changes
-unfoldable pub outAfter : List ℕ → ℕ → ℕ → List ℕ
-outAfter out at n = cond (leb (at + lengthOf n) (length out)) (sets out at (bytesOf n)) out
+unfoldable pub outAfter : List ℕ → ℕ → List ℕ → List ℕ
+outAfter out at bytes = cond (leb (at + length bytes) (length out)) (sets out at bytes) out
 
-pub record Wrote (before : List ℕ) (at n : ℕ) (r : Written) (after : List ℕ) : Type 0 where
-  pub answer : r ≡ writtenAt before at n
-  pub out : after ≡ outAfter before at n
+pub record Wrote (before : List ℕ) (at : ℕ) (bytes : List ℕ) (r : Written) (after : List ℕ) : Type 0 where
+  pub answer : r ≡ writtenAt before at bytes
+  pub out : after ≡ outAfter before at bytes

@@ -125,7 +125,7 @@ fn put(out: &mut [u8], start: usize, n: u32) -> usize
 
 // Writes a number's bytes from `at` on, or nothing where they don't fit.
 pub fn write(out: &mut [u8], at: usize, n: u32) -> Written
-    ensures { λ r. ⌜ Wrote (now (out .entry)) at n r (now (out .exit)) ⌝ }
+    ensures { λ r. ⌜ Wrote (now (out .entry)) at (bytesOf n) r (now (out .exit)) ⌝ }
 {
     if out.len() < at {
         return Written::NoRoom;
