@@ -1,0 +1,4 @@
+pub mod Laws
+pub mod Only
+pub mod Reading
+pub mod Writing

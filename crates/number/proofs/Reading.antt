@@ -1,0 +1,138 @@
+-- What the reader meets at a place, one law for each way out of `higher` and `readAt`; and how large a number can be.
+use Prim.Native.Nat.{ℕ, zero, suc, zero-le, _+_, _*_, _-_, _%_, _^_, _≤_, _<_}
+use mathlib.Core.Path.{_≡_, refl, sym, ap, _∙_}
+use mathlib.Core.List.{List, [], _∷_}
+use mathlib.Core.Bool.{true, false, Bool, cond}
+use native.Mathlib.Numerals.{add-one}
+use native.Mathlib.Omega.{arith}
+use native.Mathlib.Nat.{pow-suc, pow-le-pow-right, mod-lt}
+use mathlib.Core.Logic.{_⊎_, inl, inr, ⊎-elim}
+use borrow.Author.Tests.{lt-ltb, le-ltb, ltb-true, ltb-false, eqb-true, eqb-false, ne-eqb, eq-eqb}
+use lib.Dec.{ltb, eqb, lit<}
+use lib.ListN.{length, getD, drop, drop-of-length-le}
+use lib.Seq.{drop-cons}
+use Rattle.number.specs.declared.Number.{Number}
+use Rattle.number.specs.declared.Number.the-variants.{Is, Ended, NotShortest, TooLarge}
+use Rattle.number.specs.Numbers.{group, above, last, higher, readFrom, readAt}
+
+-- what stands at a place inside, and what follows it
+pub head : (s : List ℕ) (at b : ℕ) → at < length s → b ≡ getD s at 0 → drop at s ≡ b ∷ drop (at + 1) s
+head s at b inside is = cc (drop-cons s at 0 inside, add-one at)
+
+pub none-ended : (more at : ℕ) → higher more [] at ≡ Ended
+unfolding higher
+none-ended zero at = refl
+none-ended (suc more) at = refl
+
+pub higher-ended : (s : List ℕ) (at more : ℕ) → length s ≤ at → Ended ≡ higher more (drop at s) at
+higher-ended s at more past = rw (drop-of-length-le s past) (sym (none-ended more at))
+
+none-zero : (more b : ℕ) (t : List ℕ) (at : ℕ) → b ≡ 0 → higher more (b ∷ t) at ≡ NotShortest
+unfolding higher
+none-zero zero b t at z = rw z
+none-zero (suc more) b t at z = rw z
+
+pub higher-zero : (s : List ℕ) (at more b : ℕ) → at < length s → b ≡ getD s at 0 → b ≡ 0 → NotShortest ≡ higher more (drop at s) at
+higher-zero s at more b inside is z = rw (head s at b inside is) (sym (none-zero more b (drop (at + 1) s) at z))
+
+pub higher-large : (s : List ℕ) (at more b : ℕ) → at < length s → b ≡ getD s at 0 → more ≡ 0 → 15 < b → TooLarge ≡ higher more (drop at s) at
+unfolding higher
+higher-large s at more b inside is z big = rw (head s at b inside is, z) (simp (lt-ltb 15 b big))
+
+pub higher-fifth : (s : List ℕ) (at more b : ℕ) → at < length s → b ≡ getD s at 0 → more ≡ 0 → (b ≡ 0 → ⊥) → b ≤ 15 → Is b (at + 1) ≡ higher more (drop at s) at
+unfolding higher
+higher-fifth s at more b inside is z nz small = rw (head s at b inside is, z) (simp (le-ltb 15 b small, ne-eqb b 0 nz))
+
+pub cons-last : (more b : ℕ) (t : List ℕ) (at : ℕ) → (more ≡ 0 → ⊥) → (b ≡ 0 → ⊥) → b < 128 → higher more (b ∷ t) at ≡ Is b (at + 1)
+unfolding higher
+cons-last zero b t at some nz small = absurd (some refl)
+cons-last (suc more) b t at some nz small = simp (lt-ltb b 128 small, ne-eqb b 0 nz)
+
+pub higher-last : (s : List ℕ) (at more b : ℕ) → at < length s → b ≡ getD s at 0 → (more ≡ 0 → ⊥) → (b ≡ 0 → ⊥) → b < 128 → Is b (at + 1) ≡ higher more (drop at s) at
+higher-last s at more b inside is some nz small = rw (head s at b inside is) (sym (cons-last more b (drop (at + 1) s) at some nz small))
+
+pub cons-more : (more less b : ℕ) (t : List ℕ) (at : ℕ) → more ≡ suc less → 128 ≤ b → higher more (b ∷ t) at ≡ above (b % 128) (higher less t (at + 1))
+unfolding higher
+cons-more more less b t at e big = rw e (simp (le-ltb b 128 big))
+
+pub higher-more : (s : List ℕ) (at more less b : ℕ) (r q : Number) → at < length s → b ≡ getD s at 0 → (more ≡ 0 → ⊥) → less ≡ more - 1 → 128 ≤ b → q ≡ higher less (drop (at + 1) s) (at + 1) → r ≡ above (b % 128) q → r ≡ higher more (drop at s) at
+higher-more s at more less b r q inside is some e big eq er =
+    let more-is : more ≡ suc less = omega arith in
+    er ∙ ap (above (b % 128)) eq ∙ rw (head s at b inside is) (sym (cons-more more less b (drop (at + 1) s) at more-is big))
+
+pub clash : _≡_ {A = ℕ} 0 1 → ⊥
+clash e = omega arith
+
+-- a number that the bytes after a group make, taken out of the whole again
+pub above-is : (low n next : ℕ) (r : Number) → above low r ≡ Is n next → (h : ℕ) × (r ≡ Is h next) × (n ≡ low + 128 * h)
+above-is low n next (Is h x) e = (h, cc, cc)
+above-is low n next Ended e = absurd (clash (cc))
+above-is low n next NotShortest e = absurd (clash (cc))
+above-is low n next TooLarge e = absurd (clash (cc))
+
+pub above-made : (low n next : ℕ) (q : Number) → q ≡ Is n next → Is (low + 128 * n) next ≡ above low q
+above-made low n next q e = sym (ap (above low) e)
+
+-- a byte that ends a number
+pub record Ends (b at n next : ℕ) : Type 0 where
+  pub some : b ≡ 0 → ⊥
+  pub says : n ≡ b
+  pub after : next ≡ at + 1
+
+last-is : (b at n next : ℕ) → last b at ≡ Is n next → Ends b at n next
+last-is b at n next e = by (eqb b 0) refl e
+  where
+    by : (q : Bool) → eqb b 0 ≡ q → cond q NotShortest (Is b (at + 1)) ≡ Is n next → Ends b at n next
+    by true z e = absurd (clash (cc))
+    by false nz e = record { some = eqb-false b 0 nz; says = cc; after = cc }
+
+-- a byte that others follow
+pub record Follows (more b : ℕ) (t : List ℕ) (at n next : ℕ) : Type 0 where
+  pub rest : ℕ
+  pub big : 128 ≤ b
+  pub reads : higher more t (at + 1) ≡ Is rest next
+  pub says : n ≡ b % 128 + 128 * rest
+
+pub fifth-is : (b : ℕ) (t : List ℕ) (at n next : ℕ) → higher 0 (b ∷ t) at ≡ Is n next → (b ≤ 15) × Ends b at n next
+unfolding higher
+fifth-is b t at n next e = by (ltb 15 b) refl e
+  where
+    by : (q : Bool) → ltb 15 b ≡ q → cond q TooLarge (last b at) ≡ Is n next → (b ≤ 15) × Ends b at n next
+    by true lt e = absurd (clash (cc))
+    by false ge e = (ltb-false 15 b ge, last-is b at n next e)
+
+pub higher-is : (more b : ℕ) (t : List ℕ) (at n next : ℕ) → higher (suc more) (b ∷ t) at ≡ Is n next → ((b < 128) × Ends b at n next) ⊎ Follows more b t at n next
+unfolding higher
+higher-is more b t at n next e = by (ltb b 128) refl e
+  where
+    by : (q : Bool) → ltb b 128 ≡ q → cond q (last b at) (above (b % 128) (higher more t (at + 1))) ≡ Is n next → ((b < 128) × Ends b at n next) ⊎ Follows more b t at n next
+    by true lt e = inl (ltb-true b 128 lt, last-is b at n next e)
+    by false ge e =
+        let a = above-is (b % 128) n next (higher more t (at + 1)) e in
+        inr (record { rest = a .0; big = ltb-false b 128 ge; reads = a .1; says = a .2 })
+
+-- what a byte after the first says is below sixteen groups of what may follow it
+pub higher-below : (more : ℕ) (l : List ℕ) (at n next : ℕ) → higher more l at ≡ Is n next → n < 16 * 128 ^ more
+higher-below more [] at n next e = let none = none-ended more at in absurd (clash (cc))
+higher-below zero (b ∷ t) at n next e = let f = fifth-is b t at n next e in omega arith
+higher-below (suc more) (b ∷ t) at n next e =
+    let one-more : 128 ^ suc more ≡ 128 ^ more * 128 = pow-suc 128 more in
+    let some : 1 ≤ 128 ^ more = pow-le-pow-right {n = 128} (lit< tt) {i = 0} {j = more} zero-le in
+    ⊎-elim (λ w. let ends = w .1 in omega arith)
+    (λ w. let rest = higher-below more t (at + 1) (w .rest) next (w .reads) in omega (arith, mod-lt b {m = 128} (lit< tt)))
+    (higher-is more b t at n next e)
+
+pub above-small : (more : ℕ) (l : List ℕ) (at n next : ℕ) (r : Number) → r ≡ higher more l at → more ≤ 3 → r ≡ Is n next → n < 2 ^ 25
+above-small more l at n next r is few e = omega (arith, higher-below more l at n next (sym is ∙ e), pow-le-pow-right {n = 128} (lit< tt) few)
+
+pub read-ended : (s : List ℕ) (at : ℕ) → length s ≤ at → Ended ≡ readAt s at
+unfolding readAt readFrom
+read-ended s at past = rw (drop-of-length-le s past)
+
+pub read-one : (s : List ℕ) (at b : ℕ) → at < length s → b ≡ getD s at 0 → b < 128 → Is b (at + 1) ≡ readAt s at
+unfolding readAt readFrom
+read-one s at b inside is small = rw (head s at b inside is) (simp (lt-ltb b 128 small))
+
+pub read-more : (s : List ℕ) (at b : ℕ) (r q : Number) → at < length s → b ≡ getD s at 0 → 128 ≤ b → q ≡ higher 3 (drop (at + 1) s) (at + 1) → r ≡ above (b % 128) q → r ≡ readAt s at
+unfolding readAt readFrom
+read-more s at b r q inside is big eq er = er ∙ ap (above (b % 128)) eq ∙ rw (head s at b inside is) (simp (le-ltb b 128 big))

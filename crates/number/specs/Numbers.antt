@@ -1,0 +1,77 @@
+-- 01, "The roll": numbers stand in groups of seven bits, lowest first, the high bit set on all but the last byte, shortest form, below 2^32.
+use Prim.Native.Nat.{ℕ, zero, suc, _+_, _*_, _/_, _%_, _<_}
+use mathlib.Core.Path.{_≡_}
+use mathlib.Core.Bool.{cond}
+use mathlib.Core.List.{List, [], _∷_}
+use lib.Dec.{ltb, leb, eqb}
+use lib.ListN.{length, getD, drop}
+use lib.Seq.{sets}
+use Rattle.number.specs.declared.Number.{Number}
+use Rattle.number.specs.declared.Number.the-variants.{Is, Ended, NotShortest, TooLarge}
+use Rattle.number.specs.declared.Written.{Written}
+use Rattle.number.specs.declared.Written.the-variants.{Next, NoRoom}
+
+-- a group of seven bits is below this, and this is what the high bit adds
+abbrev pub group : ℕ
+group = 128
+
+-- the groups of n, lowest first, with at most `more` bytes after the first
+unfoldable pub groups : ℕ → ℕ → List ℕ
+groups zero n = n ∷ []
+groups (suc more) n = cond (ltb n group) (n ∷ []) ((group + n % group) ∷ groups more (n / group))
+
+-- a number below 2^32 has one to five bytes
+unfoldable pub bytesOf : ℕ → List ℕ
+bytesOf n = groups 4 n
+
+unfoldable pub lengthOf : ℕ → ℕ
+lengthOf n = length (bytesOf n)
+
+-- a group, and what the bytes after it say: each of theirs counts as many times more
+abbrev pub above : ℕ → Number → Number
+above low (Is high next) = Is (low + group * high) next
+above low Ended = Ended
+above low NotShortest = NotShortest
+above low TooLarge = TooLarge
+
+-- a last byte after another one: were it 0, the form would not be the shortest
+abbrev pub last : ℕ → ℕ → Number
+last b at = cond (eqb b 0) NotShortest (Is b (at + 1))
+
+-- a number's second byte and those after it, at `at`; `more` may still follow it. A fifth byte above 15 means 2^32 and above, whatever follows
+unfoldable pub higher : ℕ → List ℕ → ℕ → Number
+higher more [] at = Ended
+higher zero (b ∷ s) at = cond (ltb 15 b) TooLarge (last b at)
+higher (suc more) (b ∷ s) at = cond (ltb b group) (last b at) (above (b % group) (higher more s (at + 1)))
+
+-- the number that a list begins with, whose first byte is at `at`
+unfoldable pub readFrom : List ℕ → ℕ → Number
+readFrom [] at = Ended
+readFrom (b ∷ s) at = cond (ltb b group) (Is b (at + 1)) (above (b % group) (higher 3 s (at + 1)))
+
+-- what a slice of bytes holds
+abbrev pub Bytes : List ℕ → Type 0
+Bytes s = (i : ℕ) → getD s i 0 < 256
+
+-- the number at a place of a roll, with the place after it
+unfoldable pub readAt : List ℕ → ℕ → Number
+readAt s at = readFrom (drop at s) at
+
+-- 01's refusal number for each case: 0 is none, and the roll breaks a rule (7) whatever the reason
+abbrev pub refusalOf : Number → ℕ
+refusalOf (Is n next) = 0
+refusalOf Ended = 7
+refusalOf NotShortest = 7
+refusalOf TooLarge = 7
+
+-- bytes fit into a lent list from `at` on, or not
+unfoldable pub writtenAt : List ℕ → ℕ → List ℕ → Written
+writtenAt out at bytes = cond (leb (at + length bytes) (length out)) (Next (at + length bytes)) NoRoom
+
+-- where they fit they are stored from `at` on; otherwise nothing changes
+unfoldable pub outAfter : List ℕ → ℕ → List ℕ → List ℕ
+outAfter out at bytes = cond (leb (at + length bytes) (length out)) (sets out at bytes) out
+
+pub record Wrote (before : List ℕ) (at : ℕ) (bytes : List ℕ) (r : Written) (after : List ℕ) : Type 0 where
+  pub answer : r ≡ writtenAt before at bytes
+  pub out : after ≡ outAfter before at bytes

@@ -1,0 +1,137 @@
+// The seven-bit number of a roll: its reader, which tells why a number can't be read, and its writer.
+ghost use Prim.Native.Nat.{ℕ, _+_, _<_, _≤_, _^_};
+ghost use mathlib.Core.Path.{_≡_};
+ghost use lib.ListN.{length, drop};
+ghost use lib.Seq.{sets};
+ghost use Rattle.number.specs.Numbers.{bytesOf, lengthOf, above, higher, readAt, refusalOf, Wrote};
+
+// What stands at a place: a number and the place after it, or why there is none.
+pub enum Number {
+    Is(u32, usize),
+    Ended,
+    NotShortest,
+    TooLarge,
+}
+
+// The place after what was written.
+pub enum Written {
+    Next(usize),
+    NoRoom,
+}
+
+fn wide(x: u8) -> u32
+    ensures { λ r. ⌜ (r ≡ x) × (r < 256) ⌝ }
+{
+    x as u32
+}
+
+// A group below the number that the bytes after it make.
+fn above(low: u32, high: Number) -> Number
+    requires { ⌜ low < 128 ⌝ }
+    requires { ⌜ ((n next : ℕ) → high ≡ Number.Is n next → n < 2 ^ 25) ⌝ }
+    ensures { λ r. ⌜ r ≡ above low high ⌝ }
+{
+    match high {
+        Number::Is(n, next) => Number::Is(low + 128 * n, next),
+        Number::Ended => Number::Ended,
+        Number::NotShortest => Number::NotShortest,
+        Number::TooLarge => Number::TooLarge,
+    }
+}
+
+// The byte at `next`, after a number's first; `more` bytes may follow it.
+fn higher(s: &[u8], next: usize, more: usize) -> Number
+    requires { ⌜ more ≤ 3 ⌝ }
+    ensures { λ r. ⌜ r ≡ higher more (drop next (now (s .entry))) next ⌝ }
+{
+    if s.len() <= next {
+        return Number::Ended;
+    }
+    let b = wide(s[next]);
+    if b == 0 {
+        return Number::NotShortest;
+    }
+    if more == 0 {
+        if 15 < b {
+            return Number::TooLarge;
+        }
+        return Number::Is(b, next + 1);
+    }
+    if b < 128 {
+        return Number::Is(b, next + 1);
+    }
+    above(b % 128, higher(s, next + 1, more - 1))
+}
+
+// The number at a place. Most have one byte.
+pub fn read(s: &[u8], at: usize) -> Number
+    ensures { λ r. ⌜ r ≡ readAt (now (s .entry)) at ⌝ }
+{
+    if s.len() <= at {
+        return Number::Ended;
+    }
+    let first = wide(s[at]);
+    if first < 128 {
+        return Number::Is(first, at + 1);
+    }
+    above(first % 128, higher(s, at + 1, 3))
+}
+
+// The refusal that a number's reason stands for: the one place that says so.
+pub fn refusal_of(n: Number) -> u8
+    ensures { λ r. ⌜ r ≡ refusalOf n ⌝ }
+{
+    match n {
+        Number::Is(_, _) => 0,
+        Number::Ended => 7,
+        Number::NotShortest => 7,
+        Number::TooLarge => 7,
+    }
+}
+
+// How many bytes a number takes.
+pub fn length(n: u32) -> usize
+    ensures { λ r. ⌜ r ≡ lengthOf n ⌝ }
+{
+    if n < 128 {
+        return 1;
+    }
+    if n < 16384 {
+        return 2;
+    }
+    if n < 2097152 {
+        return 3;
+    }
+    if n < 268435456 {
+        return 4;
+    }
+    5
+}
+
+fn put(out: &mut [u8], start: usize, n: u32) -> usize
+    requires { ⌜ start + lengthOf n ≤ length (now out) ⌝ }
+    ensures { λ r. ⌜ (r ≡ start + lengthOf n) × (now (out .exit) ≡ sets (now (out .entry)) start (bytesOf n)) ⌝ }
+{
+    let mut left = n;
+    let mut at = start;
+    while 128 <= left {
+        out[at] = (128 + left % 128) as u8;
+        left = left / 128;
+        at += 1;
+    }
+    out[at] = left as u8;
+    at + 1
+}
+
+// Writes a number's bytes from `at` on, or nothing where they don't fit.
+pub fn write(out: &mut [u8], at: usize, n: u32) -> Written
+    ensures { λ r. ⌜ Wrote (now (out .entry)) at (bytesOf n) r (now (out .exit)) ⌝ }
+{
+    if out.len() < at {
+        return Written::NoRoom;
+    }
+    if out.len() - at < length(n) {
+        return Written::NoRoom;
+    }
+    Written::Next(put(out, at, n))
+}

@@ -1,0 +1,66 @@
+-- A component's answer: refusal 2 before the walk, and a pair as a quadruple whose last two shells have one triple each.
+use Prim.Native.Nat.{ℕ, _≤_, _<_}
+use mathlib.Core.Path.{_≡_, refl, sym, ap, _∙_}
+use mathlib.Core.Bool.{Bool, true, false, cond, _||_, or-false, true≢false}
+use mathlib.Core.List.{List, [], _∷_, _++_, map, flatMap}
+use borrow.Author.Tests.{lt-ltb, le-ltb, ltb-false}
+use lib.Dec.{ltb}
+use lib.ListN.{replicate}
+use Rattle.kind.specs.Limits.{mostOrder}
+use Rattle.shell.specs.declared.Component.{Component}
+use Rattle.shell.specs.Shells.{descending, triples, beside, pairs, quadruples, refused, component, shell2Of, shell4Of}
+
+or-one : (p q : Bool) → (p || q) ≡ false → p ≡ false
+or-one true q e = e
+or-one false q e = refl
+
+or-other : (p q : Bool) → (p || q) ≡ false → q ≡ false
+or-other true q e = absurd (true≢false e)
+or-other false q e = e
+
+pub low-first : (a b : ℕ) (r : Bool) → r ≡ (ltb mostOrder a || ltb mostOrder b) → r ≡ false → a ≤ mostOrder
+low-first a b r is e = ltb-false mostOrder a (or-one (ltb mostOrder a) (ltb mostOrder b) (sym is ∙ e))
+
+pub low-second : (a b : ℕ) (r : Bool) → r ≡ (ltb mostOrder a || ltb mostOrder b) → r ≡ false → b ≤ mostOrder
+low-second a b r is e = ltb-false mostOrder b (or-other (ltb mostOrder a) (ltb mostOrder b) (sym is ∙ e))
+
+pub high-first : (a b : ℕ) → mostOrder < a → true ≡ (ltb mostOrder a || ltb mostOrder b)
+high-first a b above = simp (lt-ltb mostOrder a above)
+
+pub high-second : (a b : ℕ) → a ≤ mostOrder → ltb mostOrder b ≡ (ltb mostOrder a || ltb mostOrder b)
+high-second a b low = simp (le-ltb mostOrder a low)
+
+pub refused-first : (a b c d number : ℕ) (r : Bool) (x : Component) → r ≡ (ltb mostOrder a || ltb mostOrder b) → r ≡ true → x ≡ refused 2 → x ≡ shell4Of a b c d number
+unfolding shell4Of
+refused-first a b c d number r x is e answer = let high : (ltb mostOrder a || ltb mostOrder b) ≡ true = sym is ∙ e in simp high answer
+
+pub refused-second : (a b c d number : ℕ) (r q : Bool) (x : Component) → r ≡ (ltb mostOrder a || ltb mostOrder b) → r ≡ false → q ≡ (ltb mostOrder c || ltb mostOrder d) → q ≡ true → x ≡ refused 2 → x ≡ shell4Of a b c d number
+unfolding shell4Of
+refused-second a b c d number r q x is e is′ e′ answer =
+    let low : (ltb mostOrder a || ltb mostOrder b) ≡ false = sym is ∙ e in
+    let high : (ltb mostOrder c || ltb mostOrder d) ≡ true = sym is′ ∙ e′ in
+    simp (low, high) answer
+
+pub walked-four : (a b c d number : ℕ) (r q : Bool) (x : Component) → r ≡ (ltb mostOrder a || ltb mostOrder b) → r ≡ false → q ≡ (ltb mostOrder c || ltb mostOrder d) → q ≡ false → x ≡ component (quadruples a b c d) number → x ≡ shell4Of a b c d number
+unfolding shell4Of
+walked-four a b c d number r q x is e is′ e′ answer =
+    let low : (ltb mostOrder a || ltb mostOrder b) ≡ false = sym is ∙ e in
+    let low′ : (ltb mostOrder c || ltb mostOrder d) ≡ false = sym is′ ∙ e′ in
+    simp (low, low′) answer
+
+-- ---- a pair as a quadruple
+
+beside-one : (xs : List (List ℕ)) (z : List ℕ) → beside xs (z ∷ []) ≡ map (λ (x : List ℕ). x ++ z) xs
+unfolding beside flatMap
+beside-one [] z = refl
+beside-one (x ∷ xs) z = ap (λ (l : List (List ℕ)). (x ++ z) ∷ l) (beside-one xs z)
+
+nothing : pairs 0 0 ≡ replicate 6 0 ∷ []
+unfolding beside flatMap triples descending
+nothing = refl
+
+pub pair-of-four : (a b number : ℕ) (x : Component) → x ≡ shell4Of a b 0 0 number → x ≡ shell2Of a b number
+unfolding shell4Of shell2Of
+pair-of-four a b number x answer =
+    let list : quadruples a b 0 0 ≡ map (λ (pair : List ℕ). pair ++ replicate 6 0) (pairs a b) = ap (beside (pairs a b)) nothing ∙ beside-one (pairs a b) (replicate 6 0) in
+    rw answer (rw (list, or-false (ltb mostOrder a || ltb mostOrder b)))
