@@ -1,0 +1,4 @@
+pub mod Only
+pub mod Reading
+pub mod Tens
+pub mod Writing
