@@ -1,7 +1,7 @@
 -- A decimal is one digit, or that of the tens and the last digit; it is the digits of its number, and worth it.
--- So no two numbers have the same decimal, and what was written reads back.
+-- So no two numbers have the same decimal, and a decimal and a word in hexadecimal read back as they were written.
 use Prim.Native.Nat.{ℕ, zero, suc, _+_, _-_, _*_, _/_, _%_, _^_, _≤_, _<_}
-use native.Mathlib.Nat.{mod-eq-of-lt, mod-lt, div-add-mod'}
+use native.Mathlib.Nat.{mod-eq-of-lt, mod-lt, div-add-mod', div-lt-iff-lt-mul, pow-zero, pow-suc}
 use native.Mathlib.Numerals.{add-one}
 use native.Mathlib.Omega.{arith}
 use mathlib.Core.Path.{_≡_, refl, ap, sym, subst, _∙_}
@@ -12,11 +12,11 @@ use lib.Dec.{ltb}
 use lib.ListN.{length, drop, length-append}
 use lib.Seq.{drop-append-seam}
 use Rattle.text.specs.Digits.{glyph, worth, digits, decimalIn, decimalOf, valueFrom}
-use Rattle.text.specs.Reading.{runOf, numberOf, decimalAt}
+use Rattle.text.specs.Reading.{runOf, numberOf, decimalAt, hexAt}
 use Rattle.text.specs.Writing.{Wrote}
 use Rattle.text.specs.declared.Written.{Written}
 use Rattle.text.specs.declared.Number.the-variants.{Is}
-use Rattle.text.proofs.Writing.{tested}
+use Rattle.text.proofs.Writing.{tested, digit-below, length-digits}
 
 -- steps enough are enough
 in-enough : (s t n : ℕ) → n < s → n < t → decimalIn s n ≡ decimalIn t n
@@ -119,18 +119,18 @@ decimal-number m n e = sym (decimal-value m) ∙ ap (valueFrom 10 0) e ∙ decim
 
 -- ---- reading back
 
-run-digit : (d : ℕ) (rest : List ℕ) → d < 10 → runOf 10 (glyph d ∷ rest) ≡ glyph d ∷ runOf 10 rest
-run-digit d rest h = rw (worth-glyph d (omega arith), runOf) (rw (lt-ltb d 10 h))
+run-digit : (base d : ℕ) (rest : List ℕ) → base ≤ 16 → d < base → runOf base (glyph d ∷ rest) ≡ glyph d ∷ runOf base rest
+run-digit base d rest b h = rw (worth-glyph d (omega arith), runOf) (rw (lt-ltb d base h))
+
+run-digits : (base k n : ℕ) (rest : List ℕ) → 1 < base → base ≤ 16 → runOf base (digits base k n ++ rest) ≡ digits base k n ++ runOf base rest
+run-digits base zero n rest a b = refl
+run-digits base (suc k) n rest a b =
+    rw (append-assoc, append-assoc)
+    (run-digits base k (n / base) (glyph (n % base) ∷ rest) a b
+    ∙ ap (λ (l : List ℕ). digits base k (n / base) ++ l) (run-digit base (n % base) rest b (mod-lt n (omega arith))))
 
 run-decimal : (n : ℕ) (rest : List ℕ) → runOf 10 (decimalOf n ++ rest) ≡ decimalOf n ++ runOf 10 rest
-run-decimal n =
-    by-tens (λ (n : ℕ). (rest : List ℕ) → runOf 10 (decimalOf n ++ rest) ≡ decimalOf n ++ runOf 10 rest)
-    (λ n h rest. rw (decimal-short n h) (run-digit n rest h))
-    (λ n h tens rest.
-    rw (decimal-long n h, append-assoc, append-assoc)
-    (tens (glyph (n % 10) ∷ rest)
-    ∙ ap (λ (l : List ℕ). decimalOf (n / 10) ++ l) (run-digit (n % 10) rest (omega arith))))
-    (suc n) n (omega arith)
+run-decimal n rest = rw (decimal-digits n) at (run-digits 10 (length (decimalOf n)) n rest (omega arith) (omega arith))
 
 -- a decimal that stands at a place, with no digit after it, reads as its number and the place after it
 pub decimal-back : (before rest : List ℕ) (n : ℕ) → n < 2 ^ 64 → runOf 10 rest ≡ []
@@ -140,3 +140,20 @@ decimal-back before rest n small none =
     let run : runOf 10 (drop (length before) (before ++ (decimalOf n ++ rest))) ≡ decimalOf n =
     rw (drop-append-seam before (decimalOf n ++ rest)) (run-decimal n rest ∙ rw none (append-nil (decimalOf n))) in
     rw (run, decimal-value n, eq-eqb (length (decimalOf n)) (length (decimalOf n)) refl, lt-ltb n (2 ^ 64) small)
+
+value-digits : (base k n : ℕ) → 1 < base → base ≤ 16 → n < base ^ k → valueFrom base 0 (digits base k n) ≡ n
+value-digits base zero n a b h = let k : n < 1 = rw (pow-zero base) at h in omega arith
+value-digits base (suc k) n a b h =
+    let below : n / base < base ^ k = (div-lt-iff-lt-mul {k = base} (omega arith)) .1 (rw (pow-suc base k) at h) in
+    let last : n % base < 16 = digit-below n base a b in
+    value-last base 0 (digits base k (n / base)) (glyph (n % base))
+    ∙ rw (value-digits base k (n / base) a b below, worth-glyph (n % base) last) (div-add-mod' n base)
+
+-- so does a word in sixteen hexadecimal digits
+pub word-back : (before rest : List ℕ) (n : ℕ) → n < 2 ^ 64 → runOf 16 rest ≡ []
+    → hexAt (before ++ (digits 16 16 n ++ rest)) (length before) ≡ Is n (length before + 16)
+unfolding hexAt numberOf
+word-back before rest n small none =
+    let run : runOf 16 (drop (length before) (before ++ (digits 16 16 n ++ rest))) ≡ digits 16 16 n =
+    rw (drop-append-seam before (digits 16 16 n ++ rest)) (run-digits 16 16 n rest (omega arith) (omega arith) ∙ rw none (append-nil (digits 16 16 n))) in
+    rw (run, length-digits 16 16 n, value-digits 16 16 n (omega arith) (omega arith) small, lt-ltb n (2 ^ 64) small)
