@@ -1,4 +1,4 @@
+pub mod Digits
 pub mod Only
 pub mod Reading
-pub mod Tens
 pub mod Writing

@@ -1,6 +1,6 @@
 -- `text::decimal` meets its contract: a decimal is the digits of its number, as many as it has places. Assumes nothing.
 use borrow.Author.Needs.{needs}
-use Rattle.text.proofs.Tens.{wrote-decimal}
+use Rattle.text.proofs.Digits.{wrote-decimal}
 use Rattle.text.proofs.decimal.Statement.{statement}
 use Rattle.text.proofs.decimal.Tie as tie
 

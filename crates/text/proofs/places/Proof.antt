@@ -4,7 +4,7 @@ use native.Mathlib.Omega.{arith}
 use mathlib.Core.Path.{_≡_}
 use lib.ListN.{length}
 use Rattle.text.specs.Digits.{decimalOf}
-use Rattle.text.proofs.Tens.{places-short, places-long}
+use Rattle.text.proofs.Digits.{places-short, places-long}
 use Rattle.text.proofs.places.Statement.{statement}
 use Rattle.text.proofs.places.Tie as tie
 

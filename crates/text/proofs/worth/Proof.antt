@@ -1,7 +1,7 @@
 -- `text::worth` meets its contract, a law for each arm. Assumes nothing.
 use borrow.Author.Needs.{needs}
 use native.Mathlib.Omega.{arith}
-use Rattle.text.proofs.Tens.{worth-below, worth-figure, worth-between, worth-letter, worth-above}
+use Rattle.text.proofs.Digits.{worth-below, worth-figure, worth-between, worth-letter, worth-above}
 use Rattle.text.proofs.worth.Statement.{statement}
 use Rattle.text.proofs.worth.Tie as tie
 
