@@ -1,0 +1,226 @@
+//! One answer line for each question line.
+
+use crate::parse::{self, Centre, Cursor, Evaluation, Lengths, Line, Question};
+use crate::rust_side;
+use crate::second::{self, Header, Refusal, Step, Term};
+use std::io::{self, BufRead, BufReader, Read, Write};
+
+/// Answers lines until the input ends.
+pub fn answer_all<R: Read>(input: R, output: &mut dyn Write) -> io::Result<()> {
+    let mut input = BufReader::with_capacity(1 << 16, input);
+    let mut line = Vec::new();
+    let mut answer = Vec::new();
+    loop {
+        line.clear();
+        if input.read_until(b'\n', &mut line)? == 0 {
+            return output.flush();
+        }
+        if line.last() == Some(&b'\n') {
+            line.pop();
+        }
+        answer.clear();
+        answer_line(&line, &mut answer);
+        answer.push(b'\n');
+        output.write_all(&answer)?;
+        // Someone may be waiting for the answer before asking on.
+        if input.buffer().is_empty() {
+            output.flush()?;
+        }
+    }
+}
+
+pub fn answer_line(line: &[u8], out: &mut Vec<u8>) {
+    match parse::line(line) {
+        Line::Same => out.extend_from_slice(line),
+        Line::Malformed => out.push(b'?'),
+        Line::Asks(question) => {
+            if let Err(refusal) = answer(question, out) {
+                write_refusal(out, refusal);
+            }
+        }
+    }
+}
+
+fn write_refusal(out: &mut Vec<u8>, refusal: Refusal) {
+    out.clear();
+    write(out, &format!("refused {}", refusal.number));
+    if refusal.number == 7 {
+        write(out, &format!(" at {}", refusal.place));
+    }
+}
+
+fn write(out: &mut Vec<u8>, text: &str) {
+    out.extend_from_slice(text.as_bytes());
+}
+
+fn answer(question: Question, out: &mut Vec<u8>) -> Result<(), Refusal> {
+    match question {
+        Question::Expand {
+            kind,
+            orders,
+            buffer,
+            start,
+        } => expand(out, kind, &orders, buffer, start),
+        Question::Shell { m, buffer, start } => shell(out, m, buffer, start),
+        Question::Component { shells, number } => component(out, &shells, number),
+        Question::List(roll) => list(out, &roll),
+        Question::Open(roll) => opened(out, &second::open(&roll)?),
+        Question::Check(roll) => opened(out, &second::check(&roll)?.0),
+        Question::Next(cursor, roll) => next(out, cursor, &roll),
+        Question::Eval(evaluation) => eval(out, &evaluation),
+        Question::Table(kind, centres) => table(out, kind, &centres),
+        Question::JK { n, lengths, i, d } => jk(out, n, &lengths, &i, &d),
+    }
+}
+
+fn expand(
+    out: &mut Vec<u8>,
+    kind: u8,
+    orders: &[u8; 12],
+    buffer: usize,
+    start: u64,
+) -> Result<(), Refusal> {
+    second::check_request(kind, orders, buffer, start)?;
+    let terms = rust_side::terms(kind, orders);
+    let roll = second::write_roll(kind, orders, &terms);
+    second::check_room(roll.len(), buffer, start)?;
+    write(out, &format!("roll {} terms {} ", roll.len(), terms.len()));
+    parse::write_hex(out, &roll);
+    Ok(())
+}
+
+fn shell(out: &mut Vec<u8>, m: u8, buffer: usize, start: u64) -> Result<(), Refusal> {
+    second::check_shell(m, buffer, start)?;
+    let bytes = rust_side::shell_list(m);
+    write(out, &format!("shell {} ", bytes.len()));
+    parse::write_hex(out, &bytes);
+    Ok(())
+}
+
+fn component(out: &mut Vec<u8>, shells: &[u8], number: u32) -> Result<(), Refusal> {
+    second::check_component(shells, number)?;
+    write(out, "component ");
+    parse::write_hex(out, &rust_side::component(shells, number));
+    Ok(())
+}
+
+fn list(out: &mut Vec<u8>, roll: &[u8]) -> Result<(), Refusal> {
+    let text = second::listing(roll)?;
+    write(out, "listing ");
+    write(out, &text.replace('\n', "|"));
+    Ok(())
+}
+
+fn opened(out: &mut Vec<u8>, header: &Header) -> Result<(), Refusal> {
+    write(
+        out,
+        &format!("opened {} {} {}", header.kind, header.l, header.count),
+    );
+    for order in &header.orders[..second::orders_used(header.kind)] {
+        write(out, &format!(" {}", order));
+    }
+    write(out, &format!(" place {}", header.place));
+    Ok(())
+}
+
+fn next(out: &mut Vec<u8>, cursor: Cursor, roll: &[u8]) -> Result<(), Refusal> {
+    match second::next(cursor, roll)? {
+        Step::End => write(out, "end"),
+        Step::Term(term, after) => {
+            write(out, &format!("term {} {}", term.scale, term.boys));
+            for prefactor in &term.prefactors {
+                write(out, &format!(" {}", prefactor));
+            }
+            write(out, &format!(" next {} {}", after.place, after.left));
+        }
+    }
+    Ok(())
+}
+
+/// How an evaluation comes to its value.
+pub enum Way {
+    /// The Rust's own list and aux: the unchanged get_ function.
+    Unchanged,
+    /// Any other: the Rust's sum loops, fed with terms and aux.
+    SumLoops,
+}
+
+pub fn way(header: &Header, terms: &[Term], evaluation: &Evaluation) -> Way {
+    let own_aux = rust_side::aux(header.kind, &evaluation.centres);
+    if own_aux.to_bits() == evaluation.aux.to_bits() && rust_side::is_own_list(header, terms) {
+        Way::Unchanged
+    } else {
+        Way::SumLoops
+    }
+}
+
+fn eval(out: &mut Vec<u8>, evaluation: &Evaluation) -> Result<(), Refusal> {
+    let Evaluation {
+        roll,
+        centres,
+        aux,
+        boys,
+    } = evaluation;
+    let (header, terms) = second::check(roll)?;
+    second::check_evaluation(&header, centres, *aux, boys)?;
+    table_of(header.kind, centres)?;
+    let value = match way(&header, &terms, evaluation) {
+        Way::Unchanged => rust_side::value(&header, centres, boys),
+        Way::SumLoops => rust_side::value_of_terms(&header, &terms, centres, *aux, boys),
+    };
+    second::check_results(&[&[value]])?;
+    write(out, "value ");
+    parse::write_float(out, value);
+    Ok(())
+}
+
+fn table(out: &mut Vec<u8>, kind: u8, centres: &[Centre; 4]) -> Result<(), Refusal> {
+    second::check_table(kind, centres)?;
+    let mut table = table_of(kind, centres)?;
+    table.resize(23, 0.0);
+    write(out, "table");
+    write_floats(out, &table);
+    Ok(())
+}
+
+/// The Rust's own table, with 11 decided over it and the geometry numbers. The second reading
+/// must work out the same numbers, or something is wrong here and nothing more is answered.
+fn table_of(kind: u8, centres: &[Centre; 4]) -> Result<Vec<f64>, Refusal> {
+    let (geometry, table) = rust_side::geometry_and_table(kind, centres);
+    let (geometry2, table2) = second::geometry_and_table(kind, centres);
+    assert!(
+        same(&geometry, &geometry2) && same(&table, &table2),
+        "the Rust and the second reading differ: kind {} {:?}",
+        kind,
+        centres
+    );
+    second::check_results(&[&geometry, &table])?;
+    Ok(table)
+}
+
+/// The same bits, or no number on both sides.
+fn same(left: &[f64], right: &[f64]) -> bool {
+    left.len() == right.len()
+        && left
+            .iter()
+            .zip(right)
+            .all(|(x, y)| x.to_bits() == y.to_bits() || x.is_nan() && y.is_nan())
+}
+
+fn jk(out: &mut Vec<u8>, n: u64, lengths: &Lengths, i: &[f64], d: &[f64]) -> Result<(), Refusal> {
+    second::check_matrices(n, lengths, i, d)?;
+    let (j, k) = rust_side::j_and_k(n as usize, i, d);
+    second::check_results(&[&j, &k])?;
+    write(out, "J");
+    write_floats(out, &j);
+    write(out, " K");
+    write_floats(out, &k);
+    Ok(())
+}
+
+fn write_floats(out: &mut Vec<u8>, floats: &[f64]) {
+    for &float in floats {
+        out.push(b' ');
+        parse::write_float(out, float);
+    }
+}

@@ -1,0 +1,160 @@
+//! Floats and centres for questions: ordinary, extreme and wrong ones.
+
+use crate::parse::Centre;
+use crate::random::Random;
+
+/// How wild the floats of one question are.
+#[derive(Clone, Copy, PartialEq)]
+pub enum Taste {
+    /// Values as a laboratory has them.
+    Ordinary,
+    /// Ordinary, with an extreme one here and there.
+    Mixed,
+    /// Finite values of any size.
+    Extreme,
+    /// Any bits at all, among them infinities and no numbers.
+    Any,
+}
+
+pub fn taste(random: &mut Random) -> Taste {
+    match random.below(20) {
+        0..=10 => Taste::Ordinary,
+        11..=14 => Taste::Mixed,
+        15..=17 => Taste::Extreme,
+        _ => Taste::Any,
+    }
+}
+
+const EXTREMES: [f64; 15] = [
+    0.0,
+    5e-324,
+    2.225e-308,
+    f64::MIN_POSITIVE,
+    1e-300,
+    1e-160,
+    1e-154,
+    1.0,
+    1e154,
+    1e160,
+    1e300,
+    8.9e307,
+    f64::MAX,
+    f64::EPSILON,
+    0.5,
+];
+
+fn ordinary(random: &mut Random) -> f64 {
+    match random.below(4) {
+        // Few bits: sums and products are often exact, and values are often equal.
+        0 => random.from_to(0, 16) as f64 / 4.0 - 2.0,
+        _ => 10.0 * random.fraction() - 5.0,
+    }
+}
+
+fn extreme(random: &mut Random) -> f64 {
+    let size = match random.below(4) {
+        0 => f64::from_bits(random.bits() >> 12),
+        1 => f64::from_bits(random.bits() % 0x7ff0_0000_0000_0000),
+        _ => random.one_of(&EXTREMES),
+    };
+    if random.once_in(2) {
+        -size
+    } else {
+        size
+    }
+}
+
+fn any(random: &mut Random) -> f64 {
+    match random.below(12) {
+        0 => f64::INFINITY,
+        1 => f64::NEG_INFINITY,
+        2 => f64::from_bits(0x7ff0_0000_0000_0001 + (random.bits() >> 13)),
+        3 => f64::from_bits(random.bits()),
+        4..=6 => extreme(random),
+        _ => ordinary(random),
+    }
+}
+
+pub fn float(random: &mut Random, taste: Taste) -> f64 {
+    match taste {
+        Taste::Ordinary => ordinary(random),
+        Taste::Mixed if random.once_in(8) => extreme(random),
+        Taste::Mixed => ordinary(random),
+        Taste::Extreme => extreme(random),
+        Taste::Any => any(random),
+    }
+}
+
+fn exponent(random: &mut Random, taste: Taste) -> f64 {
+    let wrong = match taste {
+        Taste::Ordinary => 400,
+        _ => 30,
+    };
+    if random.once_in(wrong) {
+        return random.one_of(&[0.0, -0.0, -1.0, -5e-324, f64::MIN]);
+    }
+    match taste {
+        Taste::Ordinary => 0.05 + ordinary(random).abs(),
+        Taste::Any => any(random),
+        _ => {
+            let size = float(random, taste).abs();
+            if size == 0.0 {
+                0.25
+            } else {
+                size
+            }
+        }
+    }
+}
+
+/// Four centres; now and then two of them are one, or one stands at the origin.
+pub fn centres(random: &mut Random, taste: Taste) -> [Centre; 4] {
+    let mut centres = [Centre::default(); 4];
+    for centre in centres.iter_mut() {
+        for x in centre.r.iter_mut() {
+            *x = float(random, taste);
+        }
+        centre.z = exponent(random, taste);
+    }
+    if random.once_in(5) {
+        let (from, to) = (random.index(4), random.index(4));
+        centres[to].r = centres[from].r;
+        if random.once_in(2) {
+            centres[to].z = centres[from].z;
+        }
+    }
+    if random.once_in(8) {
+        let at = random.index(4);
+        centres[at].r = [0.0, -0.0, 0.0];
+    }
+    if random.once_in(20) {
+        centres = [centres[0]; 4];
+    }
+    centres
+}
+
+/// Centres for a kind. Now and then what the kind does not use is as wrong as can be, which
+/// must make no difference.
+pub fn centres_for(random: &mut Random, taste: Taste, kind: u8) -> [Centre; 4] {
+    let mut centres = centres(random, taste);
+    if kind < 4 && random.once_in(4) {
+        let wrong = [f64::INFINITY, f64::NAN, f64::MAX, -1.0, -0.0];
+        centres[2].z = random.one_of(&wrong);
+        centres[3].z = random.one_of(&wrong);
+        centres[3].r = [random.one_of(&wrong); 3];
+        if kind < 2 {
+            centres[2].r = [random.one_of(&wrong); 3];
+        }
+    }
+    centres
+}
+
+/// Boys numbers lie between 0 and 1 for a host that is right.
+pub fn boys(random: &mut Random, taste: Taste, count: usize) -> Vec<f64> {
+    (0..count)
+        .map(|_| match taste {
+            Taste::Ordinary => random.fraction(),
+            _ => float(random, taste),
+        })
+        .collect()
+}

@@ -1,0 +1,13 @@
+//! The judge: answers the question language from the unchanged Rust and, where the Rust
+//! knows nothing, from a second reading of document 01.
+
+pub mod answer;
+pub mod diff;
+pub mod floats;
+pub mod odd_lines;
+pub mod parse;
+pub mod questions;
+pub mod random;
+pub mod rolls;
+pub mod rust_side;
+pub mod second;

@@ -1,0 +1,103 @@
+//! Lines at the edges of the question language: malformed ones and the longest.
+
+use crate::questions::with_roll;
+use crate::random::Random;
+use crate::rust_side;
+
+/// Spoils a line, or puts another one in its place.
+pub fn malformed(random: &mut Random, mut line: Vec<u8>) -> Vec<u8> {
+    let blanks: Vec<usize> = (0..line.len()).filter(|&at| line[at] == b' ').collect();
+    let blank = match blanks.len() {
+        0 => 0,
+        _ => random.one_of(&blanks),
+    };
+    let last = blanks.last().copied().unwrap_or(0);
+    match random.below(22) {
+        0 => line.insert(blank, b' '),
+        1 => line[blank] = b'\t',
+        2 => line.push(b' '),
+        3 => line.insert(0, b' '),
+        4 => line.push(b'\r'),
+        5 => line.insert(blank + 1, b'0'),
+        6 => line.truncate(last),
+        7 => line.extend_from_slice(b" 0"),
+        8 => line.make_ascii_uppercase(),
+        9 => line[blank + 1..].make_ascii_uppercase(),
+        10 => line.insert(blank + 1, b'+'),
+        11 => line.insert(blank + 1, b'-'),
+        12 => {
+            // A number or a float in the last place is changed for one out of range.
+            let wrong = [
+                "256",
+                "4294967296",
+                "18446744073709551615",
+                "18446744073709551616",
+                "340282366920938463463374607431768211456",
+                "00",
+                "0x1",
+                "1.0",
+                "00000000000000000",
+                "nan",
+            ];
+            line.truncate(last);
+            line.push(b' ');
+            line.extend_from_slice(random.one_of(&wrong).as_bytes());
+        }
+        13 => {
+            let end = blanks.iter().find(|&&at| at > blank).copied();
+            let word = blank + 1..end.unwrap_or(line.len()).max(blank + 1);
+            let wrong: &[&[u8]] = &[b"256", b"1048577", b"4294967296", b"-1", b"", b"-"];
+            if word.end <= line.len() {
+                let by = random.one_of(wrong).to_vec();
+                line.splice(word, by);
+            }
+        }
+        14 => line = Vec::new(),
+        15 => line = b"# a comment  with\tany bytes \xff\xfe\x00".to_vec(),
+        16 => line = random_line(random),
+        17 => {
+            let at = random.index(line.len());
+            line[at] = random.bits() as u8;
+        }
+        18 => {
+            let at = random.index(line.len());
+            line.remove(at);
+        }
+        19 => line.insert(0, b'#'),
+        20 => line.truncate(random.index(line.len() + 1)),
+        _ => {
+            let words: [&[u8]; 6] = [b"shell", b"expand 0", b"-", b"?", b"refused 7 at 0", b"\r"];
+            line = random.one_of(&words).to_vec();
+        }
+    }
+    // A line feed would make two lines of one.
+    line.retain(|&byte| byte != b'\n');
+    line
+}
+
+fn random_line(random: &mut Random) -> Vec<u8> {
+    (0..random.below(60)).map(|_| random.bits() as u8).collect()
+}
+
+/// A question of exactly this length, or a comment where none has it.
+pub fn longest(kind: &str, length: usize) -> Vec<u8> {
+    let mut line = match kind {
+        "list" | "open" | "check" => format!("{} ", kind).into_bytes(),
+        "next" => b"next 0 0 0 0 ".to_vec(),
+        _ => b"#".to_vec(),
+    };
+    // A roll has an even number of digits.
+    if (length - line.len()) % 2 == 1 {
+        line = b"#".to_vec();
+    }
+    line.resize(length, b'0');
+    line
+}
+
+/// An evaluation of overlap s,s with this many Boys numbers, where none belong.
+pub fn with_boys(count: usize) -> Vec<u8> {
+    let mut line = with_roll("eval", &rust_side::roll(0, &[0; 12]));
+    line.extend_from_slice(" 3ff0000000000000".repeat(17).as_bytes());
+    line.extend_from_slice(" 0".repeat(count).as_bytes());
+    line
+}

@@ -1,0 +1,337 @@
+//! The question language: a line becomes a question, or it is none.
+
+/// A longer line is no question.
+pub const LONGEST_LINE: usize = 2_097_152;
+/// The largest buffer that a question lends, and what the short forms lend.
+pub const LARGEST_BUFFER: usize = 1_048_576;
+/// The most Boys numbers of a question.
+pub const MOST_BOYS: usize = 65_536;
+
+/// Three coordinates and an exponent.
+#[derive(Clone, Copy, Debug, Default, PartialEq)]
+pub struct Centre {
+    pub r: [f64; 3],
+    pub z: f64,
+}
+
+#[derive(Clone, Copy, Debug, PartialEq)]
+pub struct Cursor {
+    pub kind: u8,
+    pub l: u8,
+    pub left: u32,
+    pub place: u64,
+}
+
+#[derive(Clone, Debug, PartialEq)]
+pub struct Evaluation {
+    pub roll: Vec<u8>,
+    pub centres: [Centre; 4],
+    pub aux: f64,
+    pub boys: Vec<f64>,
+}
+
+/// The sizes of J and K's inputs and outputs, said apart from the floats.
+#[derive(Clone, Copy, Debug, PartialEq)]
+pub struct Lengths {
+    pub i: usize,
+    pub d: usize,
+    pub j: usize,
+    pub k: usize,
+}
+
+#[derive(Clone, Debug, PartialEq)]
+pub enum Question {
+    Expand {
+        kind: u8,
+        orders: [u8; 12],
+        buffer: usize,
+        start: u64,
+    },
+    Shell {
+        m: u8,
+        buffer: usize,
+        start: u64,
+    },
+    Component {
+        shells: Vec<u8>,
+        number: u32,
+    },
+    List(Vec<u8>),
+    Open(Vec<u8>),
+    Check(Vec<u8>),
+    Next(Cursor, Vec<u8>),
+    Eval(Evaluation),
+    Table(u8, [Centre; 4]),
+    JK {
+        n: u64,
+        lengths: Lengths,
+        i: Vec<f64>,
+        d: Vec<f64>,
+    },
+}
+
+pub enum Line {
+    /// Empty or a comment: answered by itself.
+    Same,
+    Asks(Question),
+    Malformed,
+}
+
+pub fn line(bytes: &[u8]) -> Line {
+    if bytes.len() > LONGEST_LINE {
+        return Line::Malformed;
+    }
+    if bytes.is_empty() || bytes[0] == b'#' {
+        return Line::Same;
+    }
+    match question(bytes) {
+        Some(question) => Line::Asks(question),
+        None => Line::Malformed,
+    }
+}
+
+/// Words between single blanks. An empty word comes out where blanks are doubled, and is
+/// then refused by whatever reads it.
+struct Words<'a>(Option<&'a [u8]>);
+
+impl<'a> Words<'a> {
+    fn next(&mut self) -> Option<&'a [u8]> {
+        let rest = self.0?;
+        match rest.iter().position(|&b| b == b' ') {
+            Some(at) => {
+                self.0 = Some(&rest[at + 1..]);
+                Some(&rest[..at])
+            }
+            None => {
+                self.0 = None;
+                Some(rest)
+            }
+        }
+    }
+
+    fn more(&self) -> bool {
+        self.0.is_some()
+    }
+
+    /// A whole number of at most `most`.
+    fn number(&mut self, most: u64) -> Option<u64> {
+        whole(self.next()?).filter(|&n| n <= most)
+    }
+
+    fn byte(&mut self) -> Option<u8> {
+        self.number(255).map(|n| n as u8)
+    }
+
+    fn float(&mut self) -> Option<f64> {
+        float(self.next()?)
+    }
+
+    fn floats(&mut self, count: usize) -> Option<Vec<f64>> {
+        (0..count).map(|_| self.float()).collect()
+    }
+
+    fn roll(&mut self) -> Option<Vec<u8>> {
+        roll(self.next()?)
+    }
+
+    fn centres(&mut self) -> Option<[Centre; 4]> {
+        let mut centres = [Centre::default(); 4];
+        for centre in centres.iter_mut() {
+            centre.r = [self.float()?, self.float()?, self.float()?];
+            centre.z = self.float()?;
+        }
+        Some(centres)
+    }
+
+    /// BUFFER START, or what the short form lends.
+    fn room(&mut self) -> Option<(usize, u64)> {
+        if !self.more() {
+            return Some((LARGEST_BUFFER, 0));
+        }
+        let buffer = self.number(LARGEST_BUFFER as u64)? as usize;
+        Some((buffer, self.number(u64::MAX)?))
+    }
+}
+
+fn question(bytes: &[u8]) -> Option<Question> {
+    let mut words = Words(Some(bytes));
+    let question = match words.next()? {
+        b"expand" => {
+            let kind = words.byte()?;
+            let mut orders = [0; 12];
+            for order in orders.iter_mut() {
+                *order = words.byte()?;
+            }
+            let (buffer, start) = words.room()?;
+            Question::Expand {
+                kind,
+                orders,
+                buffer,
+                start,
+            }
+        }
+        b"shell" => {
+            let m = words.byte()?;
+            let (buffer, start) = words.room()?;
+            Question::Shell { m, buffer, start }
+        }
+        b"component" => component(&mut words)?,
+        b"list" => Question::List(words.roll()?),
+        b"open" => Question::Open(words.roll()?),
+        b"check" => Question::Check(words.roll()?),
+        b"next" => {
+            let cursor = Cursor {
+                kind: words.byte()?,
+                l: words.byte()?,
+                left: words.number(u32::MAX.into())? as u32,
+                place: words.number(u64::MAX)?,
+            };
+            Question::Next(cursor, words.roll()?)
+        }
+        b"eval" => eval(&mut words)?,
+        b"table" => Question::Table(words.byte()?, words.centres()?),
+        b"jk" => jk(&mut words)?,
+        b"jkl" => jkl(&mut words)?,
+        _ => return None,
+    };
+    if words.more() {
+        return None;
+    }
+    Some(question)
+}
+
+/// Two shells or four, then the number: told apart by how many words there are.
+fn component(words: &mut Words) -> Option<Question> {
+    let mut numbers = Vec::new();
+    while words.more() {
+        if numbers.len() == 5 {
+            return None;
+        }
+        numbers.push(words.number(u32::MAX.into())?);
+    }
+    let number = numbers.pop()? as u32;
+    if numbers.len() != 2 && numbers.len() != 4 || numbers.iter().any(|&m| m > 255) {
+        return None;
+    }
+    let shells = numbers.iter().map(|&m| m as u8).collect();
+    Some(Question::Component { shells, number })
+}
+
+fn eval(words: &mut Words) -> Option<Question> {
+    let roll = words.roll()?;
+    let centres = words.centres()?;
+    let aux = words.float()?;
+    let mut boys = Vec::new();
+    while words.more() {
+        if boys.len() == MOST_BOYS {
+            return None;
+        }
+        boys.push(words.float()?);
+    }
+    Some(Question::Eval(Evaluation {
+        roll,
+        centres,
+        aux,
+        boys,
+    }))
+}
+
+/// The lengths are those that n asks for; where n is out of range there are no floats.
+fn jk(words: &mut Words) -> Option<Question> {
+    let n = words.number(u64::MAX)?;
+    let size = if (1..=16).contains(&n) { n as usize } else { 0 };
+    let (matrix, tensor) = (size * size, size * size * size * size);
+    let lengths = Lengths {
+        i: tensor,
+        d: matrix,
+        j: matrix,
+        k: matrix,
+    };
+    let (i, d) = (words.floats(tensor)?, words.floats(matrix)?);
+    Some(Question::JK { n, lengths, i, d })
+}
+
+fn jkl(words: &mut Words) -> Option<Question> {
+    let n = words.number(u64::MAX)?;
+    let lengths = Lengths {
+        i: words.number(65_537)? as usize,
+        d: words.number(1_024)? as usize,
+        j: words.number(1_024)? as usize,
+        k: words.number(1_024)? as usize,
+    };
+    let (i, d) = (words.floats(lengths.i)?, words.floats(lengths.d)?);
+    Some(Question::JK { n, lengths, i, d })
+}
+
+/// Decimal, no sign, no leading zero, below 2^64.
+fn whole(word: &[u8]) -> Option<u64> {
+    if word.is_empty() || word.len() > 1 && word[0] == b'0' {
+        return None;
+    }
+    let mut number: u64 = 0;
+    for &digit in word {
+        if !digit.is_ascii_digit() {
+            return None;
+        }
+        number = number
+            .checked_mul(10)?
+            .checked_add(u64::from(digit - b'0'))?;
+    }
+    Some(number)
+}
+
+fn digit(byte: u8) -> Option<u8> {
+    match byte {
+        b'0'..=b'9' => Some(byte - b'0'),
+        b'a'..=b'f' => Some(byte - b'a' + 10),
+        _ => None,
+    }
+}
+
+/// The bits in 1 to 16 lower case hexadecimal digits.
+fn float(word: &[u8]) -> Option<f64> {
+    if word.is_empty() || word.len() > 16 {
+        return None;
+    }
+    let mut bits = 0;
+    for &byte in word {
+        bits = bits << 4 | u64::from(digit(byte)?);
+    }
+    Some(f64::from_bits(bits))
+}
+
+/// Two lower case hexadecimal digits a byte, `-` for none.
+fn roll(word: &[u8]) -> Option<Vec<u8>> {
+    if word == b"-" {
+        return Some(Vec::new());
+    }
+    if word.is_empty() || word.len() % 2 == 1 {
+        return None;
+    }
+    word.chunks(2)
+        .map(|two| Some(digit(two[0])? << 4 | digit(two[1])?))
+        .collect()
+}
+
+/// The other way round: bytes as hexadecimal, `-` for none.
+pub fn write_roll(out: &mut Vec<u8>, bytes: &[u8]) {
+    if bytes.is_empty() {
+        out.push(b'-');
+    }
+    write_hex(out, bytes);
+}
+
+/// Two digits a byte.
+pub fn write_hex(out: &mut Vec<u8>, bytes: &[u8]) {
+    const DIGITS: &[u8; 16] = b"0123456789abcdef";
+    out.reserve(2 * bytes.len());
+    for &byte in bytes {
+        out.push(DIGITS[usize::from(byte >> 4)]);
+        out.push(DIGITS[usize::from(byte & 15)]);
+    }
+}
+
+/// The 16 digits of a float's bits.
+pub fn write_float(out: &mut Vec<u8>, float: f64) {
+    write_hex(out, &float.to_bits().to_be_bytes());
+}

@@ -1,0 +1,484 @@
+//! Random questions of one kind: ordinary, extreme and wrong ones.
+
+use crate::floats::{self, Taste};
+use crate::parse::{self, Centre, LARGEST_BUFFER, LONGEST_LINE, MOST_BOYS};
+use crate::random::Random;
+use crate::{odd_lines, rolls, rust_side, second};
+use std::io::{self, Write};
+
+/// The kinds of question, as `compare` names them.
+pub const KINDS: [&str; 11] = [
+    "shell",
+    "component",
+    "expand",
+    "list",
+    "open",
+    "check",
+    "next",
+    "eval",
+    "table",
+    "jk",
+    "jkl",
+];
+
+/// Writes `count` questions of a kind; false where there is no such kind. `component` has all
+/// 50,625 components of four shells of order 4 on top.
+pub fn write_all(kind: &str, count: u64, seed: u64, out: &mut dyn Write) -> io::Result<bool> {
+    if !KINDS.contains(&kind) && fixed_kind(kind).is_none() {
+        return Ok(false);
+    }
+    if kind == "component" {
+        for number in 0..50_625 {
+            writeln!(out, "component 4 4 4 4 {}", number)?;
+        }
+    }
+    let one_by_one = match kind {
+        "list" | "open" | "check" | "next" => rolls::tried_one_by_one(),
+        _ => Vec::new(),
+    };
+    let mut random = Random::new(seed);
+    for at in 0..count {
+        // Half of the questions at most are about the small rolls' bytes one by one.
+        let tried = one_by_one.get(at as usize).filter(|_| at < count / 2);
+        let mut line = match tried {
+            Some(roll) => about_roll(&mut random, kind, roll),
+            None => match at_a_limit(kind, count - at) {
+                Some(line) => line,
+                None => question(&mut random, kind, at),
+            },
+        };
+        // The last line has no line feed, which makes no difference; an empty one needs it.
+        if at + 1 < count || line.is_empty() {
+            line.push(b'\n');
+        }
+        out.write_all(&line)?;
+    }
+    out.flush()?;
+    Ok(true)
+}
+
+/// `expand` with one kind of integral only.
+fn fixed_kind(kind: &str) -> Option<u8> {
+    kind.strip_prefix("expand-kind-")?.parse().ok()
+}
+
+/// The last lines but one of a run stand at a limit of the language and one beyond it.
+fn at_a_limit(kind: &str, from_end: u64) -> Option<Vec<u8>> {
+    match from_end {
+        5 => Some(odd_lines::longest(kind, LONGEST_LINE)),
+        4 => Some(odd_lines::longest(kind, LONGEST_LINE + 1)),
+        3 if kind == "eval" => Some(odd_lines::with_boys(MOST_BOYS)),
+        2 if kind == "eval" => Some(odd_lines::with_boys(MOST_BOYS + 1)),
+        _ => None,
+    }
+}
+
+/// A question of the kind; one in fifty is malformed.
+fn question(random: &mut Random, kind: &str, at: u64) -> Vec<u8> {
+    let line = match kind {
+        "shell" => shell(random, at),
+        "component" => component(random),
+        "list" | "open" | "check" | "next" => {
+            let roll = rolls::any(random);
+            about_roll(random, kind, &roll)
+        }
+        "eval" => eval(random),
+        "table" => table(random),
+        "jk" => jk(random, at),
+        "jkl" => jkl(random, at),
+        _ => expand(random, fixed_kind(kind)),
+    };
+    if random.once_in(50) {
+        odd_lines::malformed(random, line)
+    } else {
+        line
+    }
+}
+
+fn about_roll(random: &mut Random, kind: &str, roll: &[u8]) -> Vec<u8> {
+    match kind {
+        "next" => next(random, roll),
+        _ => with_roll(kind, roll),
+    }
+}
+
+/// Every request of a kind that is within the limits.
+pub fn write_every_request(kind: u8, out: &mut dyn Write) -> io::Result<u64> {
+    let triples: Vec<Vec<u8>> = (0..=4)
+        .flat_map(|m| {
+            let list = rust_side::shell_list(m);
+            list.chunks(3).map(<[u8]>::to_vec).collect::<Vec<_>>()
+        })
+        .collect();
+    let centres = second::orders_used(kind) / 3;
+    let count = triples.len().pow(centres as u32);
+    for number in 0..count {
+        let mut orders = vec![0; 12];
+        let mut rest = number;
+        for centre in 0..centres {
+            orders[3 * centre..3 * centre + 3].copy_from_slice(&triples[rest % triples.len()]);
+            rest /= triples.len();
+        }
+        out.write_all(&numbers("expand", kind.into(), &orders))?;
+        out.write_all(b"\n")?;
+    }
+    out.flush()?;
+    Ok(count as u64)
+}
+
+fn numbers(word: &str, first: u64, rest: &[u8]) -> Vec<u8> {
+    let mut line = format!("{} {}", word, first);
+    for number in rest {
+        line += &format!(" {}", number);
+    }
+    line.into_bytes()
+}
+
+fn append(line: &mut Vec<u8>, number: u64) {
+    line.extend_from_slice(format!(" {}", number).as_bytes());
+}
+
+/// A word and a roll.
+pub fn with_roll(word: &str, roll: &[u8]) -> Vec<u8> {
+    let mut line = format!("{} ", word).into_bytes();
+    parse::write_roll(&mut line, roll);
+    line
+}
+
+fn append_float(random: &mut Random, line: &mut Vec<u8>, float: f64) {
+    line.push(b' ');
+    if random.once_in(10) {
+        line.extend_from_slice(format!("{:x}", float.to_bits()).as_bytes());
+    } else {
+        parse::write_float(line, float);
+    }
+}
+
+fn append_centres(random: &mut Random, line: &mut Vec<u8>, centres: &[Centre; 4]) {
+    for centre in centres {
+        for &x in &centre.r {
+            append_float(random, line, x);
+        }
+        append_float(random, line, centre.z);
+    }
+}
+
+/// BUFFER and START around every boundary for an output of `need` bytes.
+fn append_room(random: &mut Random, line: &mut Vec<u8>, need: u64) {
+    let most = LARGEST_BUFFER as u64;
+    let start = match random.below(6) {
+        0 | 1 => 0,
+        2 => random.below(300),
+        3 => random.below(most + 1),
+        4 => random.from_to(most - 50, most + 2),
+        _ => random.one_of(&[1 << 32, (1 << 32) + 1, u64::MAX, u64::MAX - 1, 1 << 63]),
+    };
+    let exact = start.saturating_add(need);
+    let buffer = match random.below(9) {
+        0 => 0,
+        1 => exact.saturating_sub(1),
+        2 | 3 => exact,
+        4 => exact.saturating_add(1),
+        // The start at the end, and one beyond it.
+        5 => start,
+        6 => start.saturating_sub(1),
+        7 => most,
+        _ => random.below(most + 2),
+    };
+    // Mostly within what a question may lend.
+    let buffer = if random.once_in(40) {
+        buffer
+    } else {
+        buffer.min(most)
+    };
+    append(line, buffer);
+    append(line, start);
+}
+
+fn shell(random: &mut Random, at: u64) -> Vec<u8> {
+    let m = match random.below(8) {
+        _ if at < 256 => at,
+        0 => random.below(258),
+        _ => random.below(6),
+    };
+    let mut line = format!("shell {}", m).into_bytes();
+    if at >= 256 && !random.once_in(10) {
+        append_room(random, &mut line, 3 * (m + 1) * (m + 2) / 2);
+    }
+    line
+}
+
+fn component(random: &mut Random) -> Vec<u8> {
+    let shells = random.one_of(&[2, 4]);
+    let mut line = b"component".to_vec();
+    let mut count = 1;
+    for _ in 0..shells {
+        let m = match random.below(40) {
+            0 => random.below(258),
+            1 => 5,
+            _ => random.below(5),
+        };
+        count *= (m + 1) * (m + 2) / 2;
+        append(&mut line, m);
+    }
+    let number = match random.below(8) {
+        0 => count,
+        1 => count - 1,
+        2 => count + 1,
+        3 => random.one_of(&[0, u32::MAX.into(), 1 << 31, 1 << 16, 1 << 32]),
+        4 => random.below(1 << 32),
+        _ => random.below(count),
+    };
+    append(&mut line, number);
+    line
+}
+
+/// A request, mostly a small one, with a buffer and a start around each boundary.
+fn expand(random: &mut Random, fixed_kind: Option<u8>) -> Vec<u8> {
+    let kind = match fixed_kind {
+        Some(kind) => u64::from(kind),
+        None => match random.below(30) {
+            0 => random.below(257),
+            1 => 5,
+            _ => random.below(5),
+        },
+    };
+    let legal_kind = kind.min(4) as u8;
+    let mut orders = match random.below(300) {
+        0 if kind == 4 => random.one_of(&rolls::AT_THE_CAP),
+        0..=49 => rolls::any_request(random, legal_kind),
+        _ => rolls::small_request(random, legal_kind),
+    };
+    let used = second::orders_used(legal_kind);
+    match random.below(16) {
+        0 => orders[random.index(used)] += random.from_to(1, 4) as u8,
+        1 => orders[random.index(used)] = random.bits() as u8,
+        2 => orders[random.index(12)] = random.one_of(&[1, 4, 5, 9, 127, 128, 255]),
+        _ => {}
+    }
+    let mut line = numbers("expand", kind, &orders);
+    if random.once_in(2) {
+        let need = roll_length(kind as u8, &orders);
+        append_room(random, &mut line, need);
+    }
+    line
+}
+
+/// The length of the request's roll; some number where there is none.
+fn roll_length(kind: u8, orders: &[u8; 12]) -> u64 {
+    if second::check_request(kind, orders, 0, 0).is_err() {
+        return 100;
+    }
+    let terms = second::terms(kind, orders);
+    second::write_roll(kind, orders, &terms).len() as u64
+}
+
+/// A cursor that comes from reading, or a forged one.
+fn next(random: &mut Random, roll: &[u8]) -> Vec<u8> {
+    let length = roll.len() as u64;
+    let (mut kind, mut l, mut left, mut place) = match second::open(roll) {
+        Ok(header) => {
+            let mut cursor = parse::Cursor {
+                kind: header.kind,
+                l: header.l,
+                left: header.count,
+                place: header.place as u64,
+            };
+            let steps = match random.below(4) {
+                0 => u64::from(header.count),
+                1 => 0,
+                _ => random.below(u64::from(header.count) + 1),
+            };
+            for _ in 0..steps {
+                match second::next(cursor, roll) {
+                    Ok(second::Step::Term(_, after)) => cursor = after,
+                    _ => break,
+                }
+            }
+            (
+                u64::from(cursor.kind),
+                u64::from(cursor.l),
+                u64::from(cursor.left),
+                cursor.place,
+            )
+        }
+        Err(_) => (
+            random.below(5),
+            random.below(17),
+            random.below(4),
+            random.below(length + 1),
+        ),
+    };
+    if random.once_in(2) {
+        match random.below(5) {
+            0 => kind = random.one_of(&[0, 1, 2, 3, 4, 5, 6, 128, 255]),
+            1 => l = random.one_of(&[0, 1, 7, 8, 9, 11, 12, 13, 15, 16, 17, 128, 255]),
+            2 => left = random.one_of(&[0, 1, 65_535, 65_536, (1 << 32) - 1]),
+            3 => place = random.below(length + 3),
+            _ => {
+                place = random.one_of(&[
+                    length,
+                    length + 1,
+                    1 << 32,
+                    (1 << 32) + 1,
+                    1 << 63,
+                    u64::MAX,
+                    u64::MAX - 1,
+                ])
+            }
+        }
+    }
+    let mut line = b"next".to_vec();
+    for number in [kind, l, left, place] {
+        append(&mut line, number);
+    }
+    line.push(b' ');
+    parse::write_roll(&mut line, roll);
+    line
+}
+
+/// An evaluation: the Rust's own list and aux, or other terms or another aux, or a wrong one.
+fn eval(random: &mut Random) -> Vec<u8> {
+    let mut taste = floats::taste(random);
+    let way = random.below(20);
+    let roll = match way {
+        0..=10 if random.once_in(1_000) => rolls::fresh_and_long(random),
+        0..=10 => rolls::fresh(random),
+        11..=17 => rolls::legal(random),
+        _ => rolls::any(random),
+    };
+    if way <= 10 && random.once_in(2) {
+        taste = Taste::Ordinary;
+    }
+    let (kind, l) = match second::open(&roll) {
+        Ok(header) => (header.kind, header.l),
+        Err(_) => (random.below(5) as u8, random.below(17) as u8),
+    };
+    let centres = floats::centres_for(random, taste, kind);
+    let own_aux = rust_side::aux(kind, &centres);
+    let aux = if way <= 10 && !random.once_in(5) {
+        own_aux
+    } else {
+        floats::float(random, taste)
+    };
+    let right = match kind {
+        2 | 4 => usize::from(l) + 1,
+        _ => 0,
+    };
+    let count = match random.below(40) {
+        0 => right + 1,
+        1 => right.saturating_sub(1),
+        2 => random.index(20),
+        _ => right,
+    };
+    let mut line = with_roll("eval", &roll);
+    append_centres(random, &mut line, &centres);
+    append_float(random, &mut line, aux);
+    let boys_taste = if random.once_in(2) {
+        Taste::Ordinary
+    } else {
+        taste
+    };
+    for number in floats::boys(random, boys_taste, count) {
+        append_float(random, &mut line, number);
+    }
+    line
+}
+
+fn table(random: &mut Random) -> Vec<u8> {
+    let kind = match random.below(40) {
+        0 => random.below(257),
+        1 => 5,
+        _ => random.below(5),
+    };
+    let taste = floats::taste(random);
+    let mut line = format!("table {}", kind).into_bytes();
+    let centres = floats::centres_for(random, taste, kind.min(4) as u8);
+    append_centres(random, &mut line, &centres);
+    line
+}
+
+/// Every size from 1 to 16 comes up; large ones less often, since a line of size 16 has a
+/// million digits.
+fn matrix_size(random: &mut Random, at: u64) -> u64 {
+    match random.below(50) {
+        _ if at < 16 => at + 1,
+        0 => random.from_to(9, 16),
+        1..=9 => random.from_to(5, 8),
+        _ => random.from_to(1, 4),
+    }
+}
+
+fn wrong_size(random: &mut Random) -> u64 {
+    random.one_of(&[
+        0,
+        17,
+        18,
+        255,
+        256,
+        1 << 16,
+        1 << 32,
+        1 << 62,
+        1 << 63,
+        u64::MAX,
+    ])
+}
+
+fn append_floats(random: &mut Random, line: &mut Vec<u8>, taste: Taste, count: u64) {
+    // A taste of any bits would spoil every large matrix at once: one such float is enough.
+    let calm = match taste {
+        Taste::Any => Taste::Ordinary,
+        other => other,
+    };
+    let wild = random.below(count.max(1));
+    for at in 0..count {
+        let taste = if at == wild { taste } else { calm };
+        let float = floats::float(random, taste);
+        append_float(random, line, float);
+    }
+}
+
+fn jk(random: &mut Random, at: u64) -> Vec<u8> {
+    if random.once_in(25) && at >= 16 {
+        return format!("jk {}", wrong_size(random)).into_bytes();
+    }
+    let n = matrix_size(random, at);
+    let taste = floats::taste(random);
+    let mut line = format!("jk {}", n).into_bytes();
+    append_floats(random, &mut line, taste, n * n * n * n);
+    append_floats(random, &mut line, taste, n * n);
+    line
+}
+
+/// Right lengths, and each of the four wrong by little or by much.
+fn jkl(random: &mut Random, at: u64) -> Vec<u8> {
+    let n = if random.once_in(25) && at >= 16 {
+        wrong_size(random)
+    } else {
+        matrix_size(random, at)
+    };
+    let size = if n <= 16 { n } else { random.below(4) };
+    let matrix = size * size;
+    let mut lengths = [matrix * matrix, matrix, matrix, matrix];
+    if !random.once_in(3) {
+        let which = random.index(4);
+        let most = if which == 0 { 65_537 } else { 1_024 };
+        lengths[which] = match random.below(6) {
+            0 => 0,
+            1 => lengths[which].saturating_sub(1),
+            2 => lengths[which] + 1,
+            3 => random.below(20),
+            4 if which == 0 && !random.once_in(20) => size * matrix,
+            4 => most,
+            _ => lengths[which],
+        };
+    }
+    let mut line = format!("jkl {}", n).into_bytes();
+    for &length in &lengths {
+        append(&mut line, length);
+    }
+    let taste = floats::taste(random);
+    append_floats(random, &mut line, taste, lengths[0]);
+    append_floats(random, &mut line, taste, lengths[1]);
+    line
+}

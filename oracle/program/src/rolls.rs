@@ -1,0 +1,312 @@
+//! Rolls for questions: fresh ones, legal ones that no expansion gives, and bad ones.
+
+use crate::random::Random;
+use crate::rust_side;
+use crate::second::{self, Term};
+
+/// Orders of one centre with a sum of at most `most`.
+fn centre_orders(random: &mut Random, most: u64) -> [u8; 3] {
+    let mut left = random.from_to(0, most);
+    let mut orders = [0; 3];
+    if random.once_in(3) {
+        // All on one axis: scales above 1 come up here.
+        orders[random.index(3)] = left as u8;
+        return orders;
+    }
+    for order in orders.iter_mut() {
+        let taken = random.from_to(0, left);
+        *order = taken as u8;
+        left -= taken;
+    }
+    orders
+}
+
+/// A request within the limits, each as likely as any other. Of the Coulomb ones three in
+/// five are beyond the cap.
+pub fn any_request(random: &mut Random, kind: u8) -> [u8; 12] {
+    let mut orders = [0; 12];
+    for centre in orders[..second::orders_used(kind)].chunks_mut(3) {
+        // 35 triples have a sum of at most 4: 1, 3, 6, 10 and 15 by sum.
+        let m = match random.below(35) {
+            0 => 0,
+            1..=3 => 1,
+            4..=9 => 2,
+            10..=19 => 3,
+            _ => 4,
+        };
+        let list = rust_side::shell_list(m);
+        let at = 3 * random.index(list.len() / 3);
+        centre.copy_from_slice(&list[at..at + 3]);
+    }
+    orders
+}
+
+/// A request whose list is short, so that many can be asked: Coulomb stays far below the cap.
+pub fn small_request(random: &mut Random, kind: u8) -> [u8; 12] {
+    let mut orders = [0; 12];
+    if kind == 4 && random.once_in(3) {
+        // One or two centres of any order: long histories, short lists.
+        for _ in 0..2 {
+            let at = 3 * random.index(4);
+            orders[at..at + 3].copy_from_slice(&centre_orders(random, 4));
+        }
+        return orders;
+    }
+    let most = match kind {
+        4 => random.from_to(0, 2),
+        _ => 4,
+    };
+    for centre in orders[..second::orders_used(kind)].chunks_mut(3) {
+        centre.copy_from_slice(&centre_orders(random, most));
+    }
+    orders
+}
+
+/// The most terms that the cap lets through (65,534), and the fewest that it does not (65,536).
+pub const AT_THE_CAP: [[u8; 12]; 2] = [
+    [0, 0, 3, 1, 1, 1, 0, 0, 2, 0, 1, 2],
+    [0, 0, 2, 0, 3, 0, 0, 2, 0, 0, 3, 1],
+];
+
+/// The longest roll of the Rust's own terms that the listing takes (65,511 bytes), and the
+/// shortest that it does not (65,583 bytes).
+pub const AT_THE_LISTING: [[u8; 12]; 2] = [
+    [0, 0, 1, 0, 1, 2, 0, 0, 1, 0, 2, 2],
+    [0, 0, 0, 0, 0, 2, 1, 1, 2, 0, 0, 3],
+];
+
+/// The numbers of a legal roll, in order; what the terms say is left to chance.
+fn numbers(random: &mut Random) -> Vec<u32> {
+    let kind = random.below(5) as u8;
+    let orders = any_request(random, kind);
+    let l: u32 = orders.iter().map(|&o| u32::from(o)).sum();
+    let count = match random.below(10) {
+        0 => random.from_to(1, 200),
+        _ => random.from_to(1, 6),
+    };
+    let mut list = vec![u32::from(kind)];
+    list.extend(
+        orders[..second::orders_used(kind)]
+            .iter()
+            .map(|&o| u32::from(o)),
+    );
+    list.push(count as u32);
+    for _ in 0..count {
+        term_numbers(random, &mut list, kind, l);
+    }
+    list
+}
+
+fn term_numbers(random: &mut Random, list: &mut Vec<u32>, kind: u8, l: u32) {
+    let scale = match random.below(4) {
+        0 => random.from_to(1, 65_536) as u32,
+        1 => random.one_of(&[65_536, 65_535, 16_384, 16_383, 128, 127]),
+        _ => random.from_to(1, 4) as u32,
+    };
+    let boys = match kind {
+        2 | 4 => random.from_to(0, l.into()) as u32,
+        _ => 0,
+    };
+    let most = if kind == 1 { l + 1 } else { l };
+    let count = match random.below(3) {
+        0 => u64::from(most),
+        _ => random.from_to(0, most.into()),
+    };
+    list.extend([scale, boys, count as u32]);
+    let size = second::table_size(kind) as u64;
+    for _ in 0..count {
+        list.push(random.below(size) as u32);
+    }
+}
+
+fn write(list: &[u32]) -> Vec<u8> {
+    let mut out = Vec::new();
+    for &number in list {
+        second::write_number(&mut out, number);
+    }
+    out
+}
+
+/// A legal roll, most often one that no expansion gives.
+pub fn legal(random: &mut Random) -> Vec<u8> {
+    write(&numbers(random))
+}
+
+/// A roll of the Rust's own terms.
+pub fn fresh(random: &mut Random) -> Vec<u8> {
+    let kind = random.below(5) as u8;
+    let orders = small_request(random, kind);
+    rust_side::roll(kind, &orders)
+}
+
+/// A roll of the Rust's own terms that may be long: any Coulomb request within the cap.
+pub fn fresh_and_long(random: &mut Random) -> Vec<u8> {
+    loop {
+        let orders = any_request(random, 4);
+        if second::count_histories(4, &orders) <= second::MOST_TERMS {
+            return rust_side::roll(4, &orders);
+        }
+    }
+}
+
+/// A legal roll with one number changed, mostly by little, or to a limit.
+fn one_number_changed(random: &mut Random) -> Vec<u8> {
+    let mut list = numbers(random);
+    let at = random.index(list.len().min(40));
+    list[at] = match random.below(4) {
+        0 => list[at].wrapping_add(1),
+        1 => list[at].wrapping_sub(1),
+        2 => random.one_of(&[0, 1, 4, 5, 7, 8, 9, 10, 11, 12, 13, 16, 17, 22, 23, 24]),
+        _ => random.one_of(&[
+            127,
+            128,
+            65_535,
+            65_536,
+            65_537,
+            1 << 28,
+            u32::MAX,
+            u32::MAX - 1,
+        ]),
+    };
+    write(&list)
+}
+
+/// A legal roll with one number in another form than the shortest, or too large.
+fn one_long_number(random: &mut Random) -> Vec<u8> {
+    let list = numbers(random);
+    let at = random.index(list.len().min(40));
+    let mut out = write(&list[..at]);
+    let mut number = Vec::new();
+    second::write_number(&mut number, list[at]);
+    match random.below(3) {
+        0 => {
+            // The same number with groups of zeros after it.
+            for _ in 0..random.from_to(1, 5) {
+                let last = number.len() - 1;
+                number[last] |= 128;
+                number.push(0);
+            }
+        }
+        1 => {
+            // Five bytes, the fifth around its limit.
+            number = vec![128, 128, 128, 128];
+            number.push(random.one_of(&[0, 1, 15, 16, 31, 0x7f, 0x80, 0x8f, 0x90, 0xff]));
+            if random.once_in(2) {
+                number.push(random.below(3) as u8);
+            }
+        }
+        _ => number = vec![random.one_of(&[128, 129, 255]); random.from_to(1, 6) as usize],
+    }
+    out.extend(number);
+    out.extend(write(&list[at + 1..]));
+    out
+}
+
+/// Bytes set, cut, inserted, doubled, left out or added.
+fn damaged(random: &mut Random) -> Vec<u8> {
+    let mut roll = if random.once_in(2) {
+        fresh(random)
+    } else {
+        legal(random)
+    };
+    for _ in 0..random.from_to(1, 2) {
+        let at = random.index(roll.len().max(1));
+        match random.below(7) {
+            0 if at < roll.len() => roll[at] = random.bits() as u8,
+            1 if at < roll.len() => roll[at] ^= 1 << random.below(8),
+            2 => roll.truncate(at),
+            3 => roll.insert(at, random.bits() as u8),
+            4 if at < roll.len() => roll.insert(at, roll[at]),
+            5 if at < roll.len() => {
+                roll.remove(at);
+            }
+            _ => roll.extend(vec![0; random.from_to(1, 3) as usize]),
+        }
+    }
+    roll
+}
+
+fn random_bytes(random: &mut Random) -> Vec<u8> {
+    let length = random.below(40);
+    let most = random.one_of(&[1, 2, 5, 24, 128, 256]);
+    (0..length).map(|_| random.below(most) as u8).collect()
+}
+
+/// A legal roll of exactly this length, which is large.
+pub fn of_length(random: &mut Random, length: usize) -> Vec<u8> {
+    let kind = random.one_of(&[2, 3, 4]);
+    let mut orders = [0; 12];
+    for order in orders[..second::orders_used(kind)].iter_mut().step_by(3) {
+        *order = 4;
+    }
+    let l = orders.iter().sum::<u8>();
+    let size = second::table_size(kind) as u64;
+    let mut list: Vec<Term> = Vec::new();
+    let term = |random: &mut Random, count: usize| Term {
+        scale: random.from_to(1, 127) as u32,
+        boys: 0,
+        prefactors: (0..count).map(|_| random.below(size) as u8).collect(),
+    };
+    // The count takes three bytes from 16,384 terms on and two below.
+    let header = 1 + second::orders_used(kind);
+    let room = |terms: usize| length - header - if terms >= 16_384 { 3 } else { 2 };
+    let each = 3 + usize::from(l) / 2;
+    let terms = room(length / each) / each;
+    let mut left = room(terms);
+    for at in 0..terms {
+        let share = left / (terms - at);
+        list.push(term(random, share - 3));
+        left -= share;
+    }
+    second::write_roll(kind, &orders, &list)
+}
+
+/// Small rolls, one of each kind, whose bytes are tried one by one.
+const SMALL: [(u8, [u8; 12]); 5] = [
+    (0, [1, 0, 0, 1, 0, 0, 0, 0, 0, 0, 0, 0]),
+    (1, [1, 0, 0, 0, 0, 0, 0, 0, 0, 0, 0, 0]),
+    (2, [0, 0, 0, 1, 0, 0, 0, 0, 0, 0, 0, 0]),
+    (3, [0, 0, 0, 0, 0, 0, 1, 0, 0, 0, 0, 0]),
+    (4, [0, 0, 0, 0, 0, 0, 1, 0, 0, 0, 0, 0]),
+];
+
+/// Each small roll, cut at each place, and with each byte set to each value.
+pub fn tried_one_by_one() -> Vec<Vec<u8>> {
+    let mut rolls = Vec::new();
+    for (kind, orders) in &SMALL {
+        let roll = rust_side::roll(*kind, orders);
+        for cut in 0..=roll.len() {
+            rolls.push(roll[..cut].to_vec());
+        }
+        for at in 0..roll.len() {
+            for byte in 0..=255 {
+                let mut changed = roll.clone();
+                changed[at] = byte;
+                rolls.push(changed);
+            }
+        }
+    }
+    rolls
+}
+
+/// Any roll, good or bad.
+pub fn any(random: &mut Random) -> Vec<u8> {
+    match random.below(6_000) {
+        0..=9 => {
+            let length = random.from_to(65_530, 65_542) as usize;
+            of_length(random, length)
+        }
+        10..=14 => {
+            let length = random.from_to(65_536, 80_000) as usize;
+            of_length(random, length)
+        }
+        15..=17 => fresh_and_long(random),
+        18..=20 => rust_side::roll(4, &random.one_of(&AT_THE_LISTING)),
+        21..=1_000 => fresh(random),
+        1_001..=2_300 => legal(random),
+        2_301..=3_700 => one_number_changed(random),
+        3_701..=4_500 => one_long_number(random),
+        4_501..=5_500 => damaged(random),
+        _ => random_bytes(random),
+    }
+}

@@ -1,0 +1,165 @@
+//! What the unchanged Rust answers: shells, terms, values, tables, J and K.
+
+use crate::parse::Centre;
+use crate::second::{self, Header, Term};
+use ndarray::Array;
+use rchem::integrals::{given, os86};
+use rchem::{basis, shell};
+use std::cell::RefCell;
+
+/// get_ijk_list as bytes, three to a triple.
+pub fn shell_list(m: u8) -> Vec<u8> {
+    let list = shell::get_ijk_list(m.into());
+    list.iter().flatten().map(|&order| order as u8).collect()
+}
+
+/// A component as get_shell2 or get_shell4 lists it. The list of the last shells asked for is
+/// kept: the Rust builds it anew each time, and questions often ask for the same one.
+pub fn component(shells: &[u8], number: u32) -> Vec<u8> {
+    type Kept = (Vec<u8>, Vec<Vec<u8>>);
+    thread_local! {
+        static KEPT: RefCell<Kept> = RefCell::new(Kept::default());
+    }
+    KEPT.with(|kept| {
+        let mut kept = kept.borrow_mut();
+        if kept.0 != shells {
+            *kept = (shells.to_vec(), components(shells));
+        }
+        kept.1[number as usize].clone()
+    })
+}
+
+fn components(shells: &[u8]) -> Vec<Vec<u8>> {
+    let m: Vec<usize> = shells.iter().map(|&m| m.into()).collect();
+    let bytes = |orders: &[usize]| orders.iter().map(|&order| order as u8).collect();
+    if m.len() == 2 {
+        let list = shell::pair(m[0], m[1]);
+        list.iter().map(|orders| bytes(orders)).collect()
+    } else {
+        let list = shell::quadruple(m[0], m[1], m[2], m[3]);
+        list.iter().map(|orders| bytes(orders)).collect()
+    }
+}
+
+/// The terms of apply_os2 or apply_os4, for orders within the limits and the cap.
+pub fn terms(kind: u8, orders: &[u8; 12]) -> Vec<Term> {
+    let q = orders.map(|order| order as i8);
+    let list = if kind == 4 {
+        os86::terms4(q)
+    } else {
+        let pair = [q[0], q[1], q[2], q[3], q[4], q[5]];
+        os86::terms2(kind, pair, [q[6], q[7], q[8]])
+    };
+    list.into_iter().map(whole_term).collect()
+}
+
+/// Scales are whole numbers that f64 holds exactly.
+fn whole_term(term: rchem::Term) -> Term {
+    assert_eq!(term.scale, f64::from(term.scale as u32));
+    Term {
+        scale: term.scale as u32,
+        boys: term.boys,
+        prefactors: term.prefactors.into_iter().map(|p| p as u8).collect(),
+    }
+}
+
+/// The roll of the Rust's own terms.
+pub fn roll(kind: u8, orders: &[u8; 12]) -> Vec<u8> {
+    second::write_roll(kind, orders, &terms(kind, orders))
+}
+
+/// Is this list the one that the Rust expands from the header's kind and orders?
+pub fn is_own_list(header: &Header, list: &[Term]) -> bool {
+    // The count is cheap; most lists that are not the Rust's own fail here.
+    second::count_histories(header.kind, &header.orders) == header.count
+        && terms(header.kind, &header.orders) == list
+}
+
+/// The Rust's own aux (Coulomb: s) for these centres.
+pub fn aux(kind: u8, centres: &[Centre; 4]) -> f64 {
+    let [a, b, c, d] = centres;
+    match kind {
+        2 => {
+            boys::lend(&[1.0]);
+            os86::get_nuclear(a.z, b.z, &a.r, &b.r, &c.r, &[0; 6])
+        }
+        4 => os86::aux([a.z, b.z, c.z, d.z], &[a.r, b.r, c.r, d.r]),
+        _ => os86::get_overlap(a.z, b.z, &a.r, &b.r, &[0; 6]),
+    }
+}
+
+/// The value by the unchanged get_ function, which expands by itself and works out its aux.
+pub fn value(header: &Header, centres: &[Centre; 4], numbers: &[f64]) -> f64 {
+    let [a, b, c, d] = centres;
+    let q = header.orders.map(usize::from);
+    let pair = [q[0], q[1], q[2], q[3], q[4], q[5]];
+    boys::lend(numbers);
+    match header.kind {
+        0 => os86::get_overlap(a.z, b.z, &a.r, &b.r, &pair),
+        1 => os86::get_kinetic(a.z, b.z, &a.r, &b.r, &pair),
+        2 => os86::get_nuclear(a.z, b.z, &a.r, &b.r, &c.r, &pair),
+        3 => {
+            let (pair, operator) = moment_orders(header);
+            os86::moment(a.z, b.z, &a.r, &b.r, &c.r, &pair, &operator)
+        }
+        _ => os86::get_coulomb(a.z, b.z, c.z, d.z, &a.r, &b.r, &c.r, &d.r, &q),
+    }
+}
+
+/// The value by the Rust's sum loops, fed with terms and aux.
+pub fn value_of_terms(
+    header: &Header,
+    list: &[Term],
+    centres: &[Centre; 4],
+    aux: f64,
+    numbers: &[f64],
+) -> f64 {
+    let [a, b, c, d] = centres;
+    let q = header.orders.map(usize::from);
+    let pair = [q[0], q[1], q[2], q[3], q[4], q[5]];
+    let list = list.iter().map(|term| rchem::Term {
+        scale: term.scale.into(),
+        boys: term.boys,
+        prefactors: term.prefactors.iter().map(|&p| p.into()).collect(),
+    });
+    given::give(list.collect(), aux);
+    boys::lend(numbers);
+    match header.kind {
+        0 => given::get_overlap(a.z, b.z, &a.r, &b.r, &pair),
+        1 => given::get_kinetic(a.z, b.z, &a.r, &b.r, &pair),
+        2 => given::get_nuclear(a.z, b.z, &a.r, &b.r, &c.r, &pair),
+        3 => {
+            let (pair, operator) = moment_orders(header);
+            given::moment(a.z, b.z, &a.r, &b.r, &c.r, &pair, &operator)
+        }
+        _ => given::get_coulomb(a.z, b.z, c.z, d.z, &a.r, &b.r, &c.r, &d.r, &q),
+    }
+}
+
+fn moment_orders(header: &Header) -> ([u8; 6], [u8; 3]) {
+    let o = header.orders;
+    ([o[0], o[1], o[2], o[3], o[4], o[5]], [o[6], o[7], o[8]])
+}
+
+/// Geometry numbers and prefactor table as the Rust's own lines work them out.
+pub fn geometry_and_table(kind: u8, centres: &[Centre; 4]) -> (Vec<f64>, Vec<f64>) {
+    let empty = Header {
+        kind,
+        orders: [0; 12],
+        l: 0,
+        count: 0,
+        place: 0,
+    };
+    value_of_terms(&empty, &[], centres, 0.0, &[0.0]);
+    given::kept()
+}
+
+/// J and K of JK_inmem, row by row.
+pub fn j_and_k(n: usize, i: &[f64], d: &[f64]) -> (Vec<f64>, Vec<f64>) {
+    let mut tensor = Array::zeros((n, n, n, n));
+    tensor.entries_mut().copy_from_slice(i);
+    let mut density = Array::zeros((n, n));
+    density.entries_mut().copy_from_slice(d);
+    let (j, k) = basis::JK_inmem(&tensor, &density);
+    (j.entries().to_vec(), k.entries().to_vec())
+}

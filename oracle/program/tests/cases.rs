@@ -1,0 +1,245 @@
+//! Document 01's cases, and the lines that are no question.
+
+use oracle::answer::answer_line;
+
+fn ask(question: &str) -> String {
+    let mut answer = Vec::new();
+    answer_line(question.as_bytes(), &mut answer);
+    String::from_utf8(answer).expect("answers are text")
+}
+
+/// Expands, then lists the roll: the terms as the listing writes them.
+fn terms(request: &str) -> String {
+    let expanded = ask(&format!("expand {}", request));
+    let roll = expanded.rsplit(' ').next().expect("an answer has words");
+    let listing = ask(&format!("list {}", roll));
+    let after_header = listing.find('|').expect("a listing has a first line") + 1;
+    listing[after_header..].to_string()
+}
+
+#[test]
+fn rolls_that_01_prints() {
+    assert_eq!(
+        ask("expand 0 0 0 0 0 0 0 0 0 0 0 0 0"),
+        "roll 11 terms 1 0000000000000001010000"
+    );
+    assert_eq!(
+        ask("expand 0 1 0 0 1 0 0 0 0 0 0 0 0"),
+        "roll 17 terms 2 0001000001000002010002000101000107"
+    );
+}
+
+#[test]
+fn terms_that_01_prints() {
+    let cases = [
+        ("0 0 0 0 0 0 0 0 0 0 0 0 0", "1 1 0:|"),
+        ("0 1 0 0 1 0 0 0 0 0 0 0 0", "1 1 0: 0 1|2 1 0: 7|"),
+        ("0 2 0 0 0 0 0 0 0 0 0 0 0", "1 1 0: 0 0|2 1 0: 6|"),
+        (
+            "0 3 0 0 0 0 0 0 0 0 0 0 0",
+            "1 1 0: 0 0 0|2 1 0: 0 6|3 2 0: 6 0|",
+        ),
+        ("1 1 0 0 0 0 0 0 0 0 0 0 0", "1 1 0: 0|2 1 0: 8 0|"),
+        (
+            "1 2 0 0 0 0 0 0 0 0 0 0 0",
+            "1 1 0: 0 0|2 1 0: 0 8 0|3 1 0: 6|4 1 0: 8 0 0|5 1 0: 8 6|6 1 0: 9|",
+        ),
+        ("2 1 0 0 0 0 0 0 0 0 0 0 0", "1 1 0: 0|2 1 1: 6|"),
+        ("3 0 0 0 0 0 0 2 0 0 0 0 0", "1 1 0: 6 6|2 1 0: 9|"),
+        ("3 1 0 0 0 0 0 1 0 0 0 0 0", "1 1 0: 0 6|2 1 0: 11|"),
+        (
+            "4 1 0 0 0 0 0 1 0 0 0 0 0",
+            "1 1 0: 0 2|2 1 1: 0 5|3 1 1: 4 2|4 1 2: 4 5|5 1 1: 22|",
+        ),
+    ];
+    for (request, expected) in cases {
+        assert_eq!(terms(request), expected, "{}", request);
+    }
+}
+
+#[test]
+fn two_histories_with_equal_terms() {
+    let text = terms("4 1 0 0 0 0 0 1 0 0 1 0 0");
+    let equal = text.split('|').filter(|line| line.ends_with(" 1 2: 22 5"));
+    assert_eq!(equal.count(), 2);
+}
+
+#[test]
+fn the_listing_that_01_prints() {
+    assert_eq!(
+        ask("list 0001000001000002010002000101000107"),
+        "listing kind 0 orders 1 0 0 1 0 0 terms 2|1 1 0: 0 1|2 1 0: 7|"
+    );
+}
+
+#[test]
+fn shells() {
+    assert_eq!(
+        ask("shell 2"),
+        "shell 18 020000010100010001000200000101000002"
+    );
+    assert_eq!(ask("shell 2 18 0"), ask("shell 2"));
+    assert_eq!(ask("shell 2 18 18"), "refused 6");
+    assert_eq!(ask("shell 2 18 19"), "refused 5");
+    assert_eq!(ask("shell 2 17 0"), "refused 6");
+    assert_eq!(ask("shell 5 0 1"), "refused 2");
+    assert_eq!(ask("component 1 1 1"), "component 010000000100");
+    assert_eq!(
+        ask("component 4 4 4 4 50624"),
+        "component 000004000004000004000004"
+    );
+    assert_eq!(ask("component 4 4 4 4 50625"), "refused 13");
+    assert_eq!(ask("component 5 4 4 4 50625"), "refused 2");
+}
+
+#[test]
+fn refusals_of_a_request() {
+    let cases = [
+        ("4 4 0 0 4 0 0 4 0 0 4 0 0", "refused 4"),
+        ("4 4 0 0 4 0 0 4 0 0 4 0 0 0 0", "refused 4"),
+        ("4 4 0 0 4 0 0 4 0 0 4 0 0 0 1", "refused 5"),
+        ("0 5 0 0 0 0 0 0 0 0 0 0 0", "refused 2"),
+        ("0 2 2 1 0 0 0 0 0 0 0 0 0", "refused 2"),
+        ("0 255 255 2 0 0 0 0 0 0 0 0 0", "refused 2"),
+        ("0 0 0 0 0 0 0 9 0 0 0 0 0", "refused 3"),
+        ("3 0 0 0 0 0 0 0 0 0 0 0 1", "refused 3"),
+        ("5 9 0 0 0 0 0 0 0 0 0 0 0", "refused 1"),
+        ("0 0 0 0 0 0 0 0 0 0 0 0 0 20 20", "refused 6"),
+        ("0 0 0 0 0 0 0 0 0 0 0 0 0 20 21", "refused 5"),
+        ("0 0 0 0 0 0 0 0 0 0 0 0 0 20 10", "refused 6"),
+    ];
+    for (request, expected) in cases {
+        assert_eq!(ask(&format!("expand {}", request)), expected, "{}", request);
+    }
+    assert!(ask("expand 0 4 0 0 0 0 0 0 0 0 0 0 0").starts_with("roll"));
+    assert!(ask("expand 0 0 0 0 0 0 0 0 0 0 0 0 0 20 9").starts_with("roll"));
+}
+
+#[test]
+fn reading() {
+    let cases = [
+        ("open 8000", "refused 7 at 0"),
+        ("check 8000", "refused 7 at 0"),
+        ("list 8000", "refused 7 at 0"),
+        ("open -", "refused 7 at 0"),
+        ("open 05", "refused 7 at 0"),
+        ("open 0000000000000001", "opened 0 0 1 0 0 0 0 0 0 place 8"),
+        ("check 0000000000000001", "refused 7 at 8"),
+        (
+            "check 0000000000000001010000",
+            "opened 0 0 1 0 0 0 0 0 0 place 8",
+        ),
+        ("check 000000000000000101000000", "refused 7 at 11"),
+        ("open 0002020100000001", "refused 7 at 3"),
+        ("check 0000000000000001010100", "refused 7 at 9"),
+        ("check 01000000000000010100020808", "refused 7 at 10"),
+        (
+            "check 010000000000000101000108",
+            "opened 1 0 1 0 0 0 0 0 0 place 8",
+        ),
+        (
+            "check 00000000000000018080040000",
+            "opened 0 0 1 0 0 0 0 0 0 place 8",
+        ),
+        ("check 00000000000000018180040000", "refused 7 at 8"),
+        ("next 0 0 1 8 0000000000000001010000", "term 1 0 next 11 0"),
+        ("next 0 0 0 11 0000000000000001010000", "end"),
+        ("next 0 0 0 10 0000000000000001010000", "refused 7 at 10"),
+        ("next 0 0 0 12 0000000000000001010000", "refused 7 at 12"),
+        ("next 5 0 0 11 0000000000000001010000", "refused 7 at 11"),
+        ("next 0 9 0 11 0000000000000001010000", "refused 7 at 11"),
+    ];
+    for (question, expected) in cases {
+        assert_eq!(ask(question), expected, "{}", question);
+    }
+}
+
+#[test]
+fn numbers() {
+    let one = "3ff0000000000000";
+    let centre = |z: &str| format!("0 0 0 {}", z);
+    let (good, minus_zero) = (centre(one), centre("8000000000000000"));
+    let roll = "0000000000000001010000";
+    let eval = |a: &str, rest: &str| {
+        ask(&format!(
+            "eval {} {} {} 0 0 0 0 7ff0000000000000 0 0 0 {}",
+            roll, a, good, rest
+        ))
+    };
+    assert_eq!(eval(&good, one), "value 3ff0000000000000");
+    assert_eq!(eval(&minus_zero, one), "refused 9");
+    assert_eq!(eval(&minus_zero, "7ff0000000000000"), "refused 8");
+    assert_eq!(eval(&good, "3ff0000000000000 0"), "refused 10");
+    assert_eq!(
+        eval(&good, "3ff0000000000000 fff0000000000000"),
+        "refused 8"
+    );
+    assert_eq!(ask("jk 0"), "refused 12");
+    assert_eq!(ask("jk 17"), "refused 12");
+    assert_eq!(
+        ask("jk 1 4000000000000000 4008000000000000"),
+        "J 4018000000000000 K 4018000000000000"
+    );
+    assert_eq!(ask("jkl 1 1 1 1 2 0 0"), "refused 12");
+    assert_eq!(ask("jkl 1 1 1 1 1 0 7ff0000000000000"), "refused 8");
+    assert_eq!(ask("jk 1 7fefffffffffffff 7fefffffffffffff"), "refused 11");
+    let table = ask(&format!("table 0 {} {} 0 0 0 0 0 0 0 0", good, good));
+    assert_eq!(table.split(' ').count(), 24);
+    assert_eq!(
+        ask(&format!("table 5 {} {} 0 0 0 0 0 0 0 0", good, good)),
+        "refused 1"
+    );
+}
+
+#[test]
+fn lines_that_are_no_question() {
+    let lines = [
+        "shell",
+        "shell ",
+        " shell 2",
+        "shell  2",
+        "shell\t2",
+        "shell 2\r",
+        "\r",
+        " ",
+        "shell 02",
+        "shell +2",
+        "shell -2",
+        "shell 256",
+        "shell 2 1048577 0",
+        "shell 2 0",
+        "shell 2 0 0 0",
+        "shell 2 0 18446744073709551616",
+        "SHELL 2",
+        "component 1 1",
+        "component 1 1 1 1",
+        "component 1 1 4294967296",
+        "component 1 1 1 1 1 1",
+        "open",
+        "open 0",
+        "open 0A",
+        "open --",
+        "open 00 ",
+        "next 0 0 4294967296 0 -",
+        "expand 0 0 0 0 0 0 0 0 0 0 0 0",
+        "expand 0 0 0 0 0 0 0 0 0 0 0 0 0 0",
+        "jk 0 0",
+        "jk 1 0",
+        "jk 1 0 0 0",
+        "jk 1 0 3FF0000000000000",
+        "jk 1 0 00000000000000000",
+        "jkl 0 65538 0 0 0",
+        "jkl 0 0 0 0 1025",
+        "jkl 0 1 0 0 0",
+        "answer",
+    ];
+    for line in lines {
+        assert_eq!(ask(line), "?", "{:?}", line);
+    }
+    for line in ["", "# shell 2", "#"] {
+        assert_eq!(ask(line), line);
+    }
+    let long = "#".repeat(2_097_152);
+    assert_eq!(ask(&long), long);
+    assert_eq!(ask(&(long + "#")), "?");
+}

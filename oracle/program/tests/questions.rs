@@ -1,0 +1,86 @@
+//! The random questions: as many lines as asked for, and every kind of answer among them.
+
+use oracle::answer::answer_all;
+use oracle::diff::class;
+use oracle::questions::{write_all, write_every_request, KINDS};
+use std::collections::BTreeSet;
+
+fn questions(kind: &str, count: u64, seed: u64) -> Vec<u8> {
+    let mut lines = Vec::new();
+    assert!(write_all(kind, count, seed, &mut lines).expect("memory takes all"));
+    lines
+}
+
+fn answers(questions: &[u8]) -> Vec<u8> {
+    let mut lines = Vec::new();
+    answer_all(questions, &mut lines).expect("memory takes all");
+    lines
+}
+
+fn lines(text: &[u8]) -> Vec<&[u8]> {
+    let text = text.strip_suffix(b"\n").unwrap_or(text);
+    text.split(|&byte| byte == b'\n').collect()
+}
+
+#[test]
+fn every_kind_of_answer_comes_up() {
+    for kind in KINDS {
+        let expected: &[&str] = match kind {
+            "shell" => &["shell", "refused  2", "refused  5", "refused  6"],
+            "component" => &["component", "refused  2", "refused 13"],
+            "expand" => &[
+                "roll",
+                "refused  1",
+                "refused  2",
+                "refused  3",
+                "refused  4",
+                "refused  5",
+                "refused  6",
+            ],
+            "list" => &["listing", "refused  6", "refused  7"],
+            "open" | "check" => &["opened", "refused  7"],
+            "next" => &["term", "end", "refused  7"],
+            "eval" => &[
+                "value",
+                "refused  7",
+                "refused  8",
+                "refused  9",
+                "refused 10",
+                "refused 11",
+            ],
+            "table" => &[
+                "table",
+                "refused  1",
+                "refused  8",
+                "refused  9",
+                "refused 11",
+            ],
+            _ => &["J", "refused  8", "refused 11", "refused 12"],
+        };
+        let asked = questions(kind, 3_000, 1);
+        let answered = answers(&asked);
+        let on_top = if kind == "component" { 50_625 } else { 0 };
+        assert_eq!(lines(&asked).len(), 3_000 + on_top, "{}", kind);
+        assert_eq!(lines(&answered).len(), 3_000 + on_top, "{}", kind);
+        let found: BTreeSet<String> = lines(&answered).into_iter().map(class).collect();
+        let both = ["?", "the same line"];
+        let expected = expected.iter().chain(&both).map(|word| word.to_string());
+        assert_eq!(found, expected.collect(), "{}", kind);
+    }
+}
+
+#[test]
+fn a_seed_gives_the_same_questions() {
+    assert!(questions("eval", 200, 5) == questions("eval", 200, 5));
+    assert!(questions("eval", 200, 5) != questions("eval", 200, 6));
+}
+
+#[test]
+fn every_request_is_asked_once() {
+    for (kind, count) in [(0, 1_225), (3, 42_875)] {
+        let mut text = Vec::new();
+        write_every_request(kind, &mut text).expect("memory takes all");
+        let different: BTreeSet<&[u8]> = lines(&text).into_iter().collect();
+        assert_eq!(different.len(), count);
+    }
+}
