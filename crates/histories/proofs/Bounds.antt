@@ -169,7 +169,7 @@ module _ (request : Kind) (orders : List ℕ) (s : State) (c : Centre) (x : Axis
       ⊎-elim (r .listed p) (λ (j : List·Memᴰ p (b .adds ∷ [])). subst (λ (q : ℕ). q < tableOf request) (sym (List·Memᴰ·eq-of-singleton j)) (f .in-table))
       (List·Memᴰ·append-cases (s .term .prefactors) i)
 
-  step-reached : Reached request orders (step s c x b)
+  pub step-reached : Reached request orders (step s c x b)
   unfolding step
   step-reached =
       record {
@@ -233,3 +233,12 @@ terms-kept request orders h = kept request orders (start request orders) (starte
 pub scale-limit : (request : Kind) (orders : List ℕ) (t : Term) → Kept request orders t → total orders ≤ mostOrders → t .scale ≤ mostScale
 scale-limit request orders t k h =
     square-le (t .scale) mostScale (le-trans (k .scale-most) (pow-le-pow-right (omega arith) h))
+
+-- the scale of a state on the way is at most the limit too
+pub scale-on-the-way : (request : Kind) (orders : List ℕ) (s : State) → Reached request orders s → total orders ≤ mostOrders → s .term .scale ≤ mostScale
+scale-on-the-way request orders s r h =
+    let power : 1 ≤ mostOrder ^ total (s .left) = pow-le-pow-right {n = mostOrder} (omega arith) {i = 0} (omega arith) in
+    let grows = mul-le-mul-left (s .term .scale * s .term .scale) power in
+    let whole = r .scale-most in
+    let most = pow-le-pow-right {n = mostOrder} (omega arith) h in
+    square-le (s .term .scale) mostScale (omega arith)

@@ -80,25 +80,25 @@ twice-total left c x first second =
     let two = less-total left (place c x) first in
     omega arith
 
-partner-apart : (c : Centre) (x : Axis) → place (partner c) x ≢ place c x
+pub partner-apart : (c : Centre) (x : Axis) → place (partner c) x ≢ place c x
 partner-apart A x = omega arith
 partner-apart B x = omega arith
 partner-apart C x = omega arith
 partner-apart D x = omega arith
 
-other-c-apart : (c : Centre) (x : Axis) → place (other-c c) x ≢ place c x
+pub other-c-apart : (c : Centre) (x : Axis) → place (other-c c) x ≢ place c x
 other-c-apart A x = omega arith
 other-c-apart B x = omega arith
 other-c-apart C x = omega arith
 other-c-apart D x = omega arith
 
-other-d-apart : (c : Centre) (x : Axis) → place (other-d c) x ≢ place c x
+pub other-d-apart : (c : Centre) (x : Axis) → place (other-d c) x ≢ place c x
 other-d-apart A x = omega arith
 other-d-apart B x = omega arith
 other-d-apart C x = omega arith
 other-d-apart D x = omega arith
 
-operator-apart : (c : Centre) (x : Axis) → apart a-and-o c ≡ true → place operator x ≢ place c x
+pub operator-apart : (c : Centre) (x : Axis) → apart a-and-o c ≡ true → place operator x ≢ place c x
 operator-apart A x e = omega arith
 operator-apart B x e = omega arith
 operator-apart C x e = absurd (let z : _≡_ {A = ℕ} 0 1 = cc in omega arith)

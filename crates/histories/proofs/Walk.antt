@@ -10,10 +10,14 @@ use lib.Dec.{eqb}
 use Rattle.kind.specs.declared.Kind.{Kind}
 use Rattle.kind.specs.declared.Kind.the-variants.{Overlap, Kinetic, Nuclear, Moment, Coulomb}
 use Rattle.term.specs.Terms.{Term}
+use Rattle.steps.specs.declared.Centre.{Centre}
+use Rattle.steps.specs.declared.Axis.{Axis}
+use Rattle.steps.specs.Choice.{orderOf}
+use Rattle.steps.specs.Steps.{Branch, branches, times}
 use Rattle.steps.specs.States.{State, Next, step, total, nexts}
 use Rattle.histories.specs.History.{stage, depth, over, walk, termOf, alone, expand, nothingMore, after, histories}
 use Rattle.histories.proofs.Orders.{fallen, lowered-total, axis-positive}
-use Rattle.histories.proofs.Fair.{Fair, follows, fair-branch}
+use Rattle.histories.proofs.Fair.{Fair, follows, own, fair-branch}
 use Rattle.histories.proofs.Choices.{chosen-own}
 use Rattle.histories.proofs.Nexts.{Legal, Turned, legal}
 
@@ -104,3 +108,13 @@ histories-done s e = walk-done nothingMore after (depth s) s e
 pub histories-more : (s : State) → (total (s .left) ≡ 0 → ⊥) → histories s ≡ over (λ (n : Next). after n (histories (n .state))) (nexts s)
 unfolding histories
 histories-more s e = walk-all nothingMore after s e
+
+-- a branch at a centre of the kind lowers the depth
+pub branch-down : (s : State) (c : Centre) (x : Axis) (b : Branch) → own (s .kind) c ≡ true → List·Memᴰ b (branches (s .kind) c x) → 0 < orderOf (s .left) c x → 0 < times (b .falls) c x (s .left)
+    → depth (step s c x b) < depth s
+unfolding depth step
+branch-down s c x b o m h l =
+    let f = fair-branch (s .kind) (s .kind) c x b (follows-itself (s .kind)) o m in
+    let t = lowered-total (b .falls) c x (s .left) (f .falls-apart) h l in
+    let d = f .goes-down in
+    omega arith

@@ -1,0 +1,197 @@
+-- What each call of the walk asks and gives, a law for each. The number that falls: nine for each step left, then the branches left.
+use Prim.Native.Nat.{ℕ, zero, suc, _+_, _*_, _-_, _/_, _%_, _^_, _≤_, _<_}
+use mathlib.Core.Path.{_≡_, refl, sym, ap, ap₂, subst, _∙_}
+use mathlib.Core.Bool.{true}
+use mathlib.Core.List.{List, [], _∷_, _++_, append-nil}
+use native.Mathlib.Omega.{arith}
+use lib.ListN.{length}
+use Rattle.kind.specs.declared.Kind.{Kind}
+use Rattle.kind.specs.Limits.{mostOrders, mostScale}
+use Rattle.term.specs.Terms.{Term}
+use Rattle.steps.specs.declared.Centre.{Centre}
+use Rattle.steps.specs.declared.Axis.{Axis}
+use Rattle.steps.specs.declared.Fun.{Fun}
+use Rattle.steps.specs.declared.Fun.the-variants.{Lower, Nothing as none}
+use Rattle.steps.specs.declared.Component.{Component}
+use Rattle.steps.specs.declared.Component.the-variants.{Along, Nowhere}
+use Rattle.steps.specs.Choice.{orderOf, chosen, firstAxis}
+use Rattle.steps.specs.Steps.{branches}
+use Rattle.steps.specs.States.{State, Next, start, turns, nexts, total}
+use Rattle.steps.specs.Packed.{orders, multiplierWord}
+use Rattle.steps.proofs.Falling.{some-left, none-left}
+use Rattle.histories.specs.History.{depth, over, expand}
+use Rattle.histories.proofs.Orders.{axis-positive}
+use Rattle.histories.proofs.Choices.{chosen-own}
+use Rattle.histories.proofs.Walk.{expand-done, expand-more}
+use Rattle.histories.proofs.Bounds.{Reached, scale-on-the-way}
+use Rattle.roll.specs.Bytes.{termBytes, termsBytes}
+use Rattle.expansion.specs.declared.Path.{Path}
+use Rattle.expansion.specs.declared.Child.{Child}
+use Rattle.expansion.specs.declared.Lowering.{Lowering}
+use Rattle.expansion.specs.declared.Lowering.the-variants.{At, Nothing}
+use Rattle.expansion.specs.View.{termAt, Emits, Emitted}
+use Rattle.expansion.specs.Walking.{viewOf, Good, Turn, ChildOf, lowering, onFun, onAxis, termsBelow, termsFrom, Room, NodeMay, BranchMay}
+use Rattle.expansion.proofs.Digits.{length-prefactors}
+use Rattle.expansion.proofs.Walking.{from-none, from-skip, from-legal, turn-next, below-eight, emitted-none, room-first, room-then, emitted-both}
+
+unfoldable pub nodeFuel : Kind → ℕ → Path → ℕ
+nodeFuel k left p = 9 * depth (viewOf k left p) + 9
+
+unfoldable pub branchFuel : Kind → ℕ → Path → ℕ → ℕ
+branchFuel k left p number = 9 * depth (viewOf k left p) + (8 - number)
+
+module _ (k : Kind) (left : List ℕ) (f : Fun) (is : f ≡ chosen k left) where
+  pub choose-none : f ≡ none → Nothing ≡ lowering k left
+  unfolding lowering
+  choose-none e = ap (λ (v : Fun). onFun v left) (sym e ∙ is)
+
+  module _ (c : Centre) (found : f ≡ Lower c) (v : Component) (axis : v ≡ firstAxis left c) where
+    pub choose-nowhere : v ≡ Nowhere → Nothing ≡ lowering k left
+    unfolding lowering
+    choose-nowhere e = ap (onAxis c) (sym e ∙ axis) ∙ ap (λ (w : Fun). onFun w left) (sym found ∙ is)
+
+    pub choose-at : (x : Axis) → v ≡ Along x → At c x ≡ lowering k left
+    unfolding lowering
+    choose-at x e = ap (onAxis c) (sym e ∙ axis) ∙ ap (λ (w : Fun). onFun w left) (sym found ∙ is)
+
+module _ (k : Kind) (left : ℕ) (p : Path) (c : Centre) (x : Axis) (times number at : ℕ) (out : List ℕ) (may : BranchMay k left p c x times number at out) where
+  pub branch-none : times ≡ 0 → Emitted (termsBytes (termsFrom k left p c x number)) at out at out
+  branch-none e = emitted-none (termsFrom k left p c x number) at out (from-none k left c x times number (may .turn) p e)
+
+  module _ (some : times ≡ 0 → ⊥) where
+    pub number-fits : number + 1 < 256
+    number-fits = let h = below-eight k left c x times number (may .turn) some in omega arith
+
+    pub skip-falls : (t : ℕ) → branchFuel k left p number ≡ t → branchFuel k left p (number + 1) < t
+    unfolding branchFuel
+    skip-falls t e = let h = below-eight k left c x times number (may .turn) some in omega arith
+
+    pub skip-may : times % 16 ≡ 0 → BranchMay k left p c x (times / 16) (number + 1) at out
+    skip-may e =
+        record {
+          good = may .good;
+          turn = turn-next k left c x times number (may .turn) some;
+          room = subst (λ (ts : List Term). Room ts at out) (sym (from-skip k left c x times number (may .turn) some p e)) (may .room);
+        }
+
+    pub skipped : (r : ℕ) (after : List ℕ) → times % 16 ≡ 0 → Emitted (termsBytes (termsFrom k left p c x (number + 1))) at out r after → Emitted (termsBytes (termsFrom k left p c x number)) at out r after
+    skipped r after e h = subst (λ (ts : List Term). Emitted (termsBytes ts) at out r after) (from-skip k left c x times number (may .turn) some p e) h
+
+  module _ (child : Child) (legal : times % 16 ≡ 0 → ⊥) (of : ChildOf k left p c x number child) where
+    some-times : times ≡ 0 → ⊥
+    some-times e = legal (omega arith)
+
+    split : termsFrom k left p c x number ≡ termsBelow (child .kind) (child .left) (child .path) ++ termsFrom k left p c x (number + 1)
+    split = from-legal k left c x times number (may .turn) some-times p child legal of
+
+    pub child-falls : (t : ℕ) → branchFuel k left p number ≡ t → nodeFuel (child .kind) (child .left) (child .path) < t
+    unfolding branchFuel nodeFuel
+    child-falls t e = let h = below-eight k left c x times number (may .turn) some-times in let d = of .down in omega arith
+
+    pub child-may : NodeMay (child .kind) (child .left) (child .path) at out
+    child-may = record { good = of .good; room = room-first (termsFrom k left p c x number) (termsBelow (child .kind) (child .left) (child .path)) (termsFrom k left p c x (number + 1)) split at out (may .room) }
+
+    module _ (next : ℕ) (mid : List ℕ) (first : Emitted (termsBytes (termsBelow (child .kind) (child .left) (child .path))) at out next mid) where
+      pub then-may : BranchMay k left p c x (times / 16) (number + 1) next mid
+      then-may =
+          record {
+            good = may .good;
+            turn = turn-next k left c x times number (may .turn) some-times;
+            room = room-then (termsFrom k left p c x number) (termsBelow (child .kind) (child .left) (child .path)) (termsFrom k left p c x (number + 1)) split at out next mid first (may .room);
+          }
+
+      pub then-done : (r : ℕ) (after : List ℕ) → Emitted (termsBytes (termsFrom k left p c x (number + 1))) next mid r after → Emitted (termsBytes (termsFrom k left p c x number)) at out r after
+      then-done r after h =
+          emitted-both (termsFrom k left p c x number) (termsBelow (child .kind) (child .left) (child .path)) (termsFrom k left p c x (number + 1)) split at out next mid first r after h
+
+module _ (k : Kind) (left : ℕ) (p : Path) (at : ℕ) (out : List ℕ) (may : NodeMay k left p at out) where
+  done : left ≡ 0 → termsBelow k left p ≡ termAt p ∷ []
+  unfolding termsBelow
+  done e = expand-done (viewOf k left p) (ap (λ (w : ℕ). total (orders w)) e ∙ none-left)
+
+  one-term : left ≡ 0 → termsBytes (termsBelow k left p) ≡ termBytes (termAt p)
+  unfolding termsBytes
+  one-term e = ap termsBytes (done e) ∙ append-nil (termBytes (termAt p))
+
+  pub node-emits : left ≡ 0 → Emits p at out
+  unfolding depth
+  node-emits e =
+      let g = may .good in
+      let r = g .reached in
+      let deep = g .deep in
+      let scale = scale-on-the-way (g .request) (g .request-orders) (viewOf k left p) r (omega arith) in
+      let counted = r .counted in
+      let count = length-prefactors (p .count) (p .low) (p .high) in
+      let boys = r .boys-most in
+      let room = may .room .fits in
+      let bytes = ap length (one-term e) in
+      record { scale = omega arith; boys = omega arith; count = omega arith; room = omega arith }
+
+  pub node-emitted : (r : ℕ) (after : List ℕ) → left ≡ 0 → Emitted (termBytes (termAt p)) at out r after → Emitted (termsBytes (termsBelow k left p)) at out r after
+  node-emitted r after e h = subst (λ (bytes : List ℕ). Emitted bytes at out r after) (sym (one-term e)) h
+
+  module _ (some : left ≡ 0 → ⊥) where
+    more : termsBelow k left p ≡ over (λ (n : Next). expand (n .state)) (nexts (viewOf k left p))
+    unfolding termsBelow
+    more = expand-more (viewOf k left p) (some-left left (may .good .word) some)
+
+    pub node-none : (r : Lowering) → r ≡ lowering k (orders left) → r ≡ Nothing → Emitted (termsBytes (termsBelow k left p)) at out at out
+    unfolding lowering nexts over
+    node-none r i e = emitted-none (termsBelow k left p) at out (more ∙ ap (over (λ (n : Next). expand (n .state))) (by-fun (chosen k (orders left)) refl (sym i ∙ e)))
+      where
+        by-axis : (c : Centre) (v : Component) → onAxis c v ≡ Nothing → Rattle.steps.specs.States.onAxis c v (viewOf k left p) ≡ []
+        by-axis c Nowhere f = refl
+        by-axis c (Along x) f = absurd (let z : _≡_ {A = ℕ} 0 1 = cc in omega arith)
+
+        by-fun : (v : Fun) → chosen k (orders left) ≡ v → onFun v (orders left) ≡ Nothing → Rattle.steps.specs.States.onFun v (viewOf k left p) ≡ []
+        by-fun none f g = refl
+        by-fun (Lower c) f g = by-axis c (firstAxis (orders left) c) g
+
+    module _ (r : Lowering) (c : Centre) (x : Axis) (is : r ≡ lowering k (orders left)) (at-them : r ≡ At c x) where
+      -- what a choice of both says
+      record Both : Type 0 where
+        picked : chosen k (orders left) ≡ Lower c
+        along : firstAxis (orders left) c ≡ Along x
+
+      both : Both
+      unfolding lowering
+      both = by-fun (chosen k (orders left)) refl (sym is ∙ at-them)
+        where
+          by-axis : (d : Centre) (v : Component) → chosen k (orders left) ≡ Lower d → firstAxis (orders left) d ≡ v → onAxis d v ≡ At c x → Both
+          by-axis d Nowhere p f g = absurd (let z : _≡_ {A = ℕ} 0 1 = cc in omega arith)
+          by-axis d (Along y) p f g =
+              let same : d ≡ c = cc in
+              let axis : y ≡ x = cc in
+              record { picked = p ∙ ap Lower same; along = subst (λ (e : Centre). firstAxis (orders left) e ≡ Along x) same (f ∙ ap Along axis) }
+
+          by-fun : (v : Fun) → chosen k (orders left) ≡ v → onFun v (orders left) ≡ At c x → Both
+          by-fun none f g = absurd (let z : _≡_ {A = ℕ} 0 1 = cc in omega arith)
+          by-fun (Lower d) f g = by-axis d (firstAxis (orders left) d) f refl g
+
+      from-first : termsBelow k left p ≡ termsFrom k left p c x 0
+      unfolding termsFrom nexts
+      from-first =
+          more
+          ∙ ap (over (λ (n : Next). expand (n .state)))
+          (ap (λ (f : Fun). Rattle.steps.specs.States.onFun f (viewOf k left p)) (both .picked) ∙ ap (λ (v : Component). Rattle.steps.specs.States.onAxis c v (viewOf k left p)) (both .along))
+
+      pub first-falls : (t : ℕ) → nodeFuel k left p ≡ t → branchFuel k left p 0 < t
+      unfolding nodeFuel branchFuel
+      first-falls t e = omega arith
+
+      pub first-may : (times : ℕ) → times ≡ multiplierWord c x (orders left) (branches k c x) → BranchMay k left p c x times 0 at out
+      first-may times e =
+          record {
+            good = may .good;
+            turn =
+                record {
+                  own-centre = chosen-own k (orders left) c (both .picked);
+                  positive = axis-positive (orders left) c x (both .along);
+                  few = omega arith;
+                  is = e;
+                };
+            room = subst (λ (ts : List Term). Room ts at out) from-first (may .room);
+          }
+
+      pub first-done : (next : ℕ) (after : List ℕ) → Emitted (termsBytes (termsFrom k left p c x 0)) at out next after → Emitted (termsBytes (termsBelow k left p)) at out next after
+      first-done next after h = subst (λ (ts : List Term). Emitted (termsBytes ts) at out next after) (sym from-first) h

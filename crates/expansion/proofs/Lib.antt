@@ -1,0 +1,5 @@
+pub mod Children
+pub mod Cycle
+pub mod Digits
+pub mod Emission
+pub mod Walking

@@ -1,0 +1,56 @@
+-- What the packed path of a term means.
+use Prim.Native.Nat.{ℕ, zero, suc, _+_, _*_, _-_, _/_, _%_, _^_, _<_, _≤_}
+use mathlib.Core.Path.{_≡_}
+use mathlib.Core.Bool.{Bool, true, false, cond}
+use mathlib.Core.List.{List, [], _∷_, _++_}
+use lib.Dec.{leb}
+use lib.ListN.{length}
+use lib.Seq.{sets}
+use Rattle.term.specs.Terms.{Term}
+use Rattle.number.specs.Numbers.{bytesOf}
+use Rattle.roll.specs.Bytes.{termBytes}
+use Rattle.expansion.specs.declared.Path.{Path}
+
+-- the last n digits of five bits, the last one lowest
+unfoldable pub digits : ℕ → ℕ → List ℕ
+digits zero w = []
+digits (suc n) w = digits n (w / 32) ++ ((w % 32) ∷ [])
+
+-- a word has room for twelve
+unfoldable pub prefactorsOf : ℕ → ℕ → ℕ → List ℕ
+prefactorsOf count low high = cond (leb count 12) (digits count low) (digits 12 high ++ digits (count - 12) low)
+
+abbrev pub termAt : Path → Term
+termAt p = record { scale = p .scale; boys = p .boys; prefactors = prefactorsOf (p .count) (p .low) (p .high) }
+
+-- there is room for a term's bytes, and each of its numbers but the scale takes one
+pub record Emits (p : Path) (at : ℕ) (out : List ℕ) : Type 0 where
+  pub scale : p .scale < 2 ^ 32
+  pub boys : p .boys < 128
+  pub count : p .count < 25
+  pub room : at + length (termBytes (termAt p)) ≤ length out
+
+pub record ScaleFits (scale at : ℕ) (out : List ℕ) : Type 0 where
+  pub below : scale < 2 ^ 32
+  pub room : at + length (bytesOf scale) ≤ length out
+
+pub record RestFits (boys count at : ℕ) (out : List ℕ) : Type 0 where
+  pub boys-small : boys < 128
+  pub count-small : count < 25
+  pub room : at + 2 + count ≤ length out
+
+-- bytes are stored from a place on, and the place after them comes back
+pub record Emitted (bytes : List ℕ) (at : ℕ) (before : List ℕ) (r : ℕ) (after : List ℕ) : Type 0 where
+  pub next : r ≡ at + length bytes
+  pub out : after ≡ sets before at bytes
+
+-- a step that the words have room for
+pub record Moves (p : Path) (times raises adds : ℕ) : Type 0 where
+  pub scale : p .scale * times < 2 ^ 64
+  pub boys : p .boys + raises < 2 ^ 64
+  pub adds-small : adds < 32
+  pub count : p .count < 24
+
+-- a term one step further on
+abbrev pub further : Term → ℕ → ℕ → ℕ → Term
+further t times raises adds = record { scale = t .scale * times; boys = t .boys + raises; prefactors = t .prefactors ++ (adds ∷ []) }

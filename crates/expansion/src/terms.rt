@@ -1,0 +1,119 @@
+// A term on its way, and its bytes.
+ghost use mathlib.Core.Path.{_≡_};
+ghost use mathlib.Core.List.{[], _∷_, _++_};
+ghost use Prim.Native.Nat.{_+_, _*_, _<_, _≤_, _^_};
+ghost use lib.ListN.{length};
+ghost use lib.Seq.{sets};
+ghost use Rattle.number.specs.Numbers.{bytesOf};
+ghost use Rattle.roll.specs.Bytes.{termBytes};
+ghost use Rattle.expansion.specs.View.{digits, prefactorsOf, termAt, Emits, Emitted, ScaleFits, RestFits, Moves, further};
+use crate::Path;
+use number::Written;
+
+// The path with one prefactor more.
+pub(crate) fn pushed(path: Path, prefactor: u64) -> Path
+    requires { ⌜ (prefactor < 32) × (path .count < 24) ⌝ }
+    ensures { λ r. ⌜ termAt r ≡ record { scale = path .scale; boys = path .boys; prefactors = termAt path .prefactors ++ (prefactor ∷ []) } ⌝ }
+{
+    if path.count == 12 {
+        return Path {
+            scale: path.scale,
+            boys: path.boys,
+            count: 13,
+            low: prefactor,
+            high: path.low,
+        };
+    }
+    Path {
+        scale: path.scale,
+        boys: path.boys,
+        count: path.count + 1,
+        low: path.low % 0x80_0000_0000_0000 * 32 + prefactor,
+        high: path.high,
+    }
+}
+
+// Writes the last `count` digits of a word, the last digit at the end.
+fn put_digits(out: &mut [u8], at: usize, count: usize, word: u64)
+    requires { ⌜ at + count ≤ length (now out) ⌝ }
+    ensures { λ _. ⌜ now (out .exit) ≡ sets (now (out .entry)) at (digits count word) ⌝ }
+{
+    let mut rest = word;
+    let mut i = count;
+    while 0 < i {
+        i -= 1;
+        out[at + i] = (rest % 32) as u8;
+        rest = rest / 32;
+    }
+}
+
+// Writes the prefactors, one byte each.
+fn put_prefactors(out: &mut [u8], at: usize, count: usize, low: u64, high: u64)
+    requires { ⌜ at + count ≤ length (now out) ⌝ }
+    ensures { λ _. ⌜ now (out .exit) ≡ sets (now (out .entry)) at (prefactorsOf count low high) ⌝ }
+{
+    if count <= 12 {
+        put_digits(out, at, count, low);
+        return;
+    }
+    put_digits(out, at, 12, high);
+    put_digits(out, at + 12, count - 12, low);
+}
+
+// Writes the scale. Most have one byte.
+fn put_scale(out: &mut [u8], at: usize, scale: u64) -> usize
+    requires { ⌜ ScaleFits scale at (now out) ⌝ }
+    ensures { λ r. ⌜ Emitted (bytesOf scale) at (now (out .entry)) r (now (out .exit)) ⌝ }
+{
+    if scale < 128 {
+        out[at] = scale as u8;
+        return at + 1;
+    }
+    let written = number::write(out, at, scale as u32);
+    match written {
+        Written::Next(next) => next,
+        Written::NoRoom => at,
+    }
+}
+
+// Writes what stands after the scale, one byte each.
+fn put_rest(out: &mut [u8], at: usize, boys: u64, count: usize, low: u64, high: u64) -> usize
+    requires { ⌜ RestFits boys count at (now out) ⌝ }
+    ensures { λ r. ⌜ Emitted (boys ∷ count ∷ prefactorsOf count low high) at (now (out .entry)) r (now (out .exit)) ⌝ }
+{
+    out[at] = boys as u8;
+    out[at + 1] = count as u8;
+    put_prefactors(out, at + 2, count, low, high);
+    at + 2 + count
+}
+
+// Writes a term, for which there is room.
+pub(crate) fn emit(out: &mut [u8], at: usize, path: Path) -> usize
+    requires { ⌜ Emits path at (now out) ⌝ }
+    ensures { λ r. ⌜ Emitted (termBytes (termAt path)) at (now (out .entry)) r (now (out .exit)) ⌝ }
+{
+    let next = put_scale(out, at, path.scale);
+    put_rest(
+        out,
+        next,
+        path.boys,
+        path.count as usize,
+        path.low,
+        path.high,
+    )
+}
+
+// The path one step further on.
+pub(crate) fn moved(path: Path, times: u64, raises: u64, adds: u64) -> Path
+    requires { ⌜ Moves path times raises adds ⌝ }
+    ensures { λ r. ⌜ termAt r ≡ further (termAt path) times raises adds ⌝ }
+{
+    let on = Path {
+        scale: path.scale * times,
+        boys: path.boys + raises,
+        count: path.count,
+        low: path.low,
+        high: path.high,
+    };
+    pushed(on, adds)
+}

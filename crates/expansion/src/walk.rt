@@ -1,0 +1,125 @@
+// The walk over all complete histories. A term's children are written in turn before its next sibling.
+ghost use mathlib.Core.Path.{_≡_};
+ghost use Prim.Native.Nat.{_+_, _%_};
+ghost use Rattle.steps.specs.Packed.{orders};
+ghost use Rattle.roll.specs.Bytes.{termsBytes};
+ghost use Rattle.expansion.specs.View.{Emitted};
+ghost use Rattle.expansion.specs.Walking.{Good, Turn, ChildOf, lowering, termsBelow, termsFrom, NodeMay, BranchMay};
+use crate::Child;
+use crate::Lowering;
+use crate::Path;
+use crate::terms::emit;
+use crate::terms::moved;
+use kind::Kind;
+use steps::Axis;
+use steps::Centre;
+use steps::Component;
+use steps::Fun;
+
+// The centre and the axis that are lowered.
+pub(crate) fn choose(kind: Kind, left: u64) -> Lowering
+    ensures { λ r. ⌜ r ≡ lowering kind (orders left) ⌝ }
+{
+    let fun = steps::find_fun_to_lower(kind, left);
+    match fun {
+        Fun::Nothing => Lowering::Nothing,
+        Fun::Lower(centre) => {
+            let component = steps::find_component_to_lower(left, centre);
+            match component {
+                Component::Nowhere => Lowering::Nothing,
+                Component::Along(axis) => Lowering::At(centre, axis),
+            }
+        }
+    }
+}
+
+// Where a legal branch leads.
+fn child(
+    kind: Kind,
+    left: u64,
+    path: Path,
+    centre: Centre,
+    axis: Axis,
+    number: u8,
+    times: u64,
+) -> Child
+    requires { ⌜ Good kind left path ⌝ }
+    requires { ⌜ Turn kind left centre axis times number ⌝ }
+    requires { ⌜ (times % 16 ≡ 0 → ⊥) ⌝ }
+    ensures { λ r. ⌜ ChildOf kind left path centre axis number r ⌝ }
+{
+    let step = steps::branch(kind, centre, axis, number);
+    let goes_on = step.kind;
+    let on = moved(path, times % 16, step.raises, step.adds);
+    Child {
+        kind: goes_on,
+        left: left - step.falls,
+        path: on,
+    }
+}
+
+// Writes all terms below a state.
+pub(crate) fn node(out: &mut [u8], at: usize, kind: Kind, left: u64, path: Path) -> usize
+    requires { ⌜ NodeMay kind left path at (now out) ⌝ }
+    ensures { λ r. ⌜ Emitted (termsBytes (termsBelow kind left path)) at (now (out .entry)) r (now (out .exit)) ⌝ }
+{
+    if left == 0 {
+        return emit(out, at, path);
+    }
+    let lowered = choose(kind, left);
+    match lowered {
+        Lowering::Nothing => at,
+        Lowering::At(centre, axis) => {
+            let times = steps::multipliers(kind, left, centre, axis);
+            branch(out, at, kind, left, path, centre, axis, times, 0)
+        }
+    }
+}
+
+// Writes all terms below a state from a branch number on. `times` holds the multipliers of the branches left.
+fn branch(
+    out: &mut [u8],
+    at: usize,
+    kind: Kind,
+    left: u64,
+    path: Path,
+    centre: Centre,
+    axis: Axis,
+    times: u64,
+    number: u8,
+) -> usize
+    requires { ⌜ BranchMay kind left path centre axis times number at (now out) ⌝ }
+    ensures { λ r. ⌜ Emitted (termsBytes (termsFrom kind left path centre axis number)) at (now (out .entry)) r (now (out .exit)) ⌝ }
+{
+    if times == 0 {
+        return at;
+    }
+    if times % 16 == 0 {
+        return branch(
+            out,
+            at,
+            kind,
+            left,
+            path,
+            centre,
+            axis,
+            times / 16,
+            number + 1,
+        );
+    }
+    let next = child(kind, left, path, centre, axis, number, times);
+    let goes_on = next.kind;
+    let on = next.path;
+    let after = node(out, at, goes_on, next.left, on);
+    branch(
+        out,
+        after,
+        kind,
+        left,
+        path,
+        centre,
+        axis,
+        times / 16,
+        number + 1,
+    )
+}
