@@ -6,7 +6,7 @@ use mathlib.Core.List.{List, [], _∷_, _++_, append-nil}
 use native.Mathlib.Omega.{arith}
 use lib.ListN.{length}
 use Rattle.kind.specs.declared.Kind.{Kind}
-use Rattle.kind.specs.Limits.{mostOrders, mostScale}
+use Rattle.kind.specs.Limits.{requestOrders}
 use Rattle.term.specs.Terms.{Term}
 use Rattle.steps.specs.declared.Centre.{Centre}
 use Rattle.steps.specs.declared.Axis.{Axis}
@@ -104,40 +104,37 @@ module _ (k : Kind) (left : ℕ) (p : Path) (c : Centre) (x : Axis) (times numbe
       then-done r after h =
           emitted-both (termsFrom k left p c x number) (termsBelow (child .kind) (child .left) (child .path)) (termsFrom k left p c x (number + 1)) split at out next mid first r after h
 
-module _ (k : Kind) (left : ℕ) (p : Path) (at : ℕ) (out : List ℕ) (may : NodeMay k left p at out) where
-  done : left ≡ 0 → termsBelow k left p ≡ termAt p ∷ []
+-- the numbers of a path on the way are small
+pub record Words (p : Path) : Type 0 where
+  pub scale-fits : p .scale < 2 ^ 32
+  pub boys-fits : p .boys < 128
+  pub count-fits : p .count < 25
+
+pub good-words : (k : Kind) (left : ℕ) (p : Path) → Good k left p → Words p
+unfolding depth
+good-words k left p g =
+    let r = g .reached in
+    let deep = g .deep in
+    let scale = scale-on-the-way (g .request) (g .request-orders) (viewOf k left p) r (omega arith) in
+    let counted = r .counted in
+    let count = length-prefactors (p .count) (p .low) (p .high) in
+    let boys = r .boys-most in
+    record { scale-fits = omega arith; boys-fits = omega arith; count-fits = omega arith }
+
+-- the terms below a state: its own where no order is left, none, or those from branch 0 on
+module _ (k : Kind) (left : ℕ) (p : Path) where
+  pub below-done : left ≡ 0 → termsBelow k left p ≡ termAt p ∷ []
   unfolding termsBelow
-  done e = expand-done (viewOf k left p) (ap (λ (w : ℕ). total (orders w)) e ∙ none-left)
+  below-done e = expand-done (viewOf k left p) (ap (λ (w : ℕ). total (orders w)) e ∙ none-left)
 
-  one-term : left ≡ 0 → termsBytes (termsBelow k left p) ≡ termBytes (termAt p)
-  unfolding termsBytes
-  one-term e = ap termsBytes (done e) ∙ append-nil (termBytes (termAt p))
-
-  pub node-emits : left ≡ 0 → Emits p at out
-  unfolding depth
-  node-emits e =
-      let g = may .good in
-      let r = g .reached in
-      let deep = g .deep in
-      let scale = scale-on-the-way (g .request) (g .request-orders) (viewOf k left p) r (omega arith) in
-      let counted = r .counted in
-      let count = length-prefactors (p .count) (p .low) (p .high) in
-      let boys = r .boys-most in
-      let room = may .room .fits in
-      let bytes = ap length (one-term e) in
-      record { scale = omega arith; boys = omega arith; count = omega arith; room = omega arith }
-
-  pub node-emitted : (r : ℕ) (after : List ℕ) → left ≡ 0 → Emitted (termBytes (termAt p)) at out r after → Emitted (termsBytes (termsBelow k left p)) at out r after
-  node-emitted r after e h = subst (λ (bytes : List ℕ). Emitted bytes at out r after) (sym (one-term e)) h
-
-  module _ (some : left ≡ 0 → ⊥) where
+  module _ (word : left < 16 ^ requestOrders) (some : left ≡ 0 → ⊥) (r : Lowering) (is : r ≡ lowering k (orders left)) where
     more : termsBelow k left p ≡ over (λ (n : Next). expand (n .state)) (nexts (viewOf k left p))
     unfolding termsBelow
-    more = expand-more (viewOf k left p) (some-left left (may .good .word) some)
+    more = expand-more (viewOf k left p) (some-left left word some)
 
-    pub node-none : (r : Lowering) → r ≡ lowering k (orders left) → r ≡ Nothing → Emitted (termsBytes (termsBelow k left p)) at out at out
+    pub below-none : r ≡ Nothing → termsBelow k left p ≡ []
     unfolding lowering nexts over
-    node-none r i e = emitted-none (termsBelow k left p) at out (more ∙ ap (over (λ (n : Next). expand (n .state))) (by-fun (chosen k (orders left)) refl (sym i ∙ e)))
+    below-none e = more ∙ ap (over (λ (n : Next). expand (n .state))) (by-fun (chosen k (orders left)) refl (sym is ∙ e))
       where
         by-axis : (c : Centre) (v : Component) → onAxis c v ≡ Nothing → Rattle.steps.specs.States.onAxis c v (viewOf k left p) ≡ []
         by-axis c Nowhere f = refl
@@ -147,7 +144,7 @@ module _ (k : Kind) (left : ℕ) (p : Path) (at : ℕ) (out : List ℕ) (may : N
         by-fun none f g = refl
         by-fun (Lower c) f g = by-axis c (firstAxis (orders left) c) g
 
-    module _ (r : Lowering) (c : Centre) (x : Axis) (is : r ≡ lowering k (orders left)) (at-them : r ≡ At c x) where
+    module _ (c : Centre) (x : Axis) (at-them : r ≡ At c x) where
       -- what a choice of both says
       record Both : Type 0 where
         picked : chosen k (orders left) ≡ Lower c
@@ -168,12 +165,44 @@ module _ (k : Kind) (left : ℕ) (p : Path) (at : ℕ) (out : List ℕ) (may : N
           by-fun none f g = absurd (let z : _≡_ {A = ℕ} 0 1 = cc in omega arith)
           by-fun (Lower d) f g = by-axis d (firstAxis (orders left) d) f refl g
 
-      from-first : termsBelow k left p ≡ termsFrom k left p c x 0
+      pub below-first : termsBelow k left p ≡ termsFrom k left p c x 0
       unfolding termsFrom nexts
-      from-first =
+      below-first =
           more
           ∙ ap (over (λ (n : Next). expand (n .state)))
           (ap (λ (f : Fun). Rattle.steps.specs.States.onFun f (viewOf k left p)) (both .picked) ∙ ap (λ (v : Component). Rattle.steps.specs.States.onAxis c v (viewOf k left p)) (both .along))
+
+      pub first-turn : (times : ℕ) → times ≡ multiplierWord c x (orders left) (branches k c x) → Turn k left c x times 0
+      first-turn times e =
+          record {
+            own-centre = chosen-own k (orders left) c (both .picked);
+            positive = axis-positive (orders left) c x (both .along);
+            few = omega arith;
+            is = e;
+          }
+
+module _ (k : Kind) (left : ℕ) (p : Path) (at : ℕ) (out : List ℕ) (may : NodeMay k left p at out) where
+  one-term : left ≡ 0 → termsBytes (termsBelow k left p) ≡ termBytes (termAt p)
+  unfolding termsBytes
+  one-term e = ap termsBytes (below-done k left p e) ∙ append-nil (termBytes (termAt p))
+
+  pub node-emits : left ≡ 0 → Emits p at out
+  node-emits e =
+      let w = good-words k left p (may .good) in
+      let room = may .room .fits in
+      let bytes = ap length (one-term e) in
+      record { scale = w .scale-fits; boys = w .boys-fits; count = w .count-fits; room = omega arith }
+
+  pub node-emitted : (r : ℕ) (after : List ℕ) → left ≡ 0 → Emitted (termBytes (termAt p)) at out r after → Emitted (termsBytes (termsBelow k left p)) at out r after
+  node-emitted r after e h = subst (λ (bytes : List ℕ). Emitted bytes at out r after) (sym (one-term e)) h
+
+  module _ (some : left ≡ 0 → ⊥) (r : Lowering) (is : r ≡ lowering k (orders left)) where
+    pub node-none : r ≡ Nothing → Emitted (termsBytes (termsBelow k left p)) at out at out
+    node-none e = emitted-none (termsBelow k left p) at out (below-none k left p (may .good .word) some r is e)
+
+    module _ (c : Centre) (x : Axis) (at-them : r ≡ At c x) where
+      from-first : termsBelow k left p ≡ termsFrom k left p c x 0
+      from-first = below-first k left p (may .good .word) some r is c x at-them
 
       pub first-falls : (t : ℕ) → nodeFuel k left p ≡ t → branchFuel k left p 0 < t
       unfolding nodeFuel branchFuel
@@ -183,13 +212,7 @@ module _ (k : Kind) (left : ℕ) (p : Path) (at : ℕ) (out : List ℕ) (may : N
       first-may times e =
           record {
             good = may .good;
-            turn =
-                record {
-                  own-centre = chosen-own k (orders left) c (both .picked);
-                  positive = axis-positive (orders left) c x (both .along);
-                  few = omega arith;
-                  is = e;
-                };
+            turn = first-turn k left p (may .good .word) some r is c x at-them times e;
             room = subst (λ (ts : List Term). Room ts at out) from-first (may .room);
           }
 

@@ -1,2 +1,3 @@
+pub mod Measuring
 pub mod View
 pub mod Walking

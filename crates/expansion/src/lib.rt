@@ -1,4 +1,5 @@
 // The expansion of a request: every complete history once, in dictionary order, as a roll.
+mod measure;
 mod terms;
 mod walk;
 
@@ -27,4 +28,10 @@ struct Child {
     kind: Kind,
     left: u64,
     path: Path,
+}
+
+// Terms and their bytes, where the terms are not too many.
+enum Measured {
+    Fits(u64, u64),
+    Over,
 }

@@ -1,0 +1,128 @@
+-- Measures add up: what two lists measure together, a group of branches, and the size of one term.
+use Prim.Native.Nat.{ℕ, zero, suc, _+_, _*_, _-_, _/_, _%_, _^_, _≤_, _<_}
+use mathlib.Core.Path.{_≡_, refl, sym, ap, ap₂, subst, _∙_}
+use mathlib.Core.Bool.{Bool, true, false, cond}
+use mathlib.Core.List.{List, [], _∷_, _++_}
+use native.Mathlib.Omega.{arith}
+use borrow.Author.Tests.{le-leb, lt-leb, leb-true, leb-false, eq-eqb, ne-eqb}
+use lib.Dec.{leb, eqb}
+use lib.ListN.{length, length-append}
+use Rattle.kind.specs.declared.Kind.{Kind}
+use Rattle.kind.specs.declared.Kind.the-variants.{Overlap, Kinetic, Nuclear, Moment, Coulomb}
+use Rattle.kind.specs.Limits.{mostTerms}
+use Rattle.term.specs.Terms.{Term}
+use Rattle.number.specs.Numbers.{lengthOf}
+use Rattle.number.proofs.Writing.{length-few}
+use Rattle.roll.specs.Bytes.{termBytes, termsBytes}
+use Rattle.expansion.specs.declared.Measured.{Measured}
+use Rattle.expansion.specs.declared.Measured.the-variants.{Fits, Over}
+use Rattle.expansion.specs.Measuring.{measured, plus, inPairs, widthOf, groupOf, skipOf, termsIn, bytesIn, Small}
+use Rattle.expansion.proofs.Walking.{terms-append}
+
+pub measured-few : (ts : List Term) → length ts ≤ mostTerms → measured ts ≡ Fits (length ts) (length (termsBytes ts))
+unfolding measured
+measured-few ts h = ap (λ (v : Bool). cond v (Fits (length ts) (length (termsBytes ts))) Over) (le-leb (length ts) mostTerms h)
+
+pub measured-many : (ts : List Term) → mostTerms < length ts → measured ts ≡ Over
+unfolding measured
+measured-many ts h = ap (λ (v : Bool). cond v (Fits (length ts) (length (termsBytes ts))) Over) (lt-leb (length ts) mostTerms h)
+
+-- two lists one after the other
+pub measured-append : (xs ys : List Term) → measured (xs ++ ys) ≡ plus (measured xs) (measured ys)
+unfolding plus
+measured-append xs ys = first (leb (length xs) mostTerms) refl
+  where
+    long : length (xs ++ ys) ≡ length xs + length ys
+    long = length-append xs ys
+
+    bytes : length (termsBytes (xs ++ ys)) ≡ length (termsBytes xs) + length (termsBytes ys)
+    bytes = ap length (terms-append xs ys) ∙ length-append (termsBytes xs) (termsBytes ys)
+
+    both : (v : Bool) → leb (length xs + length ys) mostTerms ≡ v → measured (xs ++ ys) ≡ cond v (Fits (length xs + length ys) (length (termsBytes xs) + length (termsBytes ys))) Over
+    both true e = measured-few (xs ++ ys) (let h = leb-true (length xs + length ys) mostTerms e in let l = long in omega arith) ∙ ap₂ Fits long bytes
+    both false e = measured-many (xs ++ ys) (let h = leb-false (length xs + length ys) mostTerms e in let l = long in omega arith)
+
+    second : length xs ≤ mostTerms → (v : Bool) → leb (length ys) mostTerms ≡ v → measured (xs ++ ys) ≡ plus (measured xs) (measured ys)
+    second h true e =
+        both (leb (length xs + length ys) mostTerms) refl
+        ∙ sym (ap₂ plus (measured-few xs h) (measured-few ys (leb-true (length ys) mostTerms e)))
+    second h false e =
+        measured-many (xs ++ ys) (let k = leb-false (length ys) mostTerms e in let l = long in omega arith)
+        ∙ sym (ap₂ plus (measured-few xs h) (measured-many ys (leb-false (length ys) mostTerms e)))
+
+    first : (v : Bool) → leb (length xs) mostTerms ≡ v → measured (xs ++ ys) ≡ plus (measured xs) (measured ys)
+    first true e = second (leb-true (length xs) mostTerms e) (leb (length ys) mostTerms) refl
+    first false e =
+        measured-many (xs ++ ys) (let k = leb-false (length xs) mostTerms e in let l = long in omega arith)
+        ∙ sym (ap (λ (m : Measured). plus m (measured ys)) (measured-many xs (leb-false (length xs) mostTerms e)))
+
+module _ (m : Measured) (s : Small m) (a b : ℕ) (is : m ≡ Fits a b) where
+  pub small-terms : a ≤ mostTerms
+  small-terms = let h = s .few in let e = ap termsIn is in omega arith
+
+  pub small-bytes : b ≤ 32 * a
+  small-bytes = let h = s .short in let e = ap termsIn is in let f = ap bytesIn is in omega arith
+
+pub small-fits : (a b : ℕ) → a ≤ mostTerms → b ≤ 32 * a → Small (Fits a b)
+small-fits a b h k = record { few = h; short = k }
+
+pub small-over : Small Over
+small-over = record { few = omega arith; short = omega arith }
+
+pub small-none : Small (Fits 0 0)
+small-none = record { few = omega arith; short = omega arith }
+
+-- the arms of the sum
+module _ (m n : Measured) where
+  pub plus-over : m ≡ Over → Over ≡ plus m n
+  unfolding plus
+  plus-over e = ap (λ (v : Measured). plus v n) (sym e)
+
+  module _ (a b : ℕ) (is : m ≡ Fits a b) where
+    pub plus-over-then : n ≡ Over → Over ≡ plus m n
+    unfolding plus
+    plus-over-then e = sym (ap₂ plus is e)
+
+    module _ (c d : ℕ) (too : n ≡ Fits c d) where
+      pub plus-few : a + c ≤ mostTerms → Fits (a + c) (b + d) ≡ plus m n
+      unfolding plus
+      plus-few h = sym (ap₂ plus is too ∙ ap (λ (v : Bool). cond v (Fits (a + c) (b + d)) Over) (le-leb (a + c) mostTerms h))
+
+      pub plus-many : mostTerms < a + c → Over ≡ plus m n
+      unfolding plus
+      plus-many h = sym (ap₂ plus is too ∙ ap (λ (v : Bool). cond v (Fits (a + c) (b + d)) Over) (lt-leb (a + c) mostTerms h))
+
+      module _ (s : Small m) (t : Small n) where
+        pub terms-fit : a + c < 2 ^ 64
+        terms-fit = let h = small-terms m s a b is in let k = small-terms n t c d too in omega arith
+
+        pub bytes-fit : b + d < 2 ^ 64
+        bytes-fit = let h = small-terms m s a b is in let k = small-terms n t c d too in let u = small-bytes m s a b is in let v = small-bytes n t c d too in omega arith
+
+        pub plus-small : a + c ≤ mostTerms → Small (Fits (a + c) (b + d))
+        plus-small h = small-fits (a + c) (b + d) h (let u = small-bytes m s a b is in let v = small-bytes n t c d too in omega arith)
+
+-- a group of two, or one
+module _ (w : ℕ) (m : Measured) where
+  pub group-two : (r : Measured) → w ≡ 2 → r ≡ plus m m → r ≡ groupOf w m
+  group-two r e h = h ∙ sym (ap (λ (v : Bool). cond v (plus m m) m) (eq-eqb w 2 e))
+
+  pub group-one : (w ≡ 2 → ⊥) → m ≡ groupOf w m
+  group-one e = sym (ap (λ (v : Bool). cond v (plus m m) m) (ne-eqb w 2 e))
+
+pub skip-two : (w times : ℕ) → w ≡ 2 → times / 256 ≡ skipOf w times
+skip-two w times e = sym (ap (λ (v : Bool). cond v (times / 256) (times / 16)) (eq-eqb w 2 e))
+
+pub skip-one : (w times : ℕ) → (w ≡ 2 → ⊥) → times / 16 ≡ skipOf w times
+skip-one w times e = sym (ap (λ (v : Bool). cond v (times / 256) (times / 16)) (ne-eqb w 2 e))
+
+pub leaf-small : (scale n l : ℕ) → l ≡ lengthOf scale → n < 25 → Small (Fits 1 (l + 2 + n))
+leaf-small scale n l e h = small-fits 1 (l + 2 + n) (omega arith) (let k = length-few scale in omega arith)
+
+pub no-pair : (n : ℕ) → (n ≡ 0 → ⊥) → (n ≡ 2 → ⊥) → (n ≡ 4 → ⊥) → 1 ≡ inPairs n
+no-pair zero a b c = absurd (a refl)
+no-pair (suc zero) a b c = refl
+no-pair (suc (suc zero)) a b c = absurd (b refl)
+no-pair (suc (suc (suc zero))) a b c = refl
+no-pair (suc (suc (suc (suc zero)))) a b c = absurd (c refl)
+no-pair (suc (suc (suc (suc (suc n))))) a b c = refl

@@ -1,0 +1,73 @@
+-- How much a list of terms measures: its terms and their bytes, or that they are too many.
+use Prim.Native.Nat.{ℕ, _+_, _*_, _/_, _≤_}
+use mathlib.Core.Path.{_≡_}
+use mathlib.Core.Bool.{Bool, true, false, cond}
+use mathlib.Core.List.{List, [], _∷_}
+use lib.Dec.{leb, eqb}
+use lib.ListN.{length, getD}
+use Rattle.kind.specs.declared.Kind.{Kind}
+use Rattle.kind.specs.declared.Kind.the-variants.{Overlap, Kinetic, Nuclear, Moment, Coulomb}
+use Rattle.kind.specs.Limits.{mostTerms}
+use Rattle.term.specs.Terms.{Term}
+use Rattle.steps.specs.declared.Centre.{Centre}
+use Rattle.steps.specs.declared.Axis.{Axis}
+use Rattle.roll.specs.Bytes.{termsBytes}
+use Rattle.expansion.specs.declared.Path.{Path}
+use Rattle.expansion.specs.declared.Measured.{Measured}
+use Rattle.expansion.specs.declared.Measured.the-variants.{Fits, Over}
+use Rattle.expansion.specs.Walking.{Good, termsBelow, termsFrom}
+
+unfoldable pub measured : List Term → Measured
+measured ts = cond (leb (length ts) mostTerms) (Fits (length ts) (length (termsBytes ts))) Over
+
+-- both together
+unfoldable pub plus : Measured → Measured → Measured
+plus Over m = Over
+plus (Fits a b) Over = Over
+plus (Fits a b) (Fits c d) = cond (leb (a + c) mostTerms) (Fits (a + c) (b + d)) Over
+
+-- branches 0 and 1, 2 and 3, 4 and 5
+abbrev pub inPairs : ℕ → ℕ
+inPairs n = getD (2 ∷ 1 ∷ 2 ∷ 1 ∷ 2 ∷ []) n 1
+
+unfoldable pub widthOf : Kind → ℕ → ℕ
+widthOf Overlap n = 1
+widthOf Kinetic n = 1
+widthOf Nuclear n = inPairs n
+widthOf Moment n = 1
+widthOf Coulomb n = inPairs n
+
+abbrev pub groupOf : ℕ → Measured → Measured
+groupOf width m = cond (eqb width 2) (plus m m) m
+
+abbrev pub skipOf : ℕ → ℕ → ℕ
+skipOf width times = cond (eqb width 2) (times / 256) (times / 16)
+
+abbrev pub termsIn : Measured → ℕ
+termsIn (Fits a b) = a
+termsIn Over = 0
+
+abbrev pub bytesIn : Measured → ℕ
+bytesIn (Fits a b) = b
+bytesIn Over = 0
+
+-- no term takes more than 32 bytes
+pub record Small (m : Measured) : Type 0 where
+  pub few : termsIn m ≤ mostTerms
+  pub short : bytesIn m ≤ 32 * termsIn m
+
+-- a path with this scale and this many prefactors on the way from a request
+pub record MeasureMay (k : Kind) (left scale count : ℕ) : Type 0 where
+  pub path : Path
+  pub scale-is : path .scale ≡ scale
+  pub count-is : path .count ≡ count
+  pub good : Good k left path
+
+-- what is told holds of every such path
+pub record Measures (k : Kind) (left scale count : ℕ) (r : Measured) : Type 0 where
+  pub is : (p : Path) → p .scale ≡ scale → p .count ≡ count → Good k left p → r ≡ measured (termsBelow k left p)
+  pub small-enough : Small r
+
+pub record MeasuresFrom (k : Kind) (left scale count : ℕ) (c : Centre) (x : Axis) (number : ℕ) (r : Measured) : Type 0 where
+  pub is : (p : Path) → p .scale ≡ scale → p .count ≡ count → Good k left p → r ≡ measured (termsFrom k left p c x number)
+  pub small-enough : Small r
