@@ -5,4 +5,5 @@ pub mod Digits
 pub mod Emission
 pub mod Groups
 pub mod Measuring
+pub mod Requests
 pub mod Walking

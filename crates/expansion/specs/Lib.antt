@@ -1,3 +1,4 @@
+pub mod Expanding
 pub mod Measuring
 pub mod View
 pub mod Walking

@@ -1,5 +1,6 @@
 // The expansion of a request: every complete history once, in dictionary order, as a roll.
 mod measure;
+mod request;
 mod terms;
 mod walk;
 
@@ -34,4 +35,10 @@ struct Child {
 enum Measured {
     Fits(u64, u64),
     Over,
+}
+
+// A roll's length and its term count, or a refusal.
+pub enum Expanded {
+    Roll(usize, u32),
+    Refused(u8),
 }

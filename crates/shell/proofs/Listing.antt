@@ -12,6 +12,7 @@ use lib.ListN.{length, set, take, drop, length-append, length-drop, drop-of-leng
 use lib.Seq.{sets, sets-eq, drop-drop, length-sets, take-all}
 use borrow.Rule.Slice.PartMut.{putMid}
 use Rattle.kind.specs.Limits.{mostOrder}
+use Rattle.kind.proofs.Parts.{part-all, part-put}
 use Rattle.shell.specs.declared.Triple.{Triple}
 use Rattle.shell.specs.declared.Next.{Next}
 use Rattle.shell.specs.declared.Next.the-variants as next
@@ -151,22 +152,8 @@ told-full m start count out low-m inside counted over =
     let full : ltb (length out) (start + length (shellBytes m)) ≡ true = lt-ltb (length out) (start + length (shellBytes m)) (omega (arith, bytes-count m)) in
     record { answer = simp (low, near, full); out = simp (low, near, full) }
 
--- the part lent is all that stands from the start on
-part-all : (out : List ℕ) (start : ℕ) → take (length out - start) (drop start out) ≡ drop start out
-part-all out start = take-all (length out - start) (drop start out) (omega (arith, length-drop start out))
-
 pub part-room : (m start count : ℕ) (out : List ℕ) → count ≡ length (triples m) → 3 * count ≤ length out - start → length (shellBytes m) ≤ length (take (length out - start) (drop start out))
 part-room m start count out counted fits = rw (part-all out start) (omega (arith, bytes-count m, length-drop start out))
-
--- a list put down at the front of that part stands in the whole from the start on
-part-put : (out part bytes : List ℕ) (start : ℕ) → start + length bytes ≤ length out → part ≡ sets (take (length out - start) (drop start out)) 0 bytes → putMid start (length out - start) out part ≡ take start out ++ (bytes ++ drop (start + length bytes) out)
-part-put out part bytes start room put =
-    let inside : 0 + length bytes ≤ length (drop start out) = omega (arith, length-drop start out) in
-    let zero-add : 0 + length bytes ≡ length bytes = omega arith in
-    let all : part ≡ sets (drop start out) 0 bytes = rw (part-all out start) at put in
-    let none : drop (length out - start) (drop start out) ≡ [] = drop-of-length-le (drop start out) {i = length out - start} (omega (arith, length-drop start out)) in
-    let stored : sets (drop start out) 0 bytes ≡ bytes ++ drop (start + length bytes) out = sets-eq bytes (drop start out) 0 inside ∙ ap (λ (l : List ℕ). bytes ++ l) (ap (λ (n : ℕ). drop n (drop start out)) zero-add ∙ drop-drop (length bytes) start out) in
-    ap (λ (l : List ℕ). take start out ++ l) (ap (λ (l : List ℕ). part ++ l) none ∙ append-nil part ∙ all ∙ stored)
 
 pub told-list : (m start count : ℕ) (out part : List ℕ) → m ≤ mostOrder → start ≤ length out → count ≡ length (triples m) → 3 * count ≤ length out - start → part ≡ sets (take (length out - start) (drop start out)) 0 (shellBytes m) → ListTold m out start (listed.Bytes (3 * count) count) (putMid start (length out - start) out part)
 unfolding listedAt listedOut

@@ -1,0 +1,117 @@
+// What a request must keep, and its orders in a word.
+ghost use mathlib.Core.Path.{_≡_};
+ghost use mathlib.Core.Bool.{_||_};
+ghost use Prim.Native.Nat.{_+_, _<_, _≤_};
+ghost use lib.ListN.{getD, drop};
+ghost use Rattle.kind.specs.Kinds.{ordersOf};
+ghost use Rattle.steps.specs.Choice.{sumOf};
+ghost use Rattle.steps.specs.States.{total};
+ghost use Rattle.expansion.specs.Expanding.{above, tooHigh, unusedSet, Nibbles, Packed};
+use kind::Kind;
+use steps::Centre;
+
+fn wide(byte: u8) -> u64
+    ensures { λ r. ⌜ (r ≡ byte) × (r < 256) ⌝ }
+{
+    byte as u64
+}
+
+// The sum of three orders.
+fn three(orders: [u8; Kind::ORDERS], first: usize) -> u64
+    requires { ⌜ first ≤ 9 ⌝ }
+    ensures { λ r. ⌜ (r ≡ getD orders first 0 + getD orders (first + 1) 0 + getD orders (first + 2) 0) × (r < 768) ⌝ }
+{
+    wide(orders[first]) + wide(orders[first + 1]) + wide(orders[first + 2])
+}
+
+// The order sum of a centre.
+fn sum_of(orders: [u8; Kind::ORDERS], centre: Centre) -> u64
+    ensures { λ r. ⌜ r ≡ sumOf orders centre ⌝ }
+{
+    match centre {
+        Centre::A => three(orders, 0),
+        Centre::B => three(orders, 3),
+        Centre::C => three(orders, 6),
+        Centre::D => three(orders, 9),
+    }
+}
+
+fn is_above(orders: [u8; Kind::ORDERS], centre: Centre) -> bool
+    ensures { λ r. ⌜ r ≡ above orders centre ⌝ }
+{
+    (Kind::MOST_ORDER as u64) < sum_of(orders, centre)
+}
+
+fn two_above(orders: [u8; Kind::ORDERS]) -> bool
+    ensures { λ r. ⌜ r ≡ (above orders Centre.A || above orders Centre.B) ⌝ }
+{
+    if is_above(orders, Centre::A) {
+        return true;
+    }
+    is_above(orders, Centre::B)
+}
+
+fn three_above(orders: [u8; Kind::ORDERS]) -> bool
+    ensures { λ r. ⌜ r ≡ ((above orders Centre.A || above orders Centre.B) || above orders Centre.C) ⌝ }
+{
+    if two_above(orders) {
+        return true;
+    }
+    is_above(orders, Centre::C)
+}
+
+fn four_above(orders: [u8; Kind::ORDERS]) -> bool
+    ensures { λ r. ⌜ r ≡ tooHigh Kind.Coulomb orders ⌝ }
+{
+    if three_above(orders) {
+        return true;
+    }
+    is_above(orders, Centre::D)
+}
+
+// Refusal 2: an order sum that the kind uses is above the limit.
+pub(crate) fn too_high(kind: Kind, orders: [u8; Kind::ORDERS]) -> bool
+    ensures { λ r. ⌜ r ≡ tooHigh kind orders ⌝ }
+{
+    match kind {
+        Kind::Overlap => two_above(orders),
+        Kind::Kinetic => two_above(orders),
+        Kind::Nuclear => two_above(orders),
+        Kind::Moment => three_above(orders),
+        Kind::Coulomb => four_above(orders),
+    }
+}
+
+// The orders that a kind leaves unused, added up.
+fn unused(kind: Kind, orders: [u8; Kind::ORDERS]) -> u64
+    ensures { λ r. ⌜ r ≡ total (drop (ordersOf kind) orders) ⌝ }
+{
+    match kind {
+        Kind::Overlap => three(orders, 6) + three(orders, 9),
+        Kind::Kinetic => three(orders, 6) + three(orders, 9),
+        Kind::Nuclear => three(orders, 6) + three(orders, 9),
+        Kind::Moment => three(orders, 9),
+        Kind::Coulomb => 0,
+    }
+}
+
+// Refusal 3: an order that the kind leaves unused is not 0.
+pub(crate) fn unused_set(kind: Kind, orders: [u8; Kind::ORDERS]) -> bool
+    ensures { λ r. ⌜ r ≡ unusedSet kind orders ⌝ }
+{
+    0 < unused(kind, orders)
+}
+
+// The orders in a word, four bits each, the first lowest.
+pub(crate) fn packed(orders: [u8; Kind::ORDERS]) -> u64
+    requires { ⌜ Nibbles orders ⌝ }
+    ensures { λ r. ⌜ Packed orders 0 r ⌝ }
+{
+    let mut word: u64 = 0;
+    let mut i = Kind::ORDERS;
+    while 0 < i {
+        i -= 1;
+        word = word * 16 + wide(orders[i]);
+    }
+    word
+}
