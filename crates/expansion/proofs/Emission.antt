@@ -13,7 +13,7 @@ use Rattle.number.specs.declared.Written.the-variants.{Next, NoRoom}
 use Rattle.number.proofs.Writing.{bytes-last, length-last, store-last}
 use Rattle.roll.specs.Bytes.{termBytes, numbersBytes}
 use Rattle.expansion.specs.declared.Path.{Path}
-use Rattle.expansion.specs.View.{digits, prefactorsOf, termAt, Emits, Emitted, ScaleFits, RestFits}
+use Rattle.expansion.specs.View.{digits, prefactorsOf, termAt, Emits, Emitted, NumberFits, RestFits}
 use Rattle.expansion.proofs.Digits.{length-prefactors, few, many, length-digits}
 
 pub sets-append : (l : List ℕ) (i : ℕ) (xs ys : List ℕ) → sets l i (xs ++ ys) ≡ sets (sets l i xs) (i + length xs) ys
@@ -57,12 +57,12 @@ term-length p b c =
     ap length (term-bytes p b c) ∙ length-append (bytesOf (p .scale)) (p .boys ∷ p .count ∷ termAt p .prefactors)
     ∙ (let h = length-prefactors (p .count) (p .low) (p .high) in omega arith)
 
-module _ (out : List ℕ) (at n : ℕ) (fits : ScaleFits n at out) where
-  pub scale-inside : n < 128 → at < length out
-  scale-inside h = let l = ap length (bytes-last n h) in let r = fits .room in omega arith
+module _ (out : List ℕ) (at n : ℕ) (fits : NumberFits n at out) where
+  pub number-inside : n < 128 → at < length out
+  number-inside h = let l = ap length (bytes-last n h) in let r = fits .room in omega arith
 
-  pub scale-one : n < 128 → Emitted (bytesOf n) at out (at + 1) (set out at n)
-  scale-one h = record { next = let l = ap length (bytes-last n h) in omega arith; out = store-last out at n h }
+  pub number-one : n < 128 → Emitted (bytesOf n) at out (at + 1) (set out at n)
+  number-one h = record { next = let l = ap length (bytes-last n h) in omega arith; out = store-last out at n h }
 
   room-test : lib.Dec.leb (at + length (bytesOf n)) (length out) ≡ true
   room-test = borrow.Author.Tests.le-leb (at + length (bytesOf n)) (length out) (fits .room)
@@ -76,11 +76,11 @@ module _ (out : List ℕ) (at n : ℕ) (fits : ScaleFits n at out) where
     unfolding outAfter
     stored = wrote .out ∙ rw room-test
 
-    pub scale-next : (next : ℕ) → r ≡ Next next → Emitted (bytesOf n) at out next after
-    scale-next next e = record { next = let h = there in cc; out = stored }
+    pub number-next : (next : ℕ) → r ≡ Next next → Emitted (bytesOf n) at out next after
+    number-next next e = record { next = let h = there in cc; out = stored }
 
-    pub scale-never : r ≡ NoRoom → Emitted (bytesOf n) at out at after
-    scale-never e = absurd (let h = there in let z : _≡_ {A = ℕ} 0 1 = cc in omega arith)
+    pub number-never : r ≡ NoRoom → Emitted (bytesOf n) at out at after
+    number-never e = absurd (let h = there in let z : _≡_ {A = ℕ} 0 1 = cc in omega arith)
 
 pub kept-two : (out after : List ℕ) (i j v w : ℕ) → length after ≡ length (set (set out i v) j w) → length after ≡ length out
 kept-two out after i j v w e = e ∙ simp length-set
@@ -110,7 +110,7 @@ module _ (p : Path) (at : ℕ) (out : List ℕ) (e : Emits p at out) where
       ap length (term-bytes p (e .boys) (e .count)) ∙ length-append (bytesOf (p .scale)) (p .boys ∷ p .count ∷ termAt p .prefactors)
       ∙ (let h = length-prefactors (p .count) (p .low) (p .high) in omega arith)
 
-  pub emits-scale : ScaleFits (p .scale) at out
+  pub emits-scale : NumberFits (p .scale) at out
   emits-scale = record { below = e .scale; room = let l = whole in let r = e .room in omega arith }
 
   module _ (next : ℕ) (mid : List ℕ) (h : Emitted (bytesOf (p .scale)) at out next mid) where

@@ -1,9 +1,11 @@
+pub mod Answers
 pub mod Children
 pub mod Counting
 pub mod Cycle
 pub mod Digits
 pub mod Emission
 pub mod Groups
+pub mod Headers
 pub mod Measuring
 pub mod Requests
 pub mod Walking

@@ -41,7 +41,7 @@ drop-total [] (suc i) = refl
 drop-total (n ∷ l) zero = refl
 drop-total (n ∷ l) (suc i) = drop-total l i
 
-three-total : (l : List ℕ) (i : ℕ) → total (drop i l) ≡ getD l i 0 + getD l (i + 1) 0 + getD l (i + 2) 0 + total (drop (i + 3) l)
+pub three-total : (l : List ℕ) (i : ℕ) → total (drop i l) ≡ getD l i 0 + getD l (i + 1) 0 + getD l (i + 2) 0 + total (drop (i + 3) l)
 three-total l i =
     let a = drop-total l i in
     let b = drop-total l (suc i) in
@@ -49,7 +49,7 @@ three-total l i =
     simp (add-one, add-two, add-three) (omega arith)
 
 module _ (orders : List ℕ) (twelve : length orders ≡ requestOrders) where
-  none-after : total (drop requestOrders orders) ≡ 0
+  pub none-after : total (drop requestOrders orders) ≡ 0
   unfolding total
   none-after = ap total (drop-of-length-le orders {i = requestOrders} (omega arith))
 

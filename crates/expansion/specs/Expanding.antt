@@ -1,5 +1,5 @@
 -- 01, "Limits and refusal numbers" and "The roll": what the expansion of a request answers and writes.
-use Prim.Native.Nat.{ℕ, _+_, _-_, _^_, _≤_, _<_}
+use Prim.Native.Nat.{ℕ, _+_, _*_, _-_, _^_, _≤_, _<_}
 use mathlib.Core.Path.{_≡_}
 use mathlib.Core.Bool.{Bool, true, false, cond, _||_}
 use mathlib.Core.List.{List, [], _∷_, _++_}
@@ -10,15 +10,16 @@ use Rattle.kind.specs.declared.Kind.the-variants.{Overlap, Kinetic, Nuclear, Mo
 use Rattle.kind.specs.declared.Named.{Named}
 use Rattle.kind.specs.declared.Named.the-variants.{Is, Unknown}
 use Rattle.kind.specs.Limits.{mostOrder, mostTerms, requestOrders}
-use Rattle.kind.specs.Kinds.{kindOf, ordersOf}
+use Rattle.kind.specs.Kinds.{kindOf, numberOf, ordersOf}
 use Rattle.term.specs.Terms.{Term}
+use Rattle.number.specs.Numbers.{bytesOf}
 use Rattle.steps.specs.declared.Centre.{Centre}
 use Rattle.steps.specs.declared.Centre.the-variants.{A, B, C, D}
 use Rattle.steps.specs.Choice.{sumOf, operator}
 use Rattle.steps.specs.States.{start, total}
 use Rattle.steps.specs.Packed.{nibbles}
 use Rattle.histories.specs.History.{expand}
-use Rattle.roll.specs.Bytes.{rollBytes}
+use Rattle.roll.specs.Bytes.{rollBytes, termsBytes}
 use Rattle.expansion.specs.declared.Expanded.{Expanded}
 use Rattle.expansion.specs.declared.Expanded.the-variants.{Roll, Refused}
 
@@ -67,6 +68,11 @@ namedOut (Refused n) k orders out begin = out
 namedOut (Roll long terms) Unknown orders out begin = out
 namedOut (Roll long terms) (Is k) orders out begin = take begin out ++ (rollOf k orders ++ drop (begin + length (rollOf k orders)) out)
 
+-- what a request of a known kind is answered, and what the lent bytes then hold
+pub record KindAnswered (k : Kind) (orders before : List ℕ) (begin : ℕ) (r : Expanded) (after : List ℕ) : Type 0 where
+  pub answer : r ≡ kindTold k orders before begin
+  pub out : after ≡ namedOut (kindTold k orders before begin) (Is k) orders before begin
+
 pub record ExpandTold (kind : ℕ) (orders before : List ℕ) (begin : ℕ) (r : Expanded) (after : List ℕ) : Type 0 where
   pub answer : r ≡ namedTold (kindOf kind) orders before begin
   pub out : after ≡ namedOut (namedTold (kindOf kind) orders before begin) (kindOf kind) orders before begin
@@ -93,3 +99,42 @@ pub record Packed (orders : List ℕ) (i word : ℕ) : Type 0 where
   pub within : i ≤ requestOrders
   pub holds : nibbles (requestOrders - i) word ≡ drop i orders
   pub below : word < 16 ^ (requestOrders - i)
+
+-- a term with nothing done yet
+abbrev pub emptyTerm : Term
+emptyTerm = record { scale = 1; boys = 0; prefactors = [] }
+
+-- a request within the limits, its word and its term count, and room for its roll
+pub record Within (k : Kind) (orders : List ℕ) : Type 0 where
+  pub low-sums : tooHigh k orders ≡ false
+  pub none-unused : unusedSet k orders ≡ false
+  pub twelve : length orders ≡ requestOrders
+
+-- what stands before the terms
+unfoldable pub headOf : Kind → List ℕ → List ℕ
+headOf k orders = numberOf k ∷ (take (ordersOf k) orders ++ bytesOf (length (termsOf k orders)))
+
+pub record HeadMay (k : Kind) (orders : List ℕ) (terms : ℕ) (out : List ℕ) : Type 0 where
+  pub within : Within k orders
+  pub count : terms ≡ length (termsOf k orders)
+  pub few : terms ≤ mostTerms
+  pub room : length (headOf k orders) ≤ length out
+
+pub record RollMay (k : Kind) (orders : List ℕ) (left terms : ℕ) (out : List ℕ) : Type 0 where
+  pub within : Within k orders
+  pub word : Packed orders 0 left
+  pub count : terms ≡ length (termsOf k orders)
+  pub few : terms ≤ mostTerms
+  pub room : length (rollOf k orders) ≤ length out
+
+pub record RequestMay (k : Kind) (orders : List ℕ) (begin : ℕ) (out : List ℕ) : Type 0 where
+  pub within : Within k orders
+  pub begins : begin ≤ length out
+
+pub record SizedMay (k : Kind) (orders : List ℕ) (left terms bytes begin : ℕ) (out : List ℕ) : Type 0 where
+  pub request : RequestMay k orders begin out
+  pub word : Packed orders 0 left
+  pub count : terms ≡ length (termsOf k orders)
+  pub few : terms ≤ mostTerms
+  pub long : bytes ≡ length (termsBytes (termsOf k orders))
+  pub short : bytes ≤ 32 * terms

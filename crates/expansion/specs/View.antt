@@ -30,9 +30,9 @@ pub record Emits (p : Path) (at : ℕ) (out : List ℕ) : Type 0 where
   pub count : p .count < 25
   pub room : at + length (termBytes (termAt p)) ≤ length out
 
-pub record ScaleFits (scale at : ℕ) (out : List ℕ) : Type 0 where
-  pub below : scale < 2 ^ 32
-  pub room : at + length (bytesOf scale) ≤ length out
+pub record NumberFits (n at : ℕ) (out : List ℕ) : Type 0 where
+  pub below : n < 2 ^ 32
+  pub room : at + length (bytesOf n) ≤ length out
 
 pub record RestFits (boys count at : ℕ) (out : List ℕ) : Type 0 where
   pub boys-small : boys < 128

@@ -1,10 +1,14 @@
 // The expansion of a request: every complete history once, in dictionary order, as a roll.
+mod header;
 mod measure;
 mod request;
 mod terms;
 mod walk;
 
+ghost use mathlib.Core.Path.{_≡_};
+ghost use Rattle.expansion.specs.Expanding.{KindAnswered, ExpandTold, RequestMay, SizedMay};
 use kind::Kind;
+use kind::Named;
 use steps::Axis;
 use steps::Centre;
 
@@ -41,4 +45,68 @@ enum Measured {
 pub enum Expanded {
     Roll(usize, u32),
     Refused(u8),
+}
+
+// Writes the roll of a request that was measured, where it fits.
+fn write_sized(
+    kind: Kind,
+    orders: [u8; Kind::ORDERS],
+    left: u64,
+    terms: u64,
+    bytes: u64,
+    out: &mut [u8],
+    start: usize,
+) -> Expanded
+    requires { ⌜ SizedMay kind orders left terms bytes start (now out) ⌝ }
+    ensures { λ r. ⌜ KindAnswered kind orders (now (out .entry)) start r (now (out .exit)) ⌝ }
+{
+    let count = terms as u32;
+    let long = 1 + kind.orders() + number::length(count) + bytes as usize;
+    if out.len() - start < long {
+        return Expanded::Refused(6);
+    }
+    header::put_roll(&mut out[start..], kind, orders, left, terms);
+    Expanded::Roll(long, count)
+}
+
+// Expands a request that keeps the limits.
+fn expand_within(kind: Kind, orders: [u8; Kind::ORDERS], out: &mut [u8], start: usize) -> Expanded
+    requires { ⌜ RequestMay kind orders start (now out) ⌝ }
+    ensures { λ r. ⌜ KindAnswered kind orders (now (out .entry)) start r (now (out .exit)) ⌝ }
+{
+    let left = request::packed(orders);
+    let size = measure::measure_node(kind, left, 1, 0);
+    match size {
+        Measured::Over => Expanded::Refused(4),
+        Measured::Fits(terms, bytes) => {
+            write_sized(kind, orders, left, terms, bytes, out, start)
+        }
+    }
+}
+
+// Expands a request of a known kind.
+fn expand_kind(kind: Kind, orders: [u8; Kind::ORDERS], out: &mut [u8], start: usize) -> Expanded
+    ensures { λ r. ⌜ KindAnswered kind orders (now (out .entry)) start r (now (out .exit)) ⌝ }
+{
+    if request::too_high(kind, orders) {
+        return Expanded::Refused(2);
+    }
+    if request::unused_set(kind, orders) {
+        return Expanded::Refused(3);
+    }
+    if out.len() < start {
+        return Expanded::Refused(5);
+    }
+    expand_within(kind, orders, out, start)
+}
+
+// Expands a request into a roll that begins at `start`.
+pub fn expand(kind: u8, orders: [u8; Kind::ORDERS], out: &mut [u8], start: usize) -> Expanded
+    ensures { λ r. ⌜ ExpandTold kind orders (now (out .entry)) start r (now (out .exit)) ⌝ }
+{
+    let named = Kind::of(kind);
+    match named {
+        Named::Unknown => Expanded::Refused(1),
+        Named::Is(known) => expand_kind(known, orders, out, start),
+    }
 }

@@ -6,7 +6,7 @@ ghost use lib.ListN.{length};
 ghost use lib.Seq.{sets};
 ghost use Rattle.number.specs.Numbers.{bytesOf};
 ghost use Rattle.roll.specs.Bytes.{termBytes};
-ghost use Rattle.expansion.specs.View.{digits, prefactorsOf, termAt, Emits, Emitted, ScaleFits, RestFits, Moves, further};
+ghost use Rattle.expansion.specs.View.{digits, prefactorsOf, termAt, Emits, Emitted, NumberFits, RestFits, Moves, further};
 use crate::Path;
 use number::Written;
 
@@ -60,16 +60,16 @@ fn put_prefactors(out: &mut [u8], at: usize, count: usize, low: u64, high: u64)
     put_digits(out, at + 12, count - 12, low);
 }
 
-// Writes the scale. Most have one byte.
-fn put_scale(out: &mut [u8], at: usize, scale: u64) -> usize
-    requires { ⌜ ScaleFits scale at (now out) ⌝ }
-    ensures { λ r. ⌜ Emitted (bytesOf scale) at (now (out .entry)) r (now (out .exit)) ⌝ }
+// Writes a number. Most have one byte.
+pub(crate) fn put_number(out: &mut [u8], at: usize, n: u64) -> usize
+    requires { ⌜ NumberFits n at (now out) ⌝ }
+    ensures { λ r. ⌜ Emitted (bytesOf n) at (now (out .entry)) r (now (out .exit)) ⌝ }
 {
-    if scale < 128 {
-        out[at] = scale as u8;
+    if n < 128 {
+        out[at] = n as u8;
         return at + 1;
     }
-    let written = number::write(out, at, scale as u32);
+    let written = number::write(out, at, n as u32);
     match written {
         Written::Next(next) => next,
         Written::NoRoom => at,
@@ -92,7 +92,7 @@ pub(crate) fn emit(out: &mut [u8], at: usize, path: Path) -> usize
     requires { ⌜ Emits path at (now out) ⌝ }
     ensures { λ r. ⌜ Emitted (termBytes (termAt path)) at (now (out .entry)) r (now (out .exit)) ⌝ }
 {
-    let next = put_scale(out, at, path.scale);
+    let next = put_number(out, at, path.scale);
     put_rest(
         out,
         next,

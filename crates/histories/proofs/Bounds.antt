@@ -29,7 +29,7 @@ use Rattle.histories.proofs.Demand.{by-depth}
 use Rattle.histories.proofs.Ascends.{under}
 
 -- no order is above the limit
-pub Small : List ℕ → Type 0
+unfoldable pub Small : List ℕ → Type 0
 Small left = (i : ℕ) → getD left i 0 ≤ mostOrder
 
 -- what holds of a state on the way from a request

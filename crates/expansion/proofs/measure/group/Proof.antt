@@ -3,19 +3,13 @@ use Rattle.expansion.proofs.Measuring.{group-two, group-one}
 use borrow.Author.Needs.{needs}
 use Rattle.expansion.proofs.measure.group.Statement.{statement}
 use Rattle.expansion.proofs.measure.group.Tie as tie
-use Rattle.expansion.proofs.measure.group.Reads as reads
-use Rattle.expansion.proofs.measure.group.Lts as lts
-use Rattle.expansion.proofs.measure.plus.Reads as plus-reads
 
--- src/measure.rt:66:9
 plus-requires : tie.Need-plus-requires
 plus-requires c κs = search needs
 
--- src/measure.rt:66:9
 returns : tie.Need-returns
 returns c = (search group-two, search)
 
--- src/measure.rt:61:1
 returns-2 : tie.Need-returns-2
 returns-2 c = (search group-one, search)
 

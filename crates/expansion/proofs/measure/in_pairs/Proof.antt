@@ -3,22 +3,16 @@ use Rattle.expansion.proofs.Measuring.{no-pair}
 use borrow.Author.Needs.{needs}
 use Rattle.expansion.proofs.measure.in_pairs.Statement.{statement}
 use Rattle.expansion.proofs.measure.in_pairs.Tie as tie
-use Rattle.expansion.proofs.measure.in_pairs.Reads as reads
-use Rattle.expansion.proofs.measure.in_pairs.Lts as lts
 
--- src/measure.rt:36:1
 returns : tie.Need-returns
 returns c = search needs
 
--- src/measure.rt:36:1
 returns-2 : tie.Need-returns-2
 returns-2 c = search needs
 
--- src/measure.rt:36:1
 returns-3 : tie.Need-returns-3
 returns-3 c = search needs
 
--- src/measure.rt:36:1
 returns-4 : tie.Need-returns-4
 returns-4 c = search no-pair
 

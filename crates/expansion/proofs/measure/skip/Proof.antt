@@ -2,14 +2,10 @@
 use Rattle.expansion.proofs.Measuring.{skip-two, skip-one}
 use Rattle.expansion.proofs.measure.skip.Statement.{statement}
 use Rattle.expansion.proofs.measure.skip.Tie as tie
-use Rattle.expansion.proofs.measure.skip.Reads as reads
-use Rattle.expansion.proofs.measure.skip.Lts as lts
 
--- src/measure.rt:76:9
 returns : tie.Need-returns
 returns c = search skip-two
 
--- src/measure.rt:72:1
 returns-2 : tie.Need-returns-2
 returns-2 c = search skip-one
 

@@ -3,59 +3,44 @@ use Rattle.expansion.specs.Measuring.{widthOf}
 use borrow.Author.Needs.{needs}
 use Rattle.expansion.proofs.measure.width.Statement.{statement}
 use Rattle.expansion.proofs.measure.width.Tie as tie
-use Rattle.expansion.proofs.measure.width.Reads as reads
-use Rattle.expansion.proofs.measure.width.Lts as lts
-use Rattle.expansion.proofs.measure.in_pairs.Reads as in-pairs-reads
 
--- src/measure.rt:52:26
 enum-told : tie.Need-enum-told
 enum-told c = search needs
 
--- src/measure.rt:53:26
 enum-told-2 : tie.Need-enum-told-2
 enum-told-2 c = search needs
 
--- src/measure.rt:54:26
 enum-told-3 : tie.Need-enum-told-3
 enum-told-3 c = search needs
 
--- src/measure.rt:54:26
 in-pairs-requires : tie.Need-in-pairs-requires
 in-pairs-requires c κs = search needs
 
--- src/measure.rt:55:25
 enum-told-4 : tie.Need-enum-told-4
 enum-told-4 c = search needs
 
--- src/measure.rt:56:26
 enum-told-5 : tie.Need-enum-told-5
 enum-told-5 c = search needs
 
--- src/measure.rt:56:26
 in-pairs-requires-2 : tie.Need-in-pairs-requires-2
 in-pairs-requires-2 c κs = search needs
 
--- src/measure.rt:48:1
 returns : tie.Need-returns
 unfolding widthOf
 returns c = cc
 
--- src/measure.rt:48:1
 returns-2 : tie.Need-returns-2
 unfolding widthOf
 returns-2 c = cc
 
--- src/measure.rt:48:1
 returns-3 : tie.Need-returns-3
 unfolding widthOf
 returns-3 c = cc
 
--- src/measure.rt:48:1
 returns-4 : tie.Need-returns-4
 unfolding widthOf
 returns-4 c = cc
 
--- src/measure.rt:48:1
 returns-5 : tie.Need-returns-5
 unfolding widthOf
 returns-5 c = cc

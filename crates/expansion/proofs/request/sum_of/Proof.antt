@@ -3,55 +3,40 @@ use Rattle.expansion.proofs.Requests.{sum-at}
 use borrow.Author.Needs.{needs}
 use Rattle.expansion.proofs.request.sum_of.Statement.{statement}
 use Rattle.expansion.proofs.request.sum_of.Tie as tie
-use Rattle.expansion.proofs.request.sum_of.Reads as reads
-use Rattle.expansion.proofs.request.sum_of.Lts as lts
-use Rattle.expansion.proofs.request.three.Reads as three-reads
 
--- src/request.rt:32:22
 enum-told : tie.Need-enum-told
 enum-told c = search needs
 
--- src/request.rt:32:22
 three-requires : tie.Need-three-requires
 three-requires c κs = search needs
 
--- src/request.rt:33:22
 enum-told-2 : tie.Need-enum-told-2
 enum-told-2 c = search needs
 
--- src/request.rt:33:22
 three-requires-2 : tie.Need-three-requires-2
 three-requires-2 c κs = search needs
 
--- src/request.rt:34:22
 enum-told-3 : tie.Need-enum-told-3
 enum-told-3 c = search needs
 
--- src/request.rt:34:22
 three-requires-3 : tie.Need-three-requires-3
 three-requires-3 c κs = search needs
 
--- src/request.rt:35:22
 enum-told-4 : tie.Need-enum-told-4
 enum-told-4 c = search needs
 
--- src/request.rt:35:22
 three-requires-4 : tie.Need-three-requires-4
 three-requires-4 c κs = search needs
 
--- src/request.rt:28:1
 returns : tie.Need-returns
 returns c = search sum-at
 
--- src/request.rt:28:1
 returns-2 : tie.Need-returns-2
 returns-2 c = search sum-at
 
--- src/request.rt:28:1
 returns-3 : tie.Need-returns-3
 returns-3 c = search sum-at
 
--- src/request.rt:28:1
 returns-4 : tie.Need-returns-4
 returns-4 c = search sum-at
 

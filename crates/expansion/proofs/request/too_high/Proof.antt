@@ -3,69 +3,49 @@ use Rattle.expansion.proofs.Requests.{high-at}
 use borrow.Author.Needs.{needs}
 use Rattle.expansion.proofs.request.too_high.Statement.{statement}
 use Rattle.expansion.proofs.request.too_high.Tie as tie
-use Rattle.expansion.proofs.request.too_high.Reads as reads
-use Rattle.expansion.proofs.request.too_high.Lts as lts
-use Rattle.expansion.proofs.request.four_above.Reads as four-above-reads
-use Rattle.expansion.proofs.request.three_above.Reads as three-above-reads
-use Rattle.expansion.proofs.request.two_above.Reads as two-above-reads
 
--- src/request.rt:77:26
 enum-told : tie.Need-enum-told
 enum-told c = search needs
 
--- src/request.rt:77:26
 two-above-requires : tie.Need-two-above-requires
 two-above-requires c κs = search needs
 
--- src/request.rt:78:26
 enum-told-2 : tie.Need-enum-told-2
 enum-told-2 c = search needs
 
--- src/request.rt:78:26
 two-above-requires-2 : tie.Need-two-above-requires-2
 two-above-requires-2 c κs = search needs
 
--- src/request.rt:79:26
 enum-told-3 : tie.Need-enum-told-3
 enum-told-3 c = search needs
 
--- src/request.rt:79:26
 two-above-requires-3 : tie.Need-two-above-requires-3
 two-above-requires-3 c κs = search needs
 
--- src/request.rt:80:25
 enum-told-4 : tie.Need-enum-told-4
 enum-told-4 c = search needs
 
--- src/request.rt:80:25
 three-above-requires : tie.Need-three-above-requires
 three-above-requires c κs = search needs
 
--- src/request.rt:81:26
 enum-told-5 : tie.Need-enum-told-5
 enum-told-5 c = search needs
 
--- src/request.rt:81:26
 four-above-requires : tie.Need-four-above-requires
 four-above-requires c κs = search needs
 
--- src/request.rt:73:1
 returns : tie.Need-returns
 returns c = search high-at
 
--- src/request.rt:73:1
 returns-2 : tie.Need-returns-2
 returns-2 c = search high-at
 
--- src/request.rt:73:1
 returns-3 : tie.Need-returns-3
 returns-3 c = search high-at
 
--- src/request.rt:73:1
 returns-4 : tie.Need-returns-4
 returns-4 c = search high-at
 
--- src/request.rt:73:1
 returns-5 : tie.Need-returns-5
 returns-5 c = search high-at
 

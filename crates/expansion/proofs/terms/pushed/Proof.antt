@@ -3,26 +3,19 @@ use Rattle.expansion.proofs.Digits.{pushed-over, pushed-on}
 use borrow.Author.Needs.{needs}
 use Rattle.expansion.proofs.terms.pushed.Statement.{statement}
 use Rattle.expansion.proofs.terms.pushed.Tie as tie
-use Rattle.expansion.proofs.terms.pushed.Reads as reads
-use Rattle.expansion.proofs.terms.pushed.Lts as lts
 
--- src/terms.rt:20:9
 returns : tie.Need-returns
 returns c = search pushed-over
 
--- src/terms.rt:31:16
 add-t4 : tie.Need-add-t4
 add-t4 c = search needs
 
--- src/terms.rt:32:14
 mul-t6 : tie.Need-mul-t6
 mul-t6 c = search needs
 
--- src/terms.rt:32:14
 add-t7 : tie.Need-add-t7
 add-t7 c = search needs
 
--- src/terms.rt:15:1
 returns-2 : tie.Need-returns-2
 returns-2 c = search pushed-on
 

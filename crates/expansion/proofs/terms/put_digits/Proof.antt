@@ -3,8 +3,6 @@ use native.Mathlib.Omega.{arith}
 use Rattle.expansion.proofs.Digits.{Putting, putting-first, putting-more, putting-last}
 use Rattle.expansion.proofs.terms.put_digits.Statement.{statement}
 use Rattle.expansion.proofs.terms.put_digits.Tie as tie
-use Rattle.expansion.proofs.terms.put_digits.Reads as reads
-use Rattle.expansion.proofs.terms.put_digits.Lts as lts
 
 abbrev Inv-loop : tie.InvT-loop
 Inv-loop out₀ at count word rest₀ i₀ out rest i = Putting out₀ at count word out rest i
@@ -12,39 +10,30 @@ Inv-loop out₀ at count word rest₀ i₀ out rest i = Putting out₀ at count 
 abbrev μ-loop : tie.MeasureT-loop
 μ-loop out₀ at count word rest₀ i₀ out rest i = i
 
--- src/terms.rt:44:5
 loop-holds : tie.Need-loop-holds Inv-loop μ-loop
 loop-holds c = search putting-first
 
--- src/terms.rt:45:9
 sub-i : tie.Need-sub-i Inv-loop μ-loop
 sub-i c = omega arith
 
--- src/terms.rt:46:23
 cast-out : tie.Need-cast-out Inv-loop μ-loop
 cast-out c = omega arith
 
--- src/terms.rt:46:13
 add-out : tie.Need-add-out Inv-loop μ-loop
 add-out c = omega arith
 
--- src/terms.rt:46:9
 slice-write-out : tie.Need-slice-write-out Inv-loop μ-loop
 slice-write-out c = omega arith
 
--- src/terms.rt:44:5
 loop-less : tie.Need-loop-less Inv-loop μ-loop
 loop-less c = omega arith
 
--- src/terms.rt:44:5
 loop-again : tie.Need-loop-again Inv-loop μ-loop
 loop-again c = search putting-more
 
--- src/terms.rt:38:1
 same-length : tie.Need-same-length Inv-loop μ-loop
 same-length c = search
 
--- src/terms.rt:38:1
 returns : tie.Need-returns Inv-loop μ-loop
 returns c = search putting-last
 

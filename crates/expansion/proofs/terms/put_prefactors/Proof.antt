@@ -3,43 +3,31 @@ use Rattle.expansion.proofs.Emission.{prefactors-few, prefactors-many}
 use borrow.Author.Needs.{needs}
 use Rattle.expansion.proofs.terms.put_prefactors.Statement.{statement}
 use Rattle.expansion.proofs.terms.put_prefactors.Tie as tie
-use Rattle.expansion.proofs.terms.put_prefactors.Reads as reads
-use Rattle.expansion.proofs.terms.put_prefactors.Lts as lts
-use Rattle.expansion.proofs.terms.put_digits.Reads as put-digits-reads
 
--- src/terms.rt:56:9
 put-digits-requires : tie.Need-put-digits-requires
 put-digits-requires c κs = search needs
 
--- src/terms.rt:57:9
 same-length : tie.Need-same-length
 same-length c = search needs
 
--- src/terms.rt:57:9
 returns : tie.Need-returns
 returns c = search prefactors-few
 
--- src/terms.rt:59:5
 put-digits-requires-2 : tie.Need-put-digits-requires-2
 put-digits-requires-2 c κs = search needs
 
--- src/terms.rt:60:21
 add-put-digits : tie.Need-add-put-digits
 add-put-digits c = search needs
 
--- src/terms.rt:60:30
 sub-put-digits : tie.Need-sub-put-digits
 sub-put-digits c = search needs
 
--- src/terms.rt:60:5
 put-digits-requires-3 : tie.Need-put-digits-requires-3
 put-digits-requires-3 c κs = search needs
 
--- src/terms.rt:51:1
 same-length-2 : tie.Need-same-length-2
 same-length-2 c = search needs
 
--- src/terms.rt:51:1
 returns-2 : tie.Need-returns-2
 returns-2 c = search prefactors-many
 

@@ -5,51 +5,37 @@ use Rattle.expansion.proofs.Emission.{rest-emitted, kept-two}
 use borrow.Author.Needs.{needs}
 use Rattle.expansion.proofs.terms.put_rest.Statement.{statement}
 use Rattle.expansion.proofs.terms.put_rest.Tie as tie
-use Rattle.expansion.proofs.terms.put_rest.Reads as reads
-use Rattle.expansion.proofs.terms.put_rest.Lts as lts
-use Rattle.expansion.proofs.terms.put_prefactors.Reads as put-prefactors-reads
 
--- src/terms.rt:84:15
 cast-out : tie.Need-cast-out
 cast-out c = search needs
 
--- src/terms.rt:84:5
 slice-write-out : tie.Need-slice-write-out
 slice-write-out c = search needs
 
--- src/terms.rt:85:19
 cast-out-2 : tie.Need-cast-out-2
 cast-out-2 c = search needs
 
--- src/terms.rt:85:9
 add-out : tie.Need-add-out
 add-out c = search needs
 
--- src/terms.rt:85:5
 slice-write-out-2 : tie.Need-slice-write-out-2
 slice-write-out-2 c = simp length-set (omega arith)
 
--- src/terms.rt:86:25
 add-put-prefactors : tie.Need-add-put-prefactors
 add-put-prefactors c = search needs
 
--- src/terms.rt:86:5
 put-prefactors-requires : tie.Need-put-prefactors-requires
 put-prefactors-requires c κs = search needs
 
--- src/terms.rt:87:5
 add-result : tie.Need-add-result
 add-result c = search needs
 
--- src/terms.rt:87:5
 add-result-2 : tie.Need-add-result-2
 add-result-2 c = search needs
 
--- src/terms.rt:80:1
 same-length : tie.Need-same-length
 same-length c = search kept-two
 
--- src/terms.rt:80:1
 returns : tie.Need-returns
 returns c = search rest-emitted
 

@@ -3,44 +3,31 @@ use Rattle.expansion.proofs.Cycle.{choose-none, choose-nowhere, choose-
 use borrow.Author.Needs.{needs}
 use Rattle.expansion.proofs.walk.choose.Statement.{statement}
 use Rattle.expansion.proofs.walk.choose.Tie as tie
-use Rattle.expansion.proofs.walk.choose.Reads as reads
-use Rattle.expansion.proofs.walk.choose.Lts as lts
-use Rattle.steps.proofs.find_component_to_lower.Reads as find-component-to-lower-reads
-use Rattle.steps.proofs.find_fun_to_lower.Reads as find-fun-to-lower-reads
 
--- src/walk.rt:23:9
 find-fun-to-lower-requires : tie.Need-find-fun-to-lower-requires
 find-fun-to-lower-requires c κs = search needs
 
--- src/walk.rt:25:25
 enum-told : tie.Need-enum-told
 enum-told c = search needs
 
--- src/walk.rt:26:20
 enum-known-fun : tie.Need-enum-known-fun
 enum-known-fun c = search needs
 
--- src/walk.rt:27:17
 find-component-to-lower-requires : tie.Need-find-component-to-lower-requires
 find-component-to-lower-requires c κs = search needs
 
--- src/walk.rt:29:39
 enum-told-2 : tie.Need-enum-told-2
 enum-told-2 c = search needs
 
--- src/walk.rt:30:34
 enum-known-component : tie.Need-enum-known-component
 enum-known-component c = search needs
 
--- src/walk.rt:20:1
 returns : tie.Need-returns
 returns c = search choose-none
 
--- src/walk.rt:20:1
 returns-2 : tie.Need-returns-2
 returns-2 c = search choose-nowhere
 
--- src/walk.rt:20:1
 returns-3 : tie.Need-returns-3
 returns-3 c = search choose-at
 

@@ -1,0 +1,186 @@
+-- The answers of the expansion, a law for each, in 01's order.
+use Prim.Native.Nat.{ℕ, zero, suc, _+_, _*_, _-_, _^_, _≤_, _<_}
+use mathlib.Core.Path.{_≡_, refl, sym, ap, ap₂, subst, _∙_}
+use mathlib.Core.Bool.{Bool, true, false, cond}
+use mathlib.Core.List.{List, [], _∷_, _++_}
+use native.Mathlib.Omega.{arith}
+use borrow.Author.Tests.{lt-ltb, le-ltb, leb-true, leb-false}
+use borrow.Rule.Slice.PartMut.{putMid}
+use lib.Dec.{ltb, leb}
+use lib.ListN.{length, take, drop, length-drop}
+use lib.Seq.{sets}
+use Rattle.kind.specs.declared.Kind.{Kind}
+use Rattle.kind.specs.declared.Named.{Named}
+use Rattle.kind.specs.declared.Named.the-variants.{Is, Unknown}
+use Rattle.kind.specs.Kinds.{kindOf, ordersOf}
+use Rattle.kind.specs.Limits.{mostTerms, requestOrders}
+use Rattle.kind.proofs.Parts.{part-all, part-put}
+use Rattle.term.specs.Terms.{Term}
+use Rattle.number.specs.Numbers.{lengthOf}
+use Rattle.number.proofs.Writing.{length-few}
+use Rattle.roll.specs.Bytes.{termsBytes}
+use Rattle.expansion.specs.declared.Path.{Path}
+use Rattle.expansion.specs.declared.Measured.{Measured}
+use Rattle.expansion.specs.declared.Measured.the-variants.{Fits, Over}
+use Rattle.expansion.specs.declared.Expanded.{Expanded}
+use Rattle.expansion.specs.declared.Expanded.the-variants.{Roll, Refused}
+use Rattle.expansion.specs.View.{termAt, digits, prefactorsOf}
+use Rattle.expansion.specs.Walking.{termsBelow}
+use Rattle.expansion.specs.Measuring.{measured, Measures, MeasureMay, Small, termsIn, bytesIn}
+use Rattle.expansion.specs.Expanding.{tooHigh, unusedSet, termsOf, rollOf, kindTold, namedTold, namedOut, KindAnswered, ExpandTold, Nibbles, Packed, emptyTerm, Within, RollMay, RequestMay, SizedMay}
+use Rattle.expansion.proofs.Headers.{few-orders, within-nibbles, first-good, first-terms, roll-length}
+
+-- an answer that refuses leaves every byte as it was
+refused-with : (k : Kind) (os out : List ℕ) (begin n : ℕ) → kindTold k os out begin ≡ Refused n → KindAnswered k os out begin (Refused n) out
+refused-with k os out begin n e = record { answer = sym e; out = ap (λ (r : Expanded). namedOut r (Is k) os out begin) (sym e) }
+
+module _ (k : Kind) (os out : List ℕ) (begin : ℕ) where
+  pub told-high : (b : Bool) → b ≡ tooHigh k os → b ≡ true → KindAnswered k os out begin (Refused 2) out
+  unfolding kindTold
+  told-high b e t = refused-with k os out begin 2 (simp (sym e ∙ t))
+
+  pub told-unused : (a b : Bool) → a ≡ tooHigh k os → a ≡ false → b ≡ unusedSet k os → b ≡ true → KindAnswered k os out begin (Refused 3) out
+  unfolding kindTold
+  told-unused a b e f g t = refused-with k os out begin 3 (simp (sym e ∙ f, sym g ∙ t))
+
+  pub told-beyond : (a b : Bool) → a ≡ tooHigh k os → a ≡ false → b ≡ unusedSet k os → b ≡ false → length out < begin → KindAnswered k os out begin (Refused 5) out
+  unfolding kindTold
+  told-beyond a b e f g h l = refused-with k os out begin 5 (simp (sym e ∙ f, sym g ∙ h, lt-ltb (length out) begin l))
+
+  pub request-may : (a b : Bool) → a ≡ tooHigh k os → a ≡ false → b ≡ unusedSet k os → b ≡ false → length os ≡ requestOrders → begin ≤ length out → RequestMay k os begin out
+  request-may a b e f g h t l = record { within = record { low-sums = sym e ∙ f; none-unused = sym g ∙ h; twelve = t }; begins = l }
+
+-- a path with nothing done yet
+abbrev emptyPath : Path
+emptyPath = record { scale = 1; boys = 0; count = 0; low = 0; high = 0 }
+
+empty-term : termAt emptyPath ≡ emptyTerm
+unfolding prefactorsOf digits
+empty-term = refl
+
+measured-terms : (ts : List Term) (a b : ℕ) → measured ts ≡ Fits a b → (a ≡ length ts) × (b ≡ length (termsBytes ts)) × (length ts ≤ mostTerms)
+unfolding measured
+measured-terms ts a b e = at (leb (length ts) mostTerms) refl e
+  where
+    at : (v : Bool) → leb (length ts) mostTerms ≡ v → cond v (Fits (length ts) (length (termsBytes ts))) Over ≡ Fits a b → (a ≡ length ts) × (b ≡ length (termsBytes ts)) × (length ts ≤ mostTerms)
+    at true t f = (cc, cc, leb-true (length ts) mostTerms t)
+    at false t f = absurd (let z : _≡_ {A = ℕ} 0 1 = cc in omega arith)
+
+measured-over : (ts : List Term) → measured ts ≡ Over → mostTerms < length ts
+unfolding measured
+measured-over ts e = at (leb (length ts) mostTerms) refl e
+  where
+    at : (v : Bool) → leb (length ts) mostTerms ≡ v → cond v (Fits (length ts) (length (termsBytes ts))) Over ≡ Over → mostTerms < length ts
+    at true t f = absurd (let z : _≡_ {A = ℕ} 0 1 = cc in omega arith)
+    at false t f = leb-false (length ts) mostTerms t
+
+module _ (k : Kind) (os out : List ℕ) (begin : ℕ) (may : RequestMay k os begin out) where
+  pub may-nibbles : Nibbles os
+  may-nibbles = within-nibbles k os (may .within)
+
+  module _ (left : ℕ) (word : Packed os 0 left) where
+    pub first-measured : MeasureMay k left 1 0
+    first-measured = record { path = emptyPath; scale-is = refl; count-is = refl; good = first-good k os (may .within) left word emptyPath empty-term }
+
+    module _ (size : Measured) (told : Measures k left 1 0 size) where
+      size-is : size ≡ measured (termsOf k os)
+      size-is =
+          told .is emptyPath refl refl (first-good k os (may .within) left word emptyPath empty-term) ∙ ap measured (first-terms k os (may .within) left word emptyPath empty-term)
+
+      pub told-many : size ≡ Over → KindAnswered k os out begin (Refused 4) out
+      unfolding kindTold
+      told-many e =
+          refused-with k os out begin 4
+          (simp (may .within .low-sums, may .within .none-unused, le-ltb (length out) begin (may .begins), lt-ltb mostTerms (length (termsOf k os)) (measured-over (termsOf k os) (sym size-is ∙ e))))
+
+      pub sized-may : (terms bytes : ℕ) → size ≡ Fits terms bytes → SizedMay k os left terms bytes begin out
+      sized-may terms bytes e =
+          let m = measured-terms (termsOf k os) terms bytes (sym size-is ∙ e) in
+          record {
+            request = may;
+            word = word;
+            count = m .0;
+            few = let h = m .2 in let g = m .0 in omega arith;
+            long = m .1;
+            short = let s = told .small-enough .short in let t = ap termsIn e in let b = ap bytesIn e in omega arith;
+          }
+
+module _ (k : Kind) (os : List ℕ) (left terms bytes begin : ℕ) (out : List ℕ) (may : SizedMay k os left terms bytes begin out) where
+  pub count-cast : terms < 2 ^ 32
+  count-cast = let h = may .few in omega arith
+
+  module _ (n l : ℕ) (orders-is : n ≡ ordersOf k) (length-is : l ≡ lengthOf terms) where
+    pub long-is : 1 + n + l + bytes ≡ length (rollOf k os)
+    long-is = let r = roll-length k os (may .request .within) in let a = ap lengthOf (may .count) in let b = may .long in omega arith
+
+    pub header-fits : 1 + n + l < 2 ^ 64
+    header-fits = let h = few-orders k in let g = length-few terms in omega arith
+
+    pub roll-fits : 1 + n + l + bytes < 2 ^ 64
+    roll-fits = let h = few-orders k in let g = length-few terms in let b = may .short in let t = may .few in omega arith
+
+    pub told-full : length out - begin < 1 + n + l + bytes → KindAnswered k os out begin (Refused 6) out
+    unfolding kindTold
+    told-full h =
+        refused-with k os out begin 6
+        (simp (
+          may .request .within .low-sums,
+          may .request .within .none-unused,
+          le-ltb (length out) begin (may .request .begins),
+          le-ltb mostTerms (length (termsOf k os)) terms-few,
+          lt-ltb (length out) (begin + length (rollOf k os)) (let r = long-is in let b = may .request .begins in omega arith),
+        ))
+      where
+        terms-few : length (termsOf k os) ≤ mostTerms
+        terms-few = let c = may .count in let f = may .few in omega arith
+
+    module _ (fits : 1 + n + l + bytes ≤ length out - begin) where
+      pub roll-may : RollMay k os left terms (take (length out - begin) (drop begin out))
+      roll-may =
+          record {
+            within = may .request .within;
+            word = may .word;
+            count = may .count;
+            few = may .few;
+            room = rw (part-all out begin) (let r = long-is in let d = length-drop begin out in omega arith);
+          }
+
+      pub told-roll : (part : List ℕ) → part ≡ sets (take (length out - begin) (drop begin out)) 0 (rollOf k os) → KindAnswered k os out begin (Roll (1 + n + l + bytes) terms) (putMid begin (length out - begin) out part)
+      unfolding kindTold
+      told-roll part put =
+          record {
+            answer = ap₂ Roll long-is (may .count) ∙ sym told;
+            out = part-put out part (rollOf k os) begin room put ∙ ap (λ (r : Expanded). namedOut r (Is k) os out begin) (sym told);
+          }
+        where
+          room : begin + length (rollOf k os) ≤ length out
+          room = let r = long-is in let b = may .request .begins in omega arith
+
+          terms-few : length (termsOf k os) ≤ mostTerms
+          terms-few = let c = may .count in let f = may .few in omega arith
+
+          told : kindTold k os out begin ≡ Roll (length (rollOf k os)) (length (termsOf k os))
+          told =
+              simp (
+                may .request .within .low-sums,
+                may .request .within .none-unused,
+                le-ltb (length out) begin (may .request .begins),
+                le-ltb mostTerms (length (termsOf k os)) terms-few,
+                le-ltb (length out) (begin + length (rollOf k os)) room,
+              )
+
+-- a kind above 4, and a known one
+module _ (kind : ℕ) (os before : List ℕ) (begin : ℕ) (named : Named) (is : named ≡ kindOf kind) where
+  pub told-unknown : named ≡ Unknown → ExpandTold kind os before begin (Refused 1) before
+  told-unknown e =
+      record {
+        answer = ap (λ (n : Named). namedTold n os before begin) (sym e ∙ is);
+        out = ap (λ (n : Named). namedOut (namedTold n os before begin) n os before begin) (sym e ∙ is);
+      }
+
+  pub told-known : (k : Kind) (r : Expanded) (after : List ℕ) → named ≡ Is k → KindAnswered k os before begin r after → ExpandTold kind os before begin r after
+  told-known k r after e a =
+      record {
+        answer = a .answer ∙ ap (λ (n : Named). namedTold n os before begin) (sym e ∙ is);
+        out = a .out ∙ ap (λ (n : Named). namedOut (namedTold n os before begin) n os before begin) (sym e ∙ is);
+      }

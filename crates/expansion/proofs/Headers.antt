@@ -1,0 +1,296 @@
+-- A request within the limits, and the roll that is written of it.
+use Prim.Native.Nat.{ℕ, zero, suc, _+_, _*_, _-_, _^_, _≤_, _<_}
+use mathlib.Core.Path.{_≡_, refl, sym, ap, ap₂, subst, subst₂, _∙_}
+use mathlib.Core.Bool.{Bool, true, false, cond, _||_}
+use mathlib.Core.List.{List, [], _∷_, _++_, append-assoc}
+use native.Mathlib.Omega.{arith}
+use native.Mathlib.Numerals.{add-one}
+use borrow.Author.Tests.{ltb-false}
+use lib.Dec.{ltb}
+use lib.ListN.{length, getD, set, take, drop, length-append, length-take, length-set, List·getD-eq-default}
+use lib.Seq.{sets, length-sets, take-suc}
+use Rattle.kind.specs.declared.Kind.{Kind}
+use Rattle.kind.specs.declared.Kind.the-variants.{Overlap, Kinetic, Nuclear, Moment, Coulomb}
+use Rattle.kind.specs.Kinds.{numberOf, ordersOf}
+use Rattle.kind.specs.Limits.{mostOrder, mostOrders, mostTerms, requestOrders}
+use Rattle.term.specs.Terms.{Term}
+use Rattle.number.specs.Numbers.{bytesOf, lengthOf}
+use Rattle.number.proofs.Writing.{bytes-last}
+use Rattle.steps.specs.declared.Centre.{Centre}
+use Rattle.steps.specs.declared.Centre.the-variants.{A, B, C, D}
+use Rattle.steps.specs.Choice.{sumOf}
+use Rattle.steps.specs.States.{State, start, total}
+use Rattle.steps.specs.Packed.{orders}
+use Rattle.histories.specs.History.{stage, depth, expand}
+use Rattle.histories.proofs.Bounds.{Small, Reached, started}
+use Rattle.roll.specs.Bytes.{termsBytes, numbersBytes, rollBytes}
+use Rattle.expansion.specs.declared.Path.{Path}
+use Rattle.expansion.specs.View.{termAt, Emitted, NumberFits}
+use Rattle.expansion.specs.Walking.{viewOf, Good, termsBelow, Room, NodeMay}
+use Rattle.expansion.specs.Expanding.{above, tooHigh, unusedSet, termsOf, rollOf, Nibbles, Packed, emptyTerm, Within, headOf, HeadMay, RollMay}
+use Rattle.expansion.proofs.Emission.{sets-append}
+use Rattle.expansion.proofs.Requests.{three-total, none-after}
+
+-- ---- the orders of a request within the limits
+
+neither : (a b : Bool) → (a || b) ≡ false → (a ≡ false) × (b ≡ false)
+neither true b e = absurd (let z : _≡_ {A = ℕ} 0 1 = cc in omega arith)
+neither false b e = (refl, e)
+
+-- the order sums of all four centres, and the depth
+record Sums (k : Kind) (os : List ℕ) : Type 0 where
+  of-a : sumOf os A ≤ mostOrder
+  of-b : sumOf os B ≤ mostOrder
+  of-c : sumOf os C ≤ mostOrder
+  of-d : sumOf os D ≤ mostOrder
+  deep : stage k + total os ≤ mostOrders
+
+module _ (os : List ℕ) (twelve : length os ≡ requestOrders) where
+  all-total : total os ≡ sumOf os A + sumOf os B + sumOf os C + sumOf os D
+  all-total =
+      let a = three-total os 0 in
+      let b = three-total os 3 in
+      let c = three-total os 6 in
+      let d = three-total os 9 in
+      let e = none-after os twelve in
+      omega arith
+
+  two-sums : (k : Kind) → stage k ≤ 1 → (above os A || above os B) ≡ false → ltb 0 (total (drop 6 os)) ≡ false → Sums k os
+  two-sums k s e u =
+      let t = all-total in
+      let n = neither (above os A) (above os B) e in
+      let a = ltb-false mostOrder (sumOf os A) (n .0) in
+      let b = ltb-false mostOrder (sumOf os B) (n .1) in
+      let r = ltb-false 0 (total (drop 6 os)) u in
+      let c = three-total os 6 in
+      let d = three-total os 9 in
+      let l = none-after os twelve in
+      record { of-a = a; of-b = b; of-c = omega arith; of-d = omega arith; deep = omega arith }
+
+  sums : (k : Kind) → tooHigh k os ≡ false → unusedSet k os ≡ false → Sums k os
+  sums Overlap e u = two-sums Overlap (omega arith) e u
+  sums Kinetic e u = two-sums Kinetic (omega arith) e u
+  sums Nuclear e u = two-sums Nuclear (omega arith) e u
+  sums Moment e u =
+      let t = all-total in
+      let m = neither (above os A || above os B) (above os C) e in
+      let n = neither (above os A) (above os B) (m .0) in
+      let a = ltb-false mostOrder (sumOf os A) (n .0) in
+      let b = ltb-false mostOrder (sumOf os B) (n .1) in
+      let c = ltb-false mostOrder (sumOf os C) (m .1) in
+      let r = ltb-false 0 (total (drop 9 os)) u in
+      let d = three-total os 9 in
+      let l = none-after os twelve in
+      record { of-a = a; of-b = b; of-c = c; of-d = omega arith; deep = omega arith }
+  sums Coulomb e u =
+      let t = all-total in
+      let q = neither ((above os A || above os B) || above os C) (above os D) e in
+      let m = neither (above os A || above os B) (above os C) (q .0) in
+      let n = neither (above os A) (above os B) (m .0) in
+      let a = ltb-false mostOrder (sumOf os A) (n .0) in
+      let b = ltb-false mostOrder (sumOf os B) (n .1) in
+      let c = ltb-false mostOrder (sumOf os C) (m .1) in
+      let d = ltb-false mostOrder (sumOf os D) (q .1) in
+      record { of-a = a; of-b = b; of-c = c; of-d = d; deep = omega arith }
+
+  small-at : (k : Kind) → Sums k os → (i : ℕ) → getD os i 0 ≤ mostOrder
+  small-at k s zero = let h = s .of-a in omega arith
+  small-at k s (suc zero) = let h = s .of-a in omega arith
+  small-at k s (suc (suc zero)) = let h = s .of-a in omega arith
+  small-at k s (suc (suc (suc zero))) = let h = s .of-b in omega arith
+  small-at k s (suc (suc (suc (suc zero)))) = let h = s .of-b in omega arith
+  small-at k s (suc (suc (suc (suc (suc zero))))) = let h = s .of-b in omega arith
+  small-at k s (suc (suc (suc (suc (suc (suc zero)))))) = let h = s .of-c in omega arith
+  small-at k s (suc (suc (suc (suc (suc (suc (suc zero))))))) = let h = s .of-c in omega arith
+  small-at k s (suc (suc (suc (suc (suc (suc (suc (suc zero)))))))) = let h = s .of-c in omega arith
+  small-at k s (suc (suc (suc (suc (suc (suc (suc (suc (suc zero))))))))) = let h = s .of-d in omega arith
+  small-at k s (suc (suc (suc (suc (suc (suc (suc (suc (suc (suc zero)))))))))) = let h = s .of-d in omega arith
+  small-at k s (suc (suc (suc (suc (suc (suc (suc (suc (suc (suc (suc zero))))))))))) = let h = s .of-d in omega arith
+  small-at k s (suc (suc (suc (suc (suc (suc (suc (suc (suc (suc (suc (suc i)))))))))))) =
+      let none = List·getD-eq-default os 0 {n = suc (suc (suc (suc (suc (suc (suc (suc (suc (suc (suc (suc i)))))))))))} (omega arith) in
+      omega arith
+
+module _ (k : Kind) (os : List ℕ) (within : Within k os) where
+  all-sums : Sums k os
+  all-sums = sums os (within .twelve) k (within .low-sums) (within .none-unused)
+
+  pub all-small : Small os
+  unfolding Small
+  all-small = small-at os (within .twelve) k all-sums
+
+  pub within-nibbles : Nibbles os
+  unfolding Small
+  within-nibbles = record { small = λ (i : ℕ). let h = all-small i in omega arith }
+
+  -- the first state of the walk
+  module _ (left : ℕ) (word : Packed os 0 left) (p : Path) (empty : termAt p ≡ emptyTerm) where
+    first-view : viewOf k left p ≡ start k os
+    first-view = λ i. record { kind = k; left = word .holds i; term = empty i }
+
+    pub first-good : Good k left p
+    unfolding depth
+    first-good =
+        record {
+          request = k;
+          request-orders = os;
+          reached = subst (Reached k os) (sym first-view) (started k os all-small);
+          deep = all-sums .deep;
+          word = word .below;
+        }
+
+    pub first-terms : termsBelow k left p ≡ termsOf k os
+    unfolding termsBelow
+    first-terms = ap expand first-view
+
+-- ---- the header's bytes
+
+numbers-small : (l : List ℕ) → ((i : ℕ) → getD l i 0 < 128) → numbersBytes l ≡ l
+unfolding numbersBytes
+numbers-small [] h = refl
+numbers-small (n ∷ l) h = ap₂ _++_ (bytes-last n (h 0)) (numbers-small l (λ (i : ℕ). h (suc i)))
+
+take-small : (n : ℕ) (l : List ℕ) → ((i : ℕ) → getD l i 0 < 128) → (i : ℕ) → getD (take n l) i 0 < 128
+take-small zero l h i = omega arith
+take-small (suc n) [] h i = h i
+take-small (suc n) (x ∷ l) h zero = h zero
+take-small (suc n) (x ∷ l) h (suc i) = take-small n l (λ (j : ℕ). h (suc j)) i
+
+pub few-orders : (k : Kind) → ordersOf k ≤ requestOrders
+few-orders Overlap = omega arith
+few-orders Kinetic = omega arith
+few-orders Nuclear = omega arith
+few-orders Moment = omega arith
+few-orders Coulomb = omega arith
+
+pub orders-add : (k : Kind) (n : ℕ) → n ≡ ordersOf k → 1 + n < 2 ^ 64
+orders-add k n e = let h = few-orders k in omega arith
+
+pub kept-through : (out mid after : List ℕ) (i v : ℕ) → length after ≡ length mid → length mid ≡ length (set out i v) → length after ≡ length out
+kept-through out mid after i v e f = e ∙ f ∙ length-set out i v
+
+small-number : (k : Kind) → numberOf k < 128
+small-number Overlap = omega arith
+small-number Kinetic = omega arith
+small-number Nuclear = omega arith
+small-number Moment = omega arith
+small-number Coulomb = omega arith
+
+module _ (k : Kind) (os : List ℕ) (within : Within k os) where
+  roll-bytes : rollOf k os ≡ headOf k os ++ termsBytes (termsOf k os)
+  unfolding rollOf rollBytes headOf Small
+  roll-bytes =
+      ap₂ _++_ (bytes-last (numberOf k) (small-number k))
+      (ap (λ (l : List ℕ). l ++ (bytesOf (length (termsOf k os)) ++ termsBytes (termsOf k os)))
+      (numbers-small (take (ordersOf k) os) (take-small (ordersOf k) os (λ (i : ℕ). let h = all-small k os within i in omega arith))))
+      ∙ ap (λ (l : List ℕ). numberOf k ∷ l) (sym (append-assoc (take (ordersOf k) os) (bytesOf (length (termsOf k os))) (termsBytes (termsOf k os))))
+
+  orders-long : length (take (ordersOf k) os) ≡ ordersOf k
+  orders-long = length-take (ordersOf k) os ∙ (let h = few-orders k in let l = within .twelve in omega arith)
+
+  head-length : length (headOf k os) ≡ 1 + ordersOf k + lengthOf (length (termsOf k os))
+  unfolding headOf lengthOf
+  head-length = let a = length-append (take (ordersOf k) os) (bytesOf (length (termsOf k os))) in let c = orders-long in omega arith
+
+  pub roll-length : length (rollOf k os) ≡ 1 + ordersOf k + lengthOf (length (termsOf k os)) + length (termsBytes (termsOf k os))
+  roll-length = ap length roll-bytes ∙ length-append (headOf k os) (termsBytes (termsOf k os)) ∙ (let h = head-length in omega arith)
+
+module _ (k : Kind) (os : List ℕ) (terms : ℕ) (out : List ℕ) (may : HeadMay k os terms out) where
+  long : length (headOf k os) ≡ 1 + ordersOf k + lengthOf (length (termsOf k os))
+  long = head-length k os (may .within)
+
+  pub head-inside : 0 < length out
+  head-inside = let r = may .room in let l = long in omega arith
+
+  module _ (n : ℕ) (is : n ≡ ordersOf k) where
+    pub orders-few : n ≤ requestOrders
+    orders-few = let h = few-orders k in omega arith
+
+    pub orders-room : (v : ℕ) → 1 + n ≤ length (set out 0 v)
+    orders-room v = let r = may .room in let l = long in let s = length-set out 0 v in omega arith
+
+    module _ (v : ℕ) (num : v ≡ numberOf k) (mid : List ℕ) (put : mid ≡ sets (set out 0 v) 1 (take n os)) where
+      mid-long : length mid ≡ length out
+      mid-long = ap length put ∙ length-sets (set out 0 v) 1 (take n os) ∙ length-set out 0 v
+
+      pub count-fits : NumberFits terms (1 + n) mid
+      unfolding lengthOf
+      count-fits =
+          record {
+            below = let h = may .few in omega arith;
+            room = let r = may .room in let l = long in let m = mid-long in let c = ap (λ (t : ℕ). length (bytesOf t)) (may .count) in omega arith;
+          }
+
+      pub head-put : (at : ℕ) (then : List ℕ) → Emitted (bytesOf terms) (1 + n) mid at then → Emitted (headOf k os) 0 out at then
+      unfolding headOf lengthOf
+      head-put at then counted =
+          record {
+            next = let c = ap (λ (t : ℕ). length (bytesOf t)) (may .count) in let e = counted .next in let l = long in omega arith;
+            out =
+                counted .out
+                ∙ ap₂ (λ (l : List ℕ) (i : ℕ). sets l i (bytesOf terms)) put place
+                ∙ sym (sets-append (set out 0 v) 1 (take n os) (bytesOf terms))
+                ∙ ap (λ (w : ℕ). sets (set out 0 w) 1 (take n os ++ bytesOf terms)) num
+                ∙ ap₂ (λ (m t : ℕ). sets (set out 0 (numberOf k)) 1 (take m os ++ bytesOf t)) is (may .count);
+          }
+        where
+          place : 1 + n ≡ 1 + length (take n os)
+          place = let h = ap (λ (m : ℕ). length (take m os)) is ∙ orders-long k os (may .within) in omega arith
+
+module _ (k : Kind) (os : List ℕ) (left terms : ℕ) (out : List ℕ) (may : RollMay k os left terms out) where
+  whole : length (rollOf k os) ≡ length (headOf k os) + length (termsBytes (termsOf k os))
+  whole = ap length (roll-bytes k os (may .within)) ∙ length-append (headOf k os) (termsBytes (termsOf k os))
+
+  pub head-may : HeadMay k os terms out
+  head-may = record { within = may .within; count = may .count; few = may .few; room = let r = may .room in let w = whole in omega arith }
+
+  module _ (at : ℕ) (then : List ℕ) (head : Emitted (headOf k os) 0 out at then) (p : Path) (empty : termAt p ≡ emptyTerm) where
+    terms-are : termsBelow k left p ≡ termsOf k os
+    terms-are = first-terms k os (may .within) left (may .word) p empty
+
+    pub node-may : NodeMay k left p at then
+    node-may =
+        record {
+          good = first-good k os (may .within) left (may .word) p empty;
+          room = record { fits = let r = may .room in let w = whole in let e = head .next in let s = ap length (head .out) ∙ length-sets out 0 (headOf k os) in let t = ap (λ (ts : List Term). length (termsBytes ts)) terms-are in omega arith };
+        }
+
+    pub roll-put : (r : ℕ) (after : List ℕ) → Emitted (termsBytes (termsBelow k left p)) at then r after → after ≡ sets out 0 (rollOf k os)
+    roll-put r after done =
+        done .out
+        ∙ ap (λ (ts : List Term). sets then at (termsBytes ts)) terms-are
+        ∙ ap₂ (λ (l : List ℕ) (i : ℕ). sets l i (termsBytes (termsOf k os))) (head .out) (head .next)
+        ∙ sym (sets-append out 0 (headOf k os) (termsBytes (termsOf k os)))
+        ∙ sym (ap (sets out 0) (roll-bytes k os (may .within)))
+
+-- ---- storing the orders
+
+pub record Ordering (before os : List ℕ) (count : ℕ) (out : List ℕ) (i : ℕ) : Type 0 where
+  pub within : i ≤ count
+  pub stored : out ≡ sets before 1 (take i os)
+
+pub ordering-first : (before os : List ℕ) (count : ℕ) → Ordering before os count before 0
+ordering-first before os count = record { within = omega arith; stored = refl }
+
+pub ordering-more : (before os : List ℕ) (count : ℕ) (out : List ℕ) (i : ℕ) → count ≤ requestOrders → length os ≡ requestOrders → Ordering before os count out i → i < count
+    → Ordering before os count (set out (1 + i) (getD os i 0)) (i + 1)
+ordering-more before os count out i few twelve o h =
+    record {
+      within = omega arith;
+      stored =
+          ap (λ (l : List ℕ). set l (1 + i) (getD os i 0)) (o .stored)
+          ∙ ap (λ (n : ℕ). set (sets before 1 (take i os)) (1 + n) (getD os i 0)) (sym taken)
+          ∙ sym (sets-append before 1 (take i os) (getD os i 0 ∷ []))
+          ∙ sym (ap (sets before 1) (ap (λ (n : ℕ). take n os) (add-one i) ∙ take-suc os i 0 (omega arith)));
+    }
+  where
+    taken : length (take i os) ≡ i
+    taken = length-take i os ∙ omega arith
+
+pub ordering-last : (before os : List ℕ) (count : ℕ) (out : List ℕ) (i : ℕ) → Ordering before os count out i → count ≤ i → out ≡ sets before 1 (take count os)
+ordering-last before os count out i o h = o .stored ∙ ap (λ (n : ℕ). sets before 1 (take n os)) (let w = o .within in all)
+  where
+    all : i ≡ count
+    all = let w = o .within in omega arith
+
+pub ordering-length : (before os : List ℕ) (count : ℕ) (out : List ℕ) (i : ℕ) → Ordering before os count out i → length out ≡ length before
+ordering-length before os count out i o = ap length (o .stored) ∙ length-sets before 1 (take i os)

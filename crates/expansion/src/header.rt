@@ -1,0 +1,63 @@
+// A roll: kind, orders, term count, terms.
+ghost use mathlib.Core.Path.{_≡_};
+ghost use Prim.Native.Nat.{_+_, _≤_};
+ghost use lib.ListN.{length, take};
+ghost use lib.Seq.{sets};
+ghost use Rattle.kind.specs.Limits.{requestOrders};
+ghost use Rattle.expansion.specs.View.{termAt, Emitted};
+ghost use Rattle.expansion.specs.Expanding.{headOf, rollOf, HeadMay, RollMay, emptyTerm};
+use crate::Path;
+use crate::terms::put_number;
+use crate::walk::node;
+use kind::Kind;
+
+// Writes the first `count` orders, one byte each, from place 1 on.
+fn put_orders(out: &mut [u8], orders: [u8; Kind::ORDERS], count: usize)
+    requires { ⌜ (count ≤ requestOrders) × (1 + count ≤ length (now out)) ⌝ }
+    ensures { λ _. ⌜ now (out .exit) ≡ sets (now (out .entry)) 1 (take count orders) ⌝ }
+{
+    let mut i = 0;
+    while i < count {
+        out[1 + i] = orders[i];
+        i += 1;
+    }
+}
+
+// A term with nothing done yet.
+pub(crate) fn first() -> Path
+    ensures { λ r. ⌜ termAt r ≡ emptyTerm ⌝ }
+{
+    Path {
+        scale: 1,
+        boys: 0,
+        count: 0,
+        low: 0,
+        high: 0,
+    }
+}
+
+// Writes what stands before the terms of a roll.
+fn put_head(out: &mut [u8], kind: Kind, orders: [u8; Kind::ORDERS], terms: u64) -> usize
+    requires { ⌜ HeadMay kind orders terms (now out) ⌝ }
+    ensures { λ r. ⌜ Emitted (headOf kind orders) 0 (now (out .entry)) r (now (out .exit)) ⌝ }
+{
+    let count = kind.orders();
+    out[0] = kind.number();
+    put_orders(out, orders, count);
+    put_number(out, 1 + count, terms)
+}
+
+// Writes a roll at the front of a buffer that has room for it.
+pub(crate) fn put_roll(
+    out: &mut [u8],
+    kind: Kind,
+    orders: [u8; Kind::ORDERS],
+    left: u64,
+    terms: u64,
+)
+    requires { ⌜ RollMay kind orders left terms (now out) ⌝ }
+    ensures { λ _. ⌜ now (out .exit) ≡ sets (now (out .entry)) 0 (rollOf kind orders) ⌝ }
+{
+    let at = put_head(out, kind, orders, terms);
+    node(out, at, kind, left, first());
+}
