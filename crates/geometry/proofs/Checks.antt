@@ -1,0 +1,43 @@
+-- The prefactor table that is handed out: one law for each way out of the checks.
+use Prim.Native.Nat.{ℕ}
+use mathlib.Core.Path.{_≡_, refl, sym, ap, _∙_}
+use mathlib.Core.Bool.{Bool, true, false, not}
+use mathlib.Core.List.{List}
+use borrow.Author.Tests.{not-true, not-false}
+use lib.Ieee.{Float}
+use Rattle.kind.specs.declared.Kind.{Kind}
+use Rattle.kind.specs.declared.Named.{Named}
+use Rattle.kind.specs.declared.Named.the-variants.{Is, Unknown}
+use Rattle.kind.specs.Kinds.{kindOf}
+use Rattle.kind.specs.Limits.{tablePlaces}
+use Rattle.geometry.specs.declared.Centre.{Centre}
+use Rattle.geometry.specs.declared.Table.{Table}
+use Rattle.geometry.specs.declared.Found.the-variants.{Given}
+use Rattle.geometry.specs.Tables.{prefac}
+use Rattle.geometry.specs.Floats.{inPlaces}
+use Rattle.geometry.specs.Checks.{usedFinite, exponentsAboveZero, geometryFinite, unless, refused, checked, ofNamed, prefactorsOf}
+
+module _ (k : Kind) (a b c d : Centre) where
+  pub refused-float : (s : Bool) (r : Table) → s ≡ usedFinite k a b c d → not s ≡ true → r ≡ refused 8 → r ≡ checked k a b c d
+  unfolding checked unless
+  refused-float s r e p f = rw (← e, not-true s p) f
+
+  pub refused-exponent : (s t : Bool) (r : Table) → s ≡ usedFinite k a b c d → not s ≡ false → t ≡ exponentsAboveZero k a b c d → not t ≡ true → r ≡ refused 9 → r ≡ checked k a b c d
+  unfolding checked unless
+  refused-exponent s t r e p f q g = rw (← e, not-false s p, ← f, not-true t q) g
+
+  pub refused-geometry : (s t u : Bool) (r : Table) → s ≡ usedFinite k a b c d → not s ≡ false → t ≡ exponentsAboveZero k a b c d → not t ≡ false → u ≡ geometryFinite k a b c d → not u ≡ true → r ≡ refused 11 → r ≡ checked k a b c d
+  unfolding checked unless
+  refused-geometry s t u r e p f q g o h = rw (← e, not-false s p, ← f, not-false t q, ← g, not-true u o) h
+
+  pub passed : (s t u : Bool) (xs : List Float) → s ≡ usedFinite k a b c d → not s ≡ false → t ≡ exponentsAboveZero k a b c d → not t ≡ false → u ≡ geometryFinite k a b c d → not u ≡ false → xs ≡ inPlaces tablePlaces (prefac k a b c d) → record { found = Given; entries = xs } ≡ checked k a b c d
+  unfolding checked unless
+  passed s t u xs e p f q g o h = rw (← e, not-false s p, ← f, not-false t q, ← g, not-false u o) (ap (λ (ys : List Float). record { found = Given; entries = ys }) h)
+
+  pub named : (kind : ℕ) (n : Named) (r : Table) → n ≡ kindOf kind → n ≡ Is k → r ≡ checked k a b c d → r ≡ prefactorsOf kind a b c d
+  unfolding prefactorsOf ofNamed
+  named kind n r e f g = rw (← e, f) g
+
+pub unnamed : (a b c d : Centre) (kind : ℕ) (n : Named) (r : Table) → n ≡ kindOf kind → n ≡ Unknown → r ≡ refused 1 → r ≡ prefactorsOf kind a b c d
+unfolding prefactorsOf ofNamed
+unnamed a b c d kind n r e f g = rw (← e, f) g

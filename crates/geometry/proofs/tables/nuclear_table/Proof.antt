@@ -1,0 +1,13 @@
+-- `nuclear_table` meets its contract: the callees' promises put into its entries. Assumes nothing.
+use borrow.Author.Needs.{needs}
+use Rattle.geometry.proofs.tables.nuclear_table.Statement.{statement}
+use Rattle.geometry.proofs.tables.nuclear_table.Tie as tie
+
+bi-center-of-requires : tie.Need-bi-center-of-requires
+bi-center-of-requires c κs = search needs
+
+returns : tie.Need-returns
+returns c = cc
+
+pub nuclear-table-spec : {M : Type 1} → statement M
+nuclear-table-spec = tie.close (tie.spec bi-center-of-requires returns)

@@ -1,0 +1,86 @@
+-- 01, "Limits and refusal numbers" and "Numbers": the checks 8, 9 and 11 of a kind's floats, and the prefactor table that is handed out.
+use Prim.Native.Nat.{ℕ}
+use mathlib.Core.Bool.{Bool, true, false}
+use mathlib.Core.List.{List, [], _∷_, _++_}
+use lib.Ieee.{Float}
+use lib.ListN.{replicate}
+use Rattle.kind.specs.declared.Kind.{Kind}
+use Rattle.kind.specs.declared.Kind.the-variants.{Overlap, Kinetic, Nuclear, Moment, Coulomb}
+use Rattle.kind.specs.declared.Named.{Named}
+use Rattle.kind.specs.declared.Named.the-variants.{Is, Unknown}
+use Rattle.kind.specs.Kinds.{kindOf}
+use Rattle.kind.specs.Limits.{tablePlaces}
+use Rattle.geometry.specs.declared.Centre.{Centre}
+use Rattle.geometry.specs.declared.Found.{Found}
+use Rattle.geometry.specs.declared.Found.the-variants.{Given, Refused}
+use Rattle.geometry.specs.declared.Table.{Table}
+use Rattle.geometry.specs.Floats.{zero, allFinite, allAboveZero, inPlaces}
+use Rattle.geometry.specs.Geometry.{numbers}
+use Rattle.geometry.specs.Tables.{prefac}
+
+-- a centre's coordinates, and the whole centre
+unfoldable pub place : Centre → List Float
+place c = c .x ∷ c .y ∷ c .z ∷ []
+
+unfoldable pub whole : Centre → List Float
+whole c = c .x ∷ c .y ∷ c .z ∷ c .exponent ∷ []
+
+-- kinds 0, 1 use A, B; 2, 3 also C's coordinates; 4 uses A to D
+unfoldable pub used : Kind → Centre → Centre → Centre → Centre → List Float
+used Overlap a b c d = whole a ++ whole b
+used Kinetic a b c d = whole a ++ whole b
+used Nuclear a b c d = (whole a ++ whole b) ++ place c
+used Moment a b c d = (whole a ++ whole b) ++ place c
+used Coulomb a b c d = (whole a ++ whole b) ++ (whole c ++ whole d)
+
+-- the exponents among them
+unfoldable pub exponents : Kind → Centre → Centre → Centre → Centre → List Float
+exponents Overlap a b c d = a .exponent ∷ b .exponent ∷ []
+exponents Kinetic a b c d = a .exponent ∷ b .exponent ∷ []
+exponents Nuclear a b c d = a .exponent ∷ b .exponent ∷ []
+exponents Moment a b c d = a .exponent ∷ b .exponent ∷ []
+exponents Coulomb a b c d = a .exponent ∷ b .exponent ∷ c .exponent ∷ d .exponent ∷ []
+
+-- 8 unless every used float is finite
+unfoldable pub usedFinite : Kind → Centre → Centre → Centre → Centre → Bool
+usedFinite k a b c d = allFinite (used k a b c d)
+
+-- 9 unless every used exponent is above 0
+unfoldable pub exponentsAboveZero : Kind → Centre → Centre → Centre → Centre → Bool
+exponentsAboveZero k a b c d = allAboveZero (exponents k a b c d)
+
+-- 11 unless every geometry number and every table entry is finite
+unfoldable pub geometryFinite : Kind → Centre → Centre → Centre → Centre → Bool
+geometryFinite k a b c d = allFinite (numbers k a b c d ++ prefac k a b c d)
+
+-- the number that 01 gives each case; 0 is success
+abbrev pub numberOf : Found → ℕ
+numberOf Given = 0
+numberOf (Refused n) = n
+
+-- a table in its places, or a refusal with zeros beside it
+abbrev pub given : List Float → Table
+given xs = record { found = Given; entries = inPlaces tablePlaces xs }
+
+abbrev pub refused : ℕ → Table
+refused n = record { found = Refused n; entries = replicate tablePlaces zero }
+
+unfoldable pub unless : Bool → ℕ → Table → Table
+unless true n t = t
+unless false n t = refused n
+
+-- 8, 9, 11
+unfoldable pub checked : Kind → Centre → Centre → Centre → Centre → Table
+checked k a b c d =
+    unless (usedFinite k a b c d) 8
+    (unless (exponentsAboveZero k a b c d) 9
+    (unless (geometryFinite k a b c d) 11
+    (given (prefac k a b c d))))
+
+unfoldable pub ofNamed : Named → Centre → Centre → Centre → Centre → Table
+ofNamed (Is k) a b c d = checked k a b c d
+ofNamed Unknown a b c d = refused 1
+
+-- the prefactor table: 1, 8, 9, 11
+unfoldable pub prefactorsOf : ℕ → Centre → Centre → Centre → Centre → Table
+prefactorsOf kind a b c d = ofNamed (kindOf kind) a b c d

@@ -1,0 +1,4 @@
+pub mod Floats
+pub mod Geometry
+pub mod Tables
+pub mod Checks

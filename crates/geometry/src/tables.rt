@@ -1,0 +1,195 @@
+// The five prefactor tables, `prefac` in the five get_ functions of os86.rs.
+ghost use mathlib.Core.Path.{_≡_};
+ghost use Rattle.kind.specs.Limits.{tablePlaces};
+ghost use Rattle.geometry.specs.Floats.{inPlaces};
+ghost use Rattle.geometry.specs.Geometry.{zOf, eOf, rpOf, rwOf, rhoOf};
+ghost use Rattle.geometry.specs.Tables.{overlapTable, kineticTable, nuclearTable, momentTable, coulombTable};
+use super::Centre;
+use super::Point;
+use super::bi_center_of;
+use super::get_bi_center;
+use kind::Kind;
+
+pub(crate) fn overlap_table(a: Centre, b: Centre) -> [f64; Kind::TABLE]
+    ensures { λ r. ⌜ r ≡ inPlaces tablePlaces (overlapTable (rpOf a b) (zOf a b) a b) ⌝ }
+{
+    let z = a.exponent + b.exponent;
+    let rp = bi_center_of(a, b);
+    [
+        rp.x - a.x,
+        rp.x - b.x,
+        rp.y - a.y,
+        rp.y - b.y,
+        rp.z - a.z,
+        rp.z - b.z,
+        0.5 / z,
+        0.5 / z,
+        0.0,
+        0.0,
+        0.0,
+        0.0,
+        0.0,
+        0.0,
+        0.0,
+        0.0,
+        0.0,
+        0.0,
+        0.0,
+        0.0,
+        0.0,
+        0.0,
+        0.0,
+    ]
+}
+
+pub(crate) fn kinetic_table(a: Centre, b: Centre) -> [f64; Kind::TABLE]
+    ensures { λ r. ⌜ r ≡ inPlaces tablePlaces (kineticTable (rpOf a b) (zOf a b) (eOf a b) a b) ⌝ }
+{
+    let za = a.exponent;
+    let zb = b.exponent;
+    let z = za + zb;
+    let e = za * zb / (za + zb);
+    let rp = bi_center_of(a, b);
+    [
+        rp.x - a.x,
+        rp.x - b.x,
+        rp.y - a.y,
+        rp.y - b.y,
+        rp.z - a.z,
+        rp.z - b.z,
+        0.5 / z,
+        0.5 / z,
+        2.0 * e,
+        -e / za,
+        -e / zb,
+        0.0,
+        0.0,
+        0.0,
+        0.0,
+        0.0,
+        0.0,
+        0.0,
+        0.0,
+        0.0,
+        0.0,
+        0.0,
+        0.0,
+    ]
+}
+
+pub(crate) fn nuclear_table(a: Centre, b: Centre, c: Centre) -> [f64; Kind::TABLE]
+    ensures { λ r. ⌜ r ≡ inPlaces tablePlaces (nuclearTable (rpOf a b) (zOf a b) a b c) ⌝ }
+{
+    let z = a.exponent + b.exponent;
+    let rp = bi_center_of(a, b);
+    [
+        rp.x - a.x,
+        rp.x - b.x,
+        rp.y - a.y,
+        rp.y - b.y,
+        rp.z - a.z,
+        rp.z - b.z,
+        -rp.x + c.x,
+        -rp.y + c.y,
+        -rp.z + c.z,
+        0.5 / z,
+        -0.5 / z,
+        0.0,
+        0.0,
+        0.0,
+        0.0,
+        0.0,
+        0.0,
+        0.0,
+        0.0,
+        0.0,
+        0.0,
+        0.0,
+        0.0,
+    ]
+}
+
+pub(crate) fn moment_table(a: Centre, b: Centre, c: Centre) -> [f64; Kind::TABLE]
+    ensures { λ r. ⌜ r ≡ inPlaces tablePlaces (momentTable (rpOf a b) (zOf a b) a b c) ⌝ }
+{
+    let z = a.exponent + b.exponent;
+    let rp = bi_center_of(a, b);
+    [
+        rp.x - a.x,
+        rp.x - b.x,
+        rp.y - a.y,
+        rp.y - b.y,
+        rp.z - a.z,
+        rp.z - b.z,
+        rp.x - c.x,
+        rp.y - c.y,
+        rp.z - c.z,
+        0.5 / z,
+        0.5 / z,
+        0.5 / z,
+        0.0,
+        0.0,
+        0.0,
+        0.0,
+        0.0,
+        0.0,
+        0.0,
+        0.0,
+        0.0,
+        0.0,
+        0.0,
+    ]
+}
+
+fn coulomb_entries(
+    rp: Point,
+    rq: Point,
+    rw: Point,
+    z: f64,
+    n: f64,
+    rho: f64,
+    a: Centre,
+    b: Centre,
+    c: Centre,
+    d: Centre,
+) -> [f64; Kind::TABLE]
+    ensures { λ r. ⌜ r ≡ coulombTable rp rq rw z n rho a b c d ⌝ }
+{
+    [
+        rp.x - a.x,
+        rp.x - b.x,
+        rq.x - c.x,
+        rq.x - d.x,
+        rw.x - rp.x,
+        rw.x - rq.x,
+        rp.y - a.y,
+        rp.y - b.y,
+        rq.y - c.y,
+        rq.y - d.y,
+        rw.y - rp.y,
+        rw.y - rq.y,
+        rp.z - a.z,
+        rp.z - b.z,
+        rq.z - c.z,
+        rq.z - d.z,
+        rw.z - rp.z,
+        rw.z - rq.z,
+        0.5 / z,
+        0.5 / n,
+        -0.5 * rho / (z * z),
+        -0.5 * rho / (n * n),
+        0.5 / (z + n),
+    ]
+}
+
+pub(crate) fn coulomb_table(a: Centre, b: Centre, c: Centre, d: Centre) -> [f64; Kind::TABLE]
+    ensures { λ r. ⌜ r ≡ inPlaces tablePlaces (coulombTable (rpOf a b) (rpOf c d) (rwOf a b c d) (zOf a b) (zOf c d) (rhoOf a b c d) a b c d) ⌝ }
+{
+    let z = a.exponent + b.exponent;
+    let n = c.exponent + d.exponent;
+    let rp = bi_center_of(a, b);
+    let rq = bi_center_of(c, d);
+    let rw = get_bi_center(z, n, rp, rq);
+    let rho = z * n / (z + n);
+    coulomb_entries(rp, rq, rw, z, n, rho, a, b, c, d)
+}
