@@ -1,0 +1,5 @@
+pub mod Sizes
+pub mod Sums
+pub mod Mirror
+pub mod Outcome
+pub mod Only
