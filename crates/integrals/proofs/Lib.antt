@@ -1,3 +1,3 @@
 pub mod Stored
-pub mod Sums
+pub mod Adding
 pub mod Values

@@ -15,7 +15,7 @@ use Rattle.integrals.specs.Sums.{productOf, staysKinetic}
 use Rattle.number.specs.declared.Number.{Number}
 use Rattle.number.specs.declared.Number.the-variants.{Is, Ended, NotShortest, TooLarge}
 use Rattle.number.specs.Numbers.{readAt}
-use Rattle.integrals.specs.declared.Seen.{Seen}
+use Rattle.integrals.specs.declared.reader.Seen.{Seen}
 use Rattle.integrals.specs.Stored.{between, seen, seenAt}
 
 pub read-inside : (xs : List Float) (at : ℕ) → at < length xs → getD xs at nan ≡ getD xs at 0·0

@@ -11,10 +11,10 @@ use Rattle.number.specs.Numbers.{readAt}
 use Rattle.term.specs.Terms.{Term}
 use Rattle.geometry.specs.Floats.{_⊕_, one}
 use Rattle.integrals.specs.Sums.{staysKinetic, plainOf, kineticOf, nuclearOf, coulombOf}
-use Rattle.integrals.specs.declared.Adds.{Adds}
-use Rattle.integrals.specs.declared.Adds.the-variants.{Plain, Kinetic, Nuclear}
-use Rattle.integrals.specs.declared.Seen.{Seen}
-use Rattle.integrals.specs.declared.Head.{Head}
+use Rattle.integrals.specs.declared.sums.Adds.{Adds}
+use Rattle.integrals.specs.declared.sums.Adds.the-variants.{Plain, Kinetic, Nuclear}
+use Rattle.integrals.specs.declared.reader.Seen.{Seen}
+use Rattle.integrals.specs.declared.reader.Head.{Head}
 
 -- a number that reads, with the place after it
 unfoldable pub seen : ℕ → Number → Seen
