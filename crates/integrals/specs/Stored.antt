@@ -11,6 +11,13 @@ use Rattle.number.specs.Numbers.{readAt}
 use Rattle.term.specs.Terms.{Term}
 use Rattle.geometry.specs.Floats.{_⊕_, one}
 use Rattle.integrals.specs.Sums.{staysKinetic, plainOf, kineticOf, nuclearOf, coulombOf}
+use Rattle.kind.specs.declared.Named.{Named}
+use Rattle.kind.specs.declared.Named.the-variants as named
+use Rattle.geometry.specs.declared.Centre.{Centre}
+use Rattle.roll.specs.declared.Cursor.{Cursor}
+use Rattle.integrals.specs.declared.Value.{Value}
+use Rattle.integrals.specs.declared.Value.the-variants.{Refused}
+use Rattle.integrals.specs.Values.{valueOf}
 use Rattle.integrals.specs.declared.sums.Adds.{Adds}
 use Rattle.integrals.specs.declared.sums.Adds.the-variants.{Plain, Kinetic, Nuclear}
 use Rattle.integrals.specs.declared.reader.Seen.{Seen}
@@ -61,3 +68,8 @@ unfoldable pub addendOf : Adds → Float → List Float → Float → List Float
 addendOf Plain kinetic table aux boys t = plainOf table aux t
 addendOf Kinetic kinetic table aux boys t = kineticOf kinetic table aux t
 addendOf Nuclear kinetic table aux boys t = nuclearOf table aux boys t
+
+-- the value of the terms from a cursor on; a cursor that the judge gives has a kind
+unfoldable pub ofCursor : Named → Cursor → Centre → Centre → Centre → Centre → Float → List Float → List ℕ → Value
+ofCursor (named.Is k) cursor a b c d aux boys roll = valueOf k (cursor .l) a b c d aux boys (termsAt roll (cursor .left) (cursor .place))
+ofCursor named.Unknown cursor a b c d aux boys roll = Refused 7 0

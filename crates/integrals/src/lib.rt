@@ -1,11 +1,15 @@
 // The five integrals over a roll: the checks in their order, then the sum.
-ghost use Prim.Native.Nat.{_≤_};
 ghost use mathlib.Core.Path.{_≡_};
 ghost use Rattle.integrals.specs.Sums.{kineticStart, integralOf};
 ghost use Rattle.integrals.specs.Values.{inputsFinite, boysCounted, resultOf, valueOf};
-ghost use Rattle.integrals.specs.Stored.{termsAt};
+ghost use Rattle.integrals.specs.Stored.{ofCursor, termsAt};
+ghost use Rattle.integrals.specs.Evaluation.{evaluateOf};
+ghost use Rattle.kind.specs.Kinds.{kindOf};
 use geometry::Centre;
 use kind::Kind;
+use kind::Named;
+use roll::Cursor;
+use roll::Opening;
 
 mod reader;
 mod sums;
@@ -29,7 +33,7 @@ fn kinetic_of(a: Centre, b: Centre) -> f64
 
 fn integral(
     kind: Kind,
-    l: usize,
+    l: u8,
     a: Centre,
     b: Centre,
     c: Centre,
@@ -40,7 +44,6 @@ fn integral(
     start: usize,
     terms: u32,
 ) -> f64
-    requires { ⌜ l ≤ 255 ⌝ }
     ensures { λ r. ⌜ r ≡ integralOf kind l a b c d aux (now (boys .entry)) (termsAt (now (roll .entry)) terms start) ⌝ }
 {
     let table = geometry::prefac(kind, a, b, c, d);
@@ -69,12 +72,11 @@ fn inputs_finite(
 }
 
 // Check 10: how many Boys numbers there are.
-fn boys_counted(kind: Kind, l: usize, count: usize) -> bool
-    requires { ⌜ l ≤ 255 ⌝ }
+fn boys_counted(kind: Kind, l: u8, count: usize) -> bool
     ensures { λ r. ⌜ r ≡ boysCounted kind l count ⌝ }
 {
     if kind.uses_boys() {
-        return count == l + 1;
+        return count == l as usize + 1;
     }
     count == 0
 }
@@ -92,7 +94,7 @@ fn result(x: f64) -> Value
 // Checks 8, 9, 10 and 11 of a roll's terms, and their sum.
 fn judged(
     kind: Kind,
-    l: usize,
+    l: u8,
     a: Centre,
     b: Centre,
     c: Centre,
@@ -103,7 +105,6 @@ fn judged(
     start: usize,
     terms: u32,
 ) -> Value
-    requires { ⌜ l ≤ 255 ⌝ }
     ensures { λ r. ⌜ r ≡ valueOf kind l a b c d aux (now (boys .entry)) (termsAt (now (roll .entry)) terms start) ⌝ }
 {
     if !inputs_finite(kind, a, b, c, d, aux, boys) {
@@ -119,4 +120,56 @@ fn judged(
         return Value::Refused(11, 0);
     }
     result(integral(kind, l, a, b, c, d, aux, boys, roll, start, terms))
+}
+
+// The terms of a roll that was judged, from its cursor on.
+fn from_cursor(
+    cursor: Cursor,
+    a: Centre,
+    b: Centre,
+    c: Centre,
+    d: Centre,
+    aux: f64,
+    boys: &[f64],
+    roll: &[u8],
+) -> Value
+    ensures { λ r. ⌜ r ≡ ofCursor (kindOf (cursor .kind)) cursor a b c d aux (now (boys .entry)) (now (roll .entry)) ⌝ }
+{
+    match Kind::of(cursor.kind) {
+        Named::Is(kind) => judged(
+            kind,
+            cursor.l,
+            a,
+            b,
+            c,
+            d,
+            aux,
+            boys,
+            roll,
+            cursor.place,
+            cursor.left,
+        ),
+        Named::Unknown => Value::Refused(7, 0),
+    }
+}
+
+// The integral of a roll with the host's numbers, or 7 with its place, 8, 9, 10 or 11.
+pub fn evaluate(
+    roll: &[u8],
+    a: Centre,
+    b: Centre,
+    c: Centre,
+    d: Centre,
+    aux: f64,
+    boys: &[f64],
+) -> Value
+    ensures { λ r. ⌜ r ≡ evaluateOf (now (roll .entry)) a b c d aux (now (boys .entry)) ⌝ }
+{
+    let opened = roll::check(roll);
+    let found = opened.found;
+    let cursor = opened.cursor;
+    match found {
+        Opening::Roll => from_cursor(cursor, a, b, c, d, aux, boys, roll),
+        Opening::Refused(number, place) => Value::Refused(number, place),
+    }
 }

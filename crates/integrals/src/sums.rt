@@ -203,7 +203,7 @@ fn get_moment(table: &[f64], aux: f64, boys: &[f64], roll: &[u8], start: usize, 
 
 // Coulomb runs the Boys orders from 0 to L.
 fn get_coulomb(
-    l: usize,
+    l: u8,
     table: &[f64],
     s: f64,
     boys: &[f64],
@@ -211,12 +211,12 @@ fn get_coulomb(
     start: usize,
     terms: u32,
 ) -> f64
-    requires { ⌜ l ≤ 255 ⌝ }
     ensures { λ r. ⌜ r ≡ runOrders (now (table .entry)) s (now (boys .entry)) (termsAt (now (roll .entry)) terms start) (l + 1) 0 zero ⌝ }
 {
+    let last = l as usize;
     let mut sum = 0.0;
     let mut order = 0;
-    while order <= l {
+    while order <= last {
         sum = pass(order, table, s, boys, roll, start, terms, sum);
         order += 1;
     }
@@ -225,7 +225,7 @@ fn get_coulomb(
 
 pub(crate) fn total(
     kind: Kind,
-    l: usize,
+    l: u8,
     kinetic: f64,
     table: &[f64],
     aux: f64,
@@ -234,7 +234,6 @@ pub(crate) fn total(
     start: usize,
     terms: u32,
 ) -> f64
-    requires { ⌜ l ≤ 255 ⌝ }
     ensures { λ r. ⌜ r ≡ totalOf kind l kinetic (now (table .entry)) aux (now (boys .entry)) (termsAt (now (roll .entry)) terms start) ⌝ }
 {
     match kind {

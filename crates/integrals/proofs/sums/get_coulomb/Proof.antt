@@ -12,10 +12,10 @@ use Rattle.integrals.proofs.sums.get_coulomb.Statement.{statement}
 use Rattle.integrals.proofs.sums.get_coulomb.Tie as tie
 
 abbrev Inv-loop : tie.InvT-loop
-Inv-loop l table s boys roll start terms sum₀ order₀ sum order = (order ≤ l + 1) × (runOrders table s boys (termsAt roll terms start) (l + 1 - order) order sum ≡ runOrders table s boys (termsAt roll terms start) (l + 1) 0 zero)
+Inv-loop l table s boys roll start terms last sum₀ order₀ sum order = (order ≤ last + 1) × (runOrders table s boys (termsAt roll terms start) (last + 1 - order) order sum ≡ runOrders table s boys (termsAt roll terms start) (last + 1) 0 zero)
 
 abbrev μ-loop : tie.MeasureT-loop
-μ-loop l table s boys roll start terms sum₀ order₀ sum order = l + 1 - order
+μ-loop l table s boys roll start terms last sum₀ order₀ sum order = last + 1 - order
 
 loop-holds : tie.Need-loop-holds Inv-loop μ-loop
 loop-holds c = (omega arith, rw sub-zero)
