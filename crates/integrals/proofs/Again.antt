@@ -1,15 +1,14 @@
 -- A roll that reads gives the same terms when it is read again without its limits:
 -- a number that was within them was read, and a prefactor is one byte.
-use Prim.Native.Nat.{ℕ, zero, suc, _+_, _-_, _<_, _≤_, _^_, min}
+use Prim.Native.Nat.{ℕ, zero, suc, _+_, _-_, _<_, _≤_, min}
 use mathlib.Core.Path.{_≡_, refl, sym, ap, _∙_}
 use mathlib.Core.Bool.{Bool, true, false, cond, _||_}
 use mathlib.Core.List.{List, [], _∷_, _++_}
 use native.Mathlib.Nat.{add-zero, min-eq-left, add-suc}
-use native.Mathlib.Numerals.{add-one}
 use native.Mathlib.Omega.{arith}
 use borrow.Author.Tests.{ltb-false}
 use lib.Dec.{ltb, eqb, lit≤}
-use lib.ListN.{length, take, drop, getD}
+use lib.ListN.{length, take, drop}
 use Rattle.kind.specs.declared.Kind.{Kind}
 use Rattle.kind.specs.declared.Kind.the-variants.{Overlap, Kinetic, Nuclear, Moment, Coulomb}
 use Rattle.kind.specs.Kinds.{tableOf, mostPrefactors}
@@ -18,10 +17,8 @@ use Rattle.term.specs.Terms.{Term}
 use Rattle.number.specs.declared.Number.{Number}
 use Rattle.number.specs.declared.Number.the-variants as number
 use Rattle.number.specs.Numbers.{readAt, Bytes, bytesOf}
-use Rattle.number.proofs.Laws.{Reads, reads-only}
+use Rattle.number.proofs.Laws.{reads-only}
 use Rattle.number.proofs.Writing.{bytes-last, length-last}
-use Rattle.integrals.specs.declared.reader.Seen.{Seen}
-use Rattle.integrals.specs.declared.reader.Head.{Head}
 use Rattle.roll.specs.Reading.{Reading, got, refused, opened, withinAt, onward, andThen, before, prefactorsAt, mostBoys, countAt, boysAt, termAt, termsAt}
 use Rattle.integrals.specs.Stored.{seen, seenAt, headAt, between, termOf, termsAt as again}
 

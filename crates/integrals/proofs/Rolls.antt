@@ -18,9 +18,8 @@ use Rattle.integrals.specs.Evaluation.{ofRoll, evaluateOf}
 use Rattle.term.specs.Terms.{Term}
 use Rattle.number.specs.Numbers.{Bytes}
 use Rattle.roll.specs.declared.Opened.{Opened}
-use Rattle.roll.specs.declared.Opening.{Opening}
 use Rattle.roll.specs.declared.Opening.the-variants as opening
-use Rattle.roll.specs.Reading.{Reading, got, refused, headerAt, termsAt, rollAt, total, Header, Roll, andThen}
+use Rattle.roll.specs.Reading.{Reading, got, refused, headerAt, termsAt, rollAt, total, Header, Roll}
 use Rattle.roll.specs.Answers.{checkOf, checked, judged, heldHeader}
 use Rattle.integrals.specs.Stored.{ofCursor, termsAt as again}
 use Rattle.integrals.proofs.Again.{terms-again}

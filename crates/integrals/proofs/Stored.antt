@@ -1,6 +1,6 @@
 -- Bytes of a roll one after the other: a product and a test over them go on from where they stand.
 use Prim.Native.Nat.{ℕ, zero, suc, _+_, _-_, _<_, _≤_}
-use mathlib.Core.Path.{_≡_, refl, sym, ap, _∙_}
+use mathlib.Core.Path.{_≡_, refl}
 use mathlib.Core.Bool.{Bool, true, false}
 use mathlib.Core.List.{List, [], _∷_}
 use native.Mathlib.Nat.{not-suc-le-zero, le-of-suc-le-suc}
@@ -8,8 +8,9 @@ use native.Mathlib.Numerals.{add-one}
 use native.Mathlib.Omega.{arith}
 use borrow.Author.Tests.{le-leb, lt-leb}
 use lib.Ieee.{Float, nan}
-use lib.ListN.{length, getD, take, drop}
+use lib.ListN.{length, getD}
 use lib.Seq.{drop-cons}
+use Rattle.geometry.proofs.Laws.{left-one, left-none}
 use Rattle.geometry.specs.Floats.{_⊗_, zero as 0·0}
 use Rattle.integrals.specs.Sums.{productOf, staysKinetic}
 use Rattle.number.specs.declared.Number.{Number}
@@ -45,12 +46,6 @@ module _ (roll : List ℕ) (at : ℕ) (r : Number) (e : r ≡ readAt roll at) wh
   pub seen-large : r ≡ TooLarge → _≡_ {A = Seen} (record { value = 0; next = at }) (seenAt roll at)
   unfolding seenAt seen
   seen-large f = rw (← e, f)
-
-left-one : (n k : ℕ) → k < n → n - k ≡ suc (n - (k + 1))
-left-one n k h = omega arith
-
-left-none : (n k : ℕ) → n ≤ k → n - k ≡ 0
-left-none n k h = omega arith
 
 module _ (roll : List ℕ) (at end : ℕ) where
   between-more : at < end → end ≤ length roll → between roll at end ≡ getD roll at 0 ∷ between roll (at + 1) end

@@ -1,7 +1,7 @@
 -- 01, "Limits and refusal numbers": an evaluation is refused 8, 9, 10 or 11, in this order, once its roll has been read.
 use Prim.Native.Nat.{ℕ, _+_}
 use mathlib.Core.Bool.{Bool, true, false, _&&_, cond}
-use mathlib.Core.List.{List, [], _∷_}
+use mathlib.Core.List.{List}
 use lib.Dec.{eqb}
 use lib.Ieee.{Float}
 use lib.Ieee.Scale.{finite}

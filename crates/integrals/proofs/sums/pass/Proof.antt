@@ -1,6 +1,5 @@
 -- `pass` meets its contract: what is left of the terms gives the whole sum of the order. Assumes nothing.
 use mathlib.Core.Path.{_≡_, refl}
-use native.Mathlib.Omega.{arith}
 use borrow.Author.Needs.{needs}
 use Rattle.integrals.specs.Sums.{sumFrom, coulombOf, ofOrder}
 use Rattle.integrals.specs.Stored.{termsAt}

@@ -1,7 +1,6 @@
 -- `product` meets its contract: what is left of the prefactors gives the whole product. Assumes nothing.
 use mathlib.Core.Path.{_≡_, refl}
 use Prim.Native.Nat.{_-_}
-use native.Mathlib.Omega.{arith}
 use borrow.Author.Needs.{needs}
 use Rattle.integrals.specs.Sums.{productOf}
 use Rattle.integrals.specs.Stored.{between}

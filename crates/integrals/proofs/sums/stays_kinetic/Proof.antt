@@ -1,7 +1,6 @@
 -- `stays_kinetic` meets its contract: what is left of the prefactors decides it. Assumes nothing.
 use mathlib.Core.Path.{_≡_, refl}
 use Prim.Native.Nat.{_-_}
-use native.Mathlib.Omega.{arith}
 use borrow.Author.Needs.{needs}
 use Rattle.integrals.specs.Sums.{staysKinetic}
 use Rattle.integrals.specs.Stored.{between}

@@ -1,6 +1,5 @@
 -- `sum` meets its contract: what is left of the terms gives the whole sum. Assumes nothing.
 use mathlib.Core.Path.{_≡_, refl}
-use native.Mathlib.Omega.{arith}
 use borrow.Author.Needs.{needs}
 use Rattle.geometry.specs.Floats.{zero}
 use Rattle.integrals.specs.Sums.{sumFrom}
