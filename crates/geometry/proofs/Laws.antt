@@ -1,10 +1,11 @@
 -- Finite floats: the two tests of one, a list of them from a place on, and lists in two parts.
 -- Exponents above zero go by the same two parts.
-use Prim.Native.Nat.{ℕ, zero, suc, _+_, _<_, _≤_}
+use Prim.Native.Nat.{ℕ, zero, suc, _+_, _-_, _<_, _≤_}
 use mathlib.Core.Path.{_≡_, refl, sym, ap, _∙_}
 use mathlib.Core.Bool.{Bool, true, false, _&&_}
 use mathlib.Core.List.{List, [], _∷_, _++_}
 use native.Mathlib.Numerals.{add-one}
+use native.Mathlib.Omega.{arith}
 use lib.Ieee.{Float, nan, inf, fin, binary64, lt, neg, ofBits}
 use lib.Ieee.Scale.{finite}
 use lib.ListN.{length, drop, getD, replicate, drop-of-length-le}
@@ -89,3 +90,10 @@ two-not-above a b c d s e p = rw (above-both (a ∷ b ∷ []) (c ∷ d ∷ []), 
 
 pub finite-held : (n : ℕ) (xs ys : List Float) (r : Bool) → ys ≡ inPlaces n xs → r ≡ allFinite ys → r ≡ allFinite xs
 finite-held n xs ys r e f = f ∙ ap allFinite e ∙ finite-places n xs
+
+-- how much is left of n after k, for a loop that counts
+pub left-one : (n k : ℕ) → k < n → n - k ≡ suc (n - (k + 1))
+left-one n k h = omega arith
+
+pub left-none : (n k : ℕ) → n ≤ k → n - k ≡ 0
+left-none n k h = omega arith

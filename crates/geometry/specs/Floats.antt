@@ -2,7 +2,7 @@
 use Prim.Native.Nat.{ℕ, _-_}
 use mathlib.Core.Bool.{Bool, true, _&&_}
 use mathlib.Core.List.{List, [], _∷_, _++_}
-use lib.Ieee.{Float, binary64, add, sub, mul, div, neg, lt, ofBits}
+use lib.Ieee.{Float, binary64, add, sub, mul, div, lt, ofBits}
 use lib.Ieee.Scale.{finite}
 use lib.ListN.{length, replicate}
 

@@ -114,12 +114,14 @@ pub(crate) fn bi_center_of(a: Centre, b: Centre) -> Point
 pub fn prefac(kind: Kind, a: Centre, b: Centre, c: Centre, d: Centre) -> [f64; Kind::TABLE]
     ensures { λ r. ⌜ r ≡ inPlaces tablePlaces (prefac kind a b c d) ⌝ }
 {
+    let rp = bi_center_of(a, b);
+    let z = a.exponent + b.exponent;
     match kind {
-        Kind::Overlap => tables::overlap_table(a, b),
-        Kind::Kinetic => tables::kinetic_table(a, b),
-        Kind::Nuclear => tables::nuclear_table(a, b, c),
-        Kind::Moment => tables::moment_table(a, b, c),
-        Kind::Coulomb => tables::coulomb_table(a, b, c, d),
+        Kind::Overlap => tables::overlap_table(rp, z, a, b),
+        Kind::Kinetic => tables::kinetic_table(rp, z, a, b),
+        Kind::Nuclear => tables::nuclear_table(rp, z, a, b, c),
+        Kind::Moment => tables::moment_table(rp, z, a, b, c),
+        Kind::Coulomb => tables::coulomb_table(rp, z, a, b, c, d),
     }
 }
 

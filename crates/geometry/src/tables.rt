@@ -1,8 +1,8 @@
 // The five prefactor tables, `prefac` in the five get_ functions of os86.rs.
 ghost use mathlib.Core.Path.{_≡_};
 ghost use Rattle.kind.specs.Limits.{tablePlaces};
-ghost use Rattle.geometry.specs.Floats.{inPlaces};
-ghost use Rattle.geometry.specs.Geometry.{zOf, eOf, rpOf, rwOf, rhoOf};
+ghost use Rattle.geometry.specs.Floats.{_⊕_, _⊗_, _⊘_, inPlaces};
+ghost use Rattle.geometry.specs.Geometry.{biCenter, zOf, eOf, rpOf};
 ghost use Rattle.geometry.specs.Tables.{overlapTable, kineticTable, nuclearTable, momentTable, coulombTable};
 use super::Centre;
 use super::Point;
@@ -10,11 +10,9 @@ use super::bi_center_of;
 use super::get_bi_center;
 use kind::Kind;
 
-pub(crate) fn overlap_table(a: Centre, b: Centre) -> [f64; Kind::TABLE]
-    ensures { λ r. ⌜ r ≡ inPlaces tablePlaces (overlapTable (rpOf a b) (zOf a b) a b) ⌝ }
+pub(crate) fn overlap_table(rp: Point, z: f64, a: Centre, b: Centre) -> [f64; Kind::TABLE]
+    ensures { λ r. ⌜ r ≡ inPlaces tablePlaces (overlapTable rp z a b) ⌝ }
 {
-    let z = a.exponent + b.exponent;
-    let rp = bi_center_of(a, b);
     [
         rp.x - a.x,
         rp.x - b.x,
@@ -42,14 +40,12 @@ pub(crate) fn overlap_table(a: Centre, b: Centre) -> [f64; Kind::TABLE]
     ]
 }
 
-pub(crate) fn kinetic_table(a: Centre, b: Centre) -> [f64; Kind::TABLE]
-    ensures { λ r. ⌜ r ≡ inPlaces tablePlaces (kineticTable (rpOf a b) (zOf a b) (eOf a b) a b) ⌝ }
+pub(crate) fn kinetic_table(rp: Point, z: f64, a: Centre, b: Centre) -> [f64; Kind::TABLE]
+    ensures { λ r. ⌜ r ≡ inPlaces tablePlaces (kineticTable rp z (eOf a b) a b) ⌝ }
 {
     let za = a.exponent;
     let zb = b.exponent;
-    let z = za + zb;
     let e = za * zb / (za + zb);
-    let rp = bi_center_of(a, b);
     [
         rp.x - a.x,
         rp.x - b.x,
@@ -77,11 +73,15 @@ pub(crate) fn kinetic_table(a: Centre, b: Centre) -> [f64; Kind::TABLE]
     ]
 }
 
-pub(crate) fn nuclear_table(a: Centre, b: Centre, c: Centre) -> [f64; Kind::TABLE]
-    ensures { λ r. ⌜ r ≡ inPlaces tablePlaces (nuclearTable (rpOf a b) (zOf a b) a b c) ⌝ }
+pub(crate) fn nuclear_table(
+    rp: Point,
+    z: f64,
+    a: Centre,
+    b: Centre,
+    c: Centre,
+) -> [f64; Kind::TABLE]
+    ensures { λ r. ⌜ r ≡ inPlaces tablePlaces (nuclearTable rp z a b c) ⌝ }
 {
-    let z = a.exponent + b.exponent;
-    let rp = bi_center_of(a, b);
     [
         rp.x - a.x,
         rp.x - b.x,
@@ -109,11 +109,9 @@ pub(crate) fn nuclear_table(a: Centre, b: Centre, c: Centre) -> [f64; Kind::TABL
     ]
 }
 
-pub(crate) fn moment_table(a: Centre, b: Centre, c: Centre) -> [f64; Kind::TABLE]
-    ensures { λ r. ⌜ r ≡ inPlaces tablePlaces (momentTable (rpOf a b) (zOf a b) a b c) ⌝ }
+pub(crate) fn moment_table(rp: Point, z: f64, a: Centre, b: Centre, c: Centre) -> [f64; Kind::TABLE]
+    ensures { λ r. ⌜ r ≡ inPlaces tablePlaces (momentTable rp z a b c) ⌝ }
 {
-    let z = a.exponent + b.exponent;
-    let rp = bi_center_of(a, b);
     [
         rp.x - a.x,
         rp.x - b.x,
@@ -182,12 +180,17 @@ fn coulomb_entries(
     ]
 }
 
-pub(crate) fn coulomb_table(a: Centre, b: Centre, c: Centre, d: Centre) -> [f64; Kind::TABLE]
-    ensures { λ r. ⌜ r ≡ inPlaces tablePlaces (coulombTable (rpOf a b) (rpOf c d) (rwOf a b c d) (zOf a b) (zOf c d) (rhoOf a b c d) a b c d) ⌝ }
+pub(crate) fn coulomb_table(
+    rp: Point,
+    z: f64,
+    a: Centre,
+    b: Centre,
+    c: Centre,
+    d: Centre,
+) -> [f64; Kind::TABLE]
+    ensures { λ r. ⌜ r ≡ inPlaces tablePlaces (coulombTable rp (rpOf c d) (biCenter z (zOf c d) rp (rpOf c d)) z (zOf c d) (z ⊗ zOf c d ⊘ (z ⊕ zOf c d)) a b c d) ⌝ }
 {
-    let z = a.exponent + b.exponent;
     let n = c.exponent + d.exponent;
-    let rp = bi_center_of(a, b);
     let rq = bi_center_of(c, d);
     let rw = get_bi_center(z, n, rp, rq);
     let rho = z * n / (z + n);

@@ -1,15 +1,14 @@
 -- What comes back and what both slices hold: one law for each way out.
-use Prim.Native.Nat.{ℕ, _+_, _*_, _<_, _≤_}
-use mathlib.Core.Path.{_≡_, refl, sym, ap, _∙_}
+use Prim.Native.Nat.{ℕ}
+use mathlib.Core.Path.{_≡_}
 use mathlib.Core.Bool.{Bool, true, false, _&&_}
 use mathlib.Core.List.{List}
 use lib.Ieee.{Float}
 use lib.ListN.{length}
 use Rattle.geometry.specs.Floats.{allFinite}
 use Rattle.jk.specs.declared.Matrix.the-variants.{J, K}
-use Rattle.jk.specs.declared.Answer.{Answer}
 use Rattle.jk.specs.declared.Answer.the-variants.{Done, Refused}
-use Rattle.jk.specs.Sums.{matrixOf, Shaped}
+use Rattle.jk.specs.Sums.{matrixOf}
 use Rattle.jk.specs.Outcome.{Outcome, outcome, sizedOf, unless, summedOf, jkOf}
 
 module _ (n : ℕ) (i d j k : List Float) (s : Bool) where

@@ -1,5 +1,5 @@
 -- Sizes: a place lies below the count of its rows times their length, and every number stays small.
-use Prim.Native.Nat.{ℕ, zero, suc, _+_, _*_, _/_, _%_, _^_, _<_, _≤_}
+use Prim.Native.Nat.{ℕ, _+_, _*_, _^_, _<_, _≤_}
 use mathlib.Core.Path.{_≡_, refl, sym, ap, _∙_}
 use mathlib.Core.Bool.{Bool, true, false, _&&_}
 use native.Mathlib.Nat.{suc-mul, mul-le-mul, mul-le-mul-right, pow-suc, pow-zero, one-mul, mul-assoc, add-le-add, le-trans, le-of-lt}

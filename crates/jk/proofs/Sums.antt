@@ -1,6 +1,6 @@
 -- Sums over sigma and over lambda go on from where they stand.
-use Prim.Native.Nat.{ℕ, zero, suc, _+_, _*_, _-_, _/_, _%_, _<_, _≤_}
-use mathlib.Core.Path.{_≡_, refl, sym, ap, _∙_}
+use Prim.Native.Nat.{ℕ, suc, _+_, _*_, _-_, _<_, _≤_}
+use mathlib.Core.Path.{_≡_, refl, sym, _∙_}
 use mathlib.Core.List.{List}
 use native.Mathlib.Numerals.{add-one}
 use native.Mathlib.Omega.{arith}
@@ -8,16 +8,11 @@ use lib.Ieee.{Float, nan}
 use lib.ListN.{length, getD, take, set}
 use lib.Seq.{take-suc, take-suc-set, take-all}
 use mathlib.Core.Bool.{Bool, true, false, _&&_}
-use Rattle.geometry.specs.Floats.{_⊕_, _⊗_, allFinite, zero as 0·0}
+use Rattle.geometry.proofs.Laws.{left-one, left-none}
+use Rattle.geometry.specs.Floats.{_⊕_, _⊗_, allFinite}
 use Rattle.jk.specs.declared.Matrix.{Matrix}
 use Rattle.jk.specs.declared.Matrix.the-variants.{J, K}
 use Rattle.jk.specs.Sums.{overSigma, overLambda, product, rowOf}
-
-left-one : (n k : ℕ) → k < n → n - k ≡ suc (n - (k + 1))
-left-one n k h = omega arith
-
-left-none : (n k : ℕ) → n ≤ k → n - k ≡ 0
-left-none n k h = omega arith
 
 -- a row of I and a row of D
 abbrev pub pairs : List Float → List Float → ℕ → ℕ → ℕ → Float

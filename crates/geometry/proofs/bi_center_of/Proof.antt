@@ -13,7 +13,7 @@ get-bi-center-requires : tie.Need-get-bi-center-requires
 get-bi-center-requires c κs = search needs
 
 returns : tie.Need-returns
-returns c = cc
+returns c = rw (c .before .before .point .ensures, c .before .point2 .ensures) at (c .get-bi-center .ensures)
 
 pub bi-center-of-spec : {M : Type 1} → statement M
 bi-center-of-spec =

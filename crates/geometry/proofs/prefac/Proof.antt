@@ -4,6 +4,9 @@ use borrow.Author.Needs.{needs}
 use Rattle.geometry.proofs.prefac.Statement.{statement}
 use Rattle.geometry.proofs.prefac.Tie as tie
 
+bi-center-of-requires : tie.Need-bi-center-of-requires
+bi-center-of-requires c κs = search needs
+
 enum-told : tie.Need-enum-told
 enum-told c = search needs
 
@@ -36,28 +39,29 @@ coulomb-table-requires c κs = search needs
 
 returns : tie.Need-returns
 unfolding prefac
-returns c = rw (c .before .enum-told .given .1) (c .overlap-table .ensures)
+returns c = rw (c .before .enum-told .given .1) (rw (c .before .before .before .before .before .bi-center-of .ensures) at (c .overlap-table .ensures))
 
 returns-2 : tie.Need-returns-2
 unfolding prefac
-returns-2 c = rw (c .before .enum-told2 .given .1) (c .kinetic-table .ensures)
+returns-2 c = rw (c .before .enum-told2 .given .1) (rw (c .before .before .before .before .before .bi-center-of .ensures) at (c .kinetic-table .ensures))
 
 returns-3 : tie.Need-returns-3
 unfolding prefac
-returns-3 c = rw (c .before .enum-told3 .given .1) (c .nuclear-table .ensures)
+returns-3 c = rw (c .before .enum-told3 .given .1) (rw (c .before .before .before .before .before .bi-center-of .ensures) at (c .nuclear-table .ensures))
 
 returns-4 : tie.Need-returns-4
 unfolding prefac
-returns-4 c = rw (c .before .enum-told4 .given .1) (c .moment-table .ensures)
+returns-4 c = rw (c .before .enum-told4 .given .1) (rw (c .before .before .before .before .before .bi-center-of .ensures) at (c .moment-table .ensures))
 
 returns-5 : tie.Need-returns-5
 unfolding prefac
-returns-5 c = rw (c .before .enum-told5 .given .1) (c .coulomb-table .ensures)
+returns-5 c = rw (c .before .enum-told5 .given .1) (rw (c .before .before .before .before .before .bi-center-of .ensures) at (c .coulomb-table .ensures))
 
 pub prefac-spec : {M : Type 1} → statement M
 prefac-spec =
     tie.close
     (tie.spec
+    bi-center-of-requires
     enum-told
     overlap-table-requires
     enum-told-2

@@ -1,5 +1,4 @@
 -- `row` meets its contract: its numbers are small. Assumes nothing.
-use Rattle.jk.specs.Sums.{rowOf}
 use Rattle.jk.proofs.Sizes.{row-small, row-J, row-K}
 use borrow.Author.Needs.{needs}
 use Rattle.jk.proofs.row.Statement.{statement}

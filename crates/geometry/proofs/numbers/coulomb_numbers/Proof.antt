@@ -16,7 +16,7 @@ get-r12-squared-requires : tie.Need-get-r12-squared-requires
 get-r12-squared-requires c κs = search needs
 
 returns : tie.Need-returns
-returns c = cc
+returns c = rw (c .get-r12-squared .ensures, c .before .get-bi-center .ensures, c .before .before .before .bi-center-of .ensures, c .before .before .bi-center-of2 .ensures)
 
 pub coulomb-numbers-spec : {M : Type 1} → statement M
 coulomb-numbers-spec =

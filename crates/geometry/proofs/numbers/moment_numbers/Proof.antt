@@ -7,7 +7,7 @@ bi-center-of-requires : tie.Need-bi-center-of-requires
 bi-center-of-requires c κs = search needs
 
 returns : tie.Need-returns
-returns c = cc
+returns c = rw (c .bi-center-of .ensures)
 
 pub moment-numbers-spec : {M : Type 1} → statement M
 moment-numbers-spec = tie.close (tie.spec bi-center-of-requires returns)

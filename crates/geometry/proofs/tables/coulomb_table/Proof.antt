@@ -6,9 +6,6 @@ use Rattle.geometry.proofs.tables.coulomb_table.Tie as tie
 bi-center-of-requires : tie.Need-bi-center-of-requires
 bi-center-of-requires c κs = search needs
 
-bi-center-of-requires-2 : tie.Need-bi-center-of-requires-2
-bi-center-of-requires-2 c κs = search needs
-
 get-bi-center-requires : tie.Need-get-bi-center-requires
 get-bi-center-requires c κs = search needs
 
@@ -16,14 +13,9 @@ coulomb-entries-requires : tie.Need-coulomb-entries-requires
 coulomb-entries-requires c κs = search needs
 
 returns : tie.Need-returns
-returns c = cc
+returns c = rw (c .before .get-bi-center .ensures, c .before .before .bi-center-of .ensures) at (c .coulomb-entries .ensures)
 
 pub coulomb-table-spec : {M : Type 1} → statement M
 coulomb-table-spec =
     tie.close
-    (tie.spec
-    bi-center-of-requires
-    bi-center-of-requires-2
-    get-bi-center-requires
-    coulomb-entries-requires
-    returns)
+    (tie.spec bi-center-of-requires get-bi-center-requires coulomb-entries-requires returns)
