@@ -1,2 +1,6 @@
+pub mod Fields
+pub mod Filling
+pub mod Heading
 pub mod Lengths
 pub mod Only
+pub mod Stepping
