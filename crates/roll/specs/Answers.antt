@@ -124,6 +124,18 @@ abbrev pub judged : Opened → Reading (List Term) → Opened
 judged o (got ts end) = o
 judged o (refused r place) = refusedOpened r place
 
+-- what the cursor has still to go through
+abbrev pub judgedAs : Named → Opened → Cursor → List ℕ → Opened
+judgedAs (named.Is k) o c s = judged o (termsAt (c .left) k (c .l) s (c .place))
+judgedAs named.Unknown o c s = refusedOpened 7 (c .place)
+
+-- a cursor that is not forged
+pub record Honest (c : Cursor) (s : List ℕ) : Type 0 where
+  pub kind : Kind
+  pub is : kindOf (c .kind) ≡ named.Is kind
+  pub small : c .l ≤ mostL kind
+  pub inside : c .place ≤ length s
+
 abbrev pub checked : List ℕ → Reading Header → Opened
 checked s (got h next) = judged (heldHeader (got h next)) (termsAt (h .terms) (h .kind) (total (h .orders)) s next)
 checked s (refused r place) = refusedOpened r place

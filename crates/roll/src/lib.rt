@@ -3,10 +3,10 @@ ghost use mathlib.Core.Path.{_≡_};
 ghost use Prim.Native.Nat.{_≤_, _*_};
 ghost use lib.ListN.{length, take};
 ghost use Rattle.kind.specs.Limits.{mostOrder, mostOrders, requestOrders, tablePlaces};
-ghost use Rattle.kind.specs.Kinds.{mostL};
+ghost use Rattle.kind.specs.Kinds.{kindOf, mostL};
 ghost use Rattle.roll.specs.Bytes.{termBytes, numbersBytes, seen};
 ghost use Rattle.roll.specs.Reading.{refused, withinAt, prefactorsAt, mostBoys, countAt, boysAt, termAt, roomAfter, ordersAt};
-ghost use Rattle.roll.specs.Answers.{heldPrefactors, heldTerm, termOf, FewFound, stepOf, stepAs, steppedOver, endOr, noCursor, refusedStep, heldOrders, refusedOpened, FewOrders, openCounted, openOf};
+ghost use Rattle.roll.specs.Answers.{heldPrefactors, heldTerm, termOf, FewFound, stepOf, stepAs, steppedOver, endOr, noCursor, refusedStep, heldOrders, refusedOpened, FewOrders, openCounted, openOf, Honest, judgedAs, checkOf};
 use kind::Kind;
 use kind::Named;
 use number::Number;
@@ -379,6 +379,35 @@ pub fn open(roll: &[u8]) -> Opened
             Named::Unknown => refused_roll(7, 0),
         },
         Field::Refused(refusal, place) => refused_roll(refusal, place),
+    }
+}
+
+// Goes through the terms to the end, or to the first refusal.
+fn judge(roll: &[u8], opened: Opened) -> Opened
+    requires { ⌜ Honest (opened .cursor) (now roll) ⌝ }
+    ensures { λ r. ⌜ r ≡ judgedAs (kindOf (opened .cursor .kind)) opened (opened .cursor) (now (roll .entry)) ⌝ }
+{
+    let mut cursor = opened.cursor;
+    loop {
+        let step = cursor.next(roll);
+        let found = step.found;
+        match found {
+            Found::Term => cursor = step.next,
+            Found::End => return opened,
+            Found::Refused(refusal, place) => return refused_roll(refusal, place),
+        }
+    }
+}
+
+// A whole roll judged: as `open` where every term reads and nothing follows.
+pub fn check(roll: &[u8]) -> Opened
+    ensures { λ r. ⌜ r ≡ checkOf (now (roll .entry)) ⌝ }
+{
+    let opened = open(roll);
+    let found = opened.found;
+    match found {
+        Opening::Roll => judge(roll, opened),
+        Opening::Refused(_, _) => opened,
     }
 }
 

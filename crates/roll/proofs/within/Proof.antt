@@ -3,10 +3,6 @@ use Rattle.roll.proofs.Fields.{within-unread, within-low, within-high, 
 use borrow.Author.Needs.{needs}
 use Rattle.roll.proofs.within.Statement.{statement}
 use Rattle.roll.proofs.within.Tie as tie
-use Rattle.roll.proofs.within.Reads as reads
-use Rattle.roll.proofs.within.Lts as lts
-use Rattle.number.proofs.read.Reads as read-reads
-use Rattle.number.proofs.refusal_of.Reads as refusal-of-reads
 
 read-requires : tie.Need-read-requires
 read-requires c κs = search needs
