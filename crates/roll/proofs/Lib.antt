@@ -1,3 +1,4 @@
+pub mod Back
 pub mod Fields
 pub mod Filling
 pub mod Heading
@@ -6,3 +7,4 @@ pub mod Judging
 pub mod Lengths
 pub mod Only
 pub mod Stepping
+pub mod Written
