@@ -29,10 +29,11 @@ use Rattle.roll.proofs.Stepping.{few-prefactors, table-fits}
 
 pub field-back : (s rest : List ℕ) (at low high n : ℕ) → drop at s ≡ bytesOf n ++ rest → n < 2 ^ 32 → low ≤ n → n ≤ high → (next : ℕ) × (withinAt s at low high ≡ field.Is n next) × (drop next s ≡ rest)
 unfolding readAt lengthOf
-field-back s rest at low high n is small above below =
-    (at + lengthOf n,
-    sym (within-is s at low high (readAt s at) n (at + lengthOf n) refl (rw is (reads-back-from n at rest small)) above below),
-    after-bytes s (bytesOf n) rest at (at + lengthOf n) is refl)
+field-back s rest at low high n is small above below = (
+  at + lengthOf n,
+  sym (within-is s at low high (readAt s at) n (at + lengthOf n) refl (rw is (reads-back-from n at rest small)) above below),
+  after-bytes s (bytesOf n) rest at (at + lengthOf n) is refl,
+)
 
 -- ---- a term
 
@@ -67,9 +68,9 @@ term-back k l t s rest at small fit is =
     let after-boys = bytesOf (length ps) ++ after-count in
     let after-scale = bytesOf (t .boys) ++ after-boys in
     let split : drop at s ≡ bytesOf (t .scale) ++ after-scale =
-        is ∙ append-assoc (bytesOf (t .scale)) (bytesOf (t .boys) ++ (bytesOf (length ps) ++ numbersBytes ps)) rest
-        ∙ ap (λ (x : List ℕ). bytesOf (t .scale) ++ x) (append-assoc (bytesOf (t .boys)) (bytesOf (length ps) ++ numbersBytes ps) rest
-        ∙ ap (λ (x : List ℕ). bytesOf (t .boys) ++ x) (append-assoc (bytesOf (length ps)) (numbersBytes ps) rest)) in
+    is ∙ append-assoc (bytesOf (t .scale)) (bytesOf (t .boys) ++ (bytesOf (length ps) ++ numbersBytes ps)) rest
+    ∙ ap (λ (x : List ℕ). bytesOf (t .scale) ++ x) (append-assoc (bytesOf (t .boys)) (bytesOf (length ps) ++ numbersBytes ps) rest
+    ∙ ap (λ (x : List ℕ). bytesOf (t .boys) ++ x) (append-assoc (bytesOf (length ps)) (numbersBytes ps) rest)) in
     let few = few-prefactors k l small in
     let f = field-back s after-scale at 1 mostScale (t .scale) split (omega (arith, fit .scale)) (fit .some) (fit .scale) in
     let g = field-back s after-boys (f .0) 0 (mostBoys k l) (t .boys) (f .2) (omega (arith, fit .boys, most-boys k l, most-l k)) (omega arith) (fit .boys) in
@@ -128,13 +129,14 @@ header-back k os terms s rest places fit some most is =
     let f = field-back s (numbersBytes os ++ (bytesOf terms ++ rest)) 0 0 (numberOf Coulomb) (numberOf k) is (omega (arith, kind-below k)) (omega arith) (kind-below k) in
     let o = orders-back os 0 mostOrder s (bytesOf terms ++ rest) (f .0) (omega arith) (fit-keeps 0 os refl fit) (f .2) in
     let c = field-back s rest (o .0) 1 mostTerms terms (o .2) (omega arith) some most in
-    let orders : ordersAt (ordersOf k) 0 mostOrder s (f .0) ≡ got os (o .0) = ap (λ (n : ℕ). ordersAt n 0 mostOrder s (f .0)) (sym places) ∙ o .1 in
-    (c .0,
-    ap (λ (x : Field). onward x (λ n next. ofKind (kindOf n) s next)) (f .1)
-    ∙ ap (λ (m : Named). ofKind m s (f .0)) (kind-number k)
-    ∙ ap (λ (x : Reading (List ℕ)). andThen x (λ orders next. countedAt k orders s next)) orders
-    ∙ ap (λ (x : Field). onward x (λ count next. got (record { kind = k; orders = os; terms = count }) next)) (c .1),
-    c .2)
+    let orders : ordersAt (ordersOf k) 0 mostOrder s (f .0) ≡ got os (o .0) = ap (λ (n : ℕ). ordersAt n 0 mostOrder s (f .0)) (sym places) ∙ o .1 in (
+      c .0,
+      ap (λ (x : Field). onward x (λ n next. ofKind (kindOf n) s next)) (f .1)
+          ∙ ap (λ (m : Named). ofKind m s (f .0)) (kind-number k)
+          ∙ ap (λ (x : Reading (List ℕ)). andThen x (λ orders next. countedAt k orders s next)) orders
+          ∙ ap (λ (x : Field). onward x (λ count next. got (record { kind = k; orders = os; terms = count }) next)) (c .1),
+      c .2,
+    )
 
 -- ---- the roll
 

@@ -7,4 +7,5 @@ pub mod Judging
 pub mod Lengths
 pub mod Only
 pub mod Stepping
+pub mod Steps
 pub mod Written
