@@ -1,4 +1,5 @@
 pub mod Back
+pub mod Checked
 pub mod Fields
 pub mod Filling
 pub mod Heading
