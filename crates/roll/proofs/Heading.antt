@@ -32,7 +32,7 @@ room-new i room o e = simp (eq-eqb (i % 3) 2 e)
 pub room-left : (i room o : ℕ) → (i % 3 ≡ 2 → ⊥) → room - o ≡ roomAfter i room o
 room-left i room o ne = simp (ne-eqb (i % 3) 2 ne)
 
-room-small : (i room o : ℕ) → room ≤ mostOrder → roomAfter i room o ≤ mostOrder
+pub room-small : (i room o : ℕ) → room ≤ mostOrder → roomAfter i room o ≤ mostOrder
 room-small i room o small = by (eqb (i % 3) 2)
   where
     by : (b : Bool) → cond b mostOrder (room - o) ≤ mostOrder

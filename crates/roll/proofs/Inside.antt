@@ -134,8 +134,17 @@ order-turn n i room s at os next e =
     (x .0, b .0, x .1, taken s at 0 room (withinAt s at 0 room) (x .0) (x .1) refl (x .2) .below, b .2, b .1)
 
 -- a centre's three orders keep its limit, and the next centre begins anew
-centre : (n i : ℕ) (s : List ℕ) (at : ℕ) (os : List ℕ) (next : ℕ) → i % 3 ≡ 0 → ordersAt (suc (suc (suc n))) i mostOrder s at ≡ got os next → (rest : List ℕ) × (m : ℕ) × (total os ≤ mostOrder + total rest) × (ordersAt n (i + 1 + 1 + 1) mostOrder s m ≡ got rest next)
-unfolding total
+pub record Centre (n i : ℕ) (s : List ℕ) (os : List ℕ) (next : ℕ) : Type 0 where
+  pub x : ℕ
+  pub y : ℕ
+  pub z : ℕ
+  pub rest : List ℕ
+  pub place : ℕ
+  pub fits : x + y + z ≤ mostOrder
+  pub is : os ≡ x ∷ y ∷ z ∷ rest
+  pub onward : ordersAt n (i + 1 + 1 + 1) mostOrder s place ≡ got rest next
+
+pub centre : (n i : ℕ) (s : List ℕ) (at : ℕ) (os : List ℕ) (next : ℕ) → i % 3 ≡ 0 → ordersAt (suc (suc (suc n))) i mostOrder s at ≡ got os next → Centre n i s os next
 centre n i s at os next phase e =
     let x = order-turn (suc (suc n)) i mostOrder s at os next e in
     let left : roomAfter i mostOrder (x .0) ≡ mostOrder - x .0 = simp (ne-eqb (i % 3) 2 (λ z. omega arith)) in
@@ -143,7 +152,20 @@ centre n i s at os next phase e =
     let left′ : roomAfter (i + 1) (mostOrder - x .0) (y .0) ≡ mostOrder - x .0 - y .0 = simp (ne-eqb ((i + 1) % 3) 2 (λ z. omega arith)) in
     let z = order-turn n (i + 1 + 1) (mostOrder - x .0 - y .0) s (y .2) (y .1) next (rw left′ at (y .5)) in
     let anew : roomAfter (i + 1 + 1) (mostOrder - x .0 - y .0) (z .0) ≡ mostOrder = simp (eq-eqb ((i + 1 + 1) % 3) 2 (omega arith)) in
-    (z .1, z .2, omega (arith, x .3, y .3, z .3, ap total (x .4), ap total (y .4), ap total (z .4)), rw anew at (z .5))
+    record {
+      x = x .0;
+      y = y .0;
+      z = z .0;
+      rest = z .1;
+      place = z .2;
+      fits = omega (arith, x .3, y .3, z .3);
+      is = cc (x .4, y .4, z .4);
+      onward = rw anew at (z .5);
+    }
+
+pub centre-total : (n i : ℕ) (s : List ℕ) (os : List ℕ) (next : ℕ) (c : Centre n i s os next) → total os ≤ mostOrder + total (c .rest)
+unfolding total
+centre-total n i s os next c = omega (arith, c .fits, ap total (c .is))
 
 none-total : (i : ℕ) (s : List ℕ) (at : ℕ) (os : List ℕ) (next : ℕ) → ordersAt 0 i mostOrder s at ≡ got os next → total os ≡ 0
 unfolding ordersAt total
@@ -152,8 +174,8 @@ none-total i s at os next e = let none : os ≡ [] = cc in rw none
 two-centres : (s : List ℕ) (at : ℕ) (os : List ℕ) (next : ℕ) → ordersAt 6 0 mostOrder s at ≡ got os next → total os ≤ 2 * mostOrder
 two-centres s at os next e =
     let a = centre 3 0 s at os next refl e in
-    let b = centre 0 3 s (a .1) (a .0) next refl (a .3) in
-    omega (arith, a .2, b .2, none-total 6 s (b .1) (b .0) next (b .3))
+    let b = centre 0 3 s (a .place) (a .rest) next refl (a .onward) in
+    omega (arith, centre-total 3 0 s os next a, centre-total 0 3 s (a .rest) next b, none-total 6 s (b .place) (b .rest) next (b .onward))
 
 -- L is within the kind's limit
 pub orders-most : (k : Kind) (s : List ℕ) (at : ℕ) (os : List ℕ) (next : ℕ) → ordersAt (ordersOf k) 0 mostOrder s at ≡ got os next → total os ≤ mostL k
@@ -162,12 +184,12 @@ orders-most Kinetic s at os next e = two-centres s at os next e
 orders-most Nuclear s at os next e = two-centres s at os next e
 orders-most Moment s at os next e =
     let a = centre 6 0 s at os next refl e in
-    let b = centre 3 3 s (a .1) (a .0) next refl (a .3) in
-    let c = centre 0 6 s (b .1) (b .0) next refl (b .3) in
-    omega (arith, a .2, b .2, c .2, none-total 9 s (c .1) (c .0) next (c .3))
+    let b = centre 3 3 s (a .place) (a .rest) next refl (a .onward) in
+    let c = centre 0 6 s (b .place) (b .rest) next refl (b .onward) in
+    omega (arith, centre-total 6 0 s os next a, centre-total 3 3 s (a .rest) next b, centre-total 0 6 s (b .rest) next c, none-total 9 s (c .place) (c .rest) next (c .onward))
 orders-most Coulomb s at os next e =
     let a = centre 9 0 s at os next refl e in
-    let b = centre 6 3 s (a .1) (a .0) next refl (a .3) in
-    let c = centre 3 6 s (b .1) (b .0) next refl (b .3) in
-    let d = centre 0 9 s (c .1) (c .0) next refl (c .3) in
-    omega (arith, a .2, b .2, c .2, d .2, none-total 12 s (d .1) (d .0) next (d .3))
+    let b = centre 6 3 s (a .place) (a .rest) next refl (a .onward) in
+    let c = centre 3 6 s (b .place) (b .rest) next refl (b .onward) in
+    let d = centre 0 9 s (c .place) (c .rest) next refl (c .onward) in
+    omega (arith, centre-total 9 0 s os next a, centre-total 6 3 s (a .rest) next b, centre-total 3 6 s (b .rest) next c, centre-total 0 9 s (c .rest) next d, none-total 12 s (d .place) (d .rest) next (d .onward))

@@ -31,7 +31,7 @@ unfolding termsAt
 terms-turn zero k l s at x some e = absurd (not-suc-le-zero some)
 terms-turn (suc left) k l s at x some e = let less : suc left - 1 ≡ left = omega arith in rw (less, e)
 
-terms-none : (left : ℕ) (k : Kind) (l : ℕ) (s : List ℕ) (at : ℕ) → left ≡ 0 → termsAt left k l s at ≡ cond (eqb at (length s)) (got [] at) (refused 7 at)
+pub terms-none : (left : ℕ) (k : Kind) (l : ℕ) (s : List ℕ) (at : ℕ) → left ≡ 0 → termsAt left k l s at ≡ cond (eqb at (length s)) (got [] at) (refused 7 at)
 unfolding termsAt
 terms-none left k l s at e = rw e
 
@@ -64,7 +64,7 @@ tells-with k o c s = by (eqb (c .left) 0) refl
     by true e = tells-end k o c s (eqb-true (c .left) 0 e)
     by false e = tells-term k o c s (termAt k (c .l) s (c .place)) (pos-of-ne-zero (eqb-false (c .left) 0 e)) refl
 
-honest-step : (c : Cursor) (s : List ℕ) (h : Honest c s) → stepOf c s ≡ stepWith (h .kind) c s
+pub honest-step : (c : Cursor) (s : List ℕ) (h : Honest c s) → stepOf c s ≡ stepWith (h .kind) c s
 unfolding stepOf
 honest-step c s h =
     ap (λ (n : Named). stepAs n c s) (h .is)

@@ -1,3 +1,5 @@
+pub mod Back
+pub mod Checked
 pub mod Fields
 pub mod Filling
 pub mod Heading
@@ -6,3 +8,5 @@ pub mod Judging
 pub mod Lengths
 pub mod Only
 pub mod Stepping
+pub mod Steps
+pub mod Written

@@ -1,8 +1,8 @@
 -- The answers of the roll's functions: what each reading is as the code holds it, zeros beside a refusal and beside the end.
-use Prim.Native.Nat.{ℕ, _*_, _-_, _≤_}
+use Prim.Native.Nat.{ℕ, zero, suc, _*_, _-_, _≤_}
 use mathlib.Core.Path.{_≡_}
 use mathlib.Core.Bool.{cond, _||_}
-use mathlib.Core.List.{List, [], _∷_, _++_}
+use mathlib.Core.List.{List, [], _∷_, _++_, map}
 use lib.Dec.{ltb, eqb}
 use lib.ListN.{length, replicate}
 use Rattle.kind.specs.Limits.{mostOrder, mostOrders, mostTerms, requestOrders}
@@ -18,11 +18,12 @@ use Rattle.roll.specs.declared.ReadPrefactors.{ReadPrefactors}
 use Rattle.roll.specs.declared.ReadOrders.{ReadOrders}
 use Rattle.roll.specs.declared.ReadTerm.{ReadTerm}
 use Rattle.roll.specs.declared.Cursor.{Cursor}
+use Rattle.roll.specs.declared.Found.{Found}
 use Rattle.roll.specs.declared.Found.the-variants as found
 use Rattle.roll.specs.declared.Step.{Step}
 use Rattle.roll.specs.declared.Opening.the-variants as opening
 use Rattle.roll.specs.declared.Opened.{Opened}
-use Rattle.roll.specs.Reading.{Reading, got, refused, withinAt, termAt, headerAt, termsAt, total, Header}
+use Rattle.roll.specs.Reading.{Reading, got, refused, andThen, before, withinAt, termAt, headerAt, termsAt, total, Header}
 
 -- ---- inside the crate
 
@@ -142,3 +143,19 @@ checked s (refused r place) = refusedOpened r place
 
 unfoldable pub checkOf : List ℕ → Opened
 checkOf s = checked s (headerAt s)
+
+-- ---- stepping from a cursor on
+
+-- the terms that so many steps give, to the end or to a refusal
+abbrev pub gathering : Found → Held → Reading (List Held) → ℕ → Reading (List Held)
+gathering found.Term t rest place = before (t ∷ []) rest
+gathering found.End t rest place = got [] place
+gathering (found.Refused r wrong) t rest place = refused r wrong
+
+unfoldable pub gathered : ℕ → Cursor → List ℕ → Reading (List Held)
+gathered zero c s = got [] (c .place)
+gathered (suc steps) c s = gathering (stepOf c s .found) (stepOf c s .term) (gathered steps (stepOf c s .next) s) (c .place)
+
+-- terms as the code holds them
+abbrev pub heldTerms : Reading (List Term) → Reading (List Held)
+heldTerms r = andThen r (λ ts end. got (map held ts) end)

@@ -80,10 +80,10 @@ fn within(roll: &[u8], at: usize, low: u32, high: u32) -> Field
     if n < low {
         return Field::Refused(7, at);
     }
-    if high < n {
-        return Field::Refused(7, at);
+    if n <= high {
+        return Field::Is(n, next);
     }
-    Field::Is(n, next)
+    Field::Refused(7, at)
 }
 
 // What stands beside a refusal.

@@ -2,6 +2,7 @@
 use Prim.Native.Nat.{ℕ}
 use mathlib.Core.Path.{_≡_, sym, _∙_}
 use mathlib.Core.List.{List}
+use lib.ListN.{length}
 use Rattle.text.specs.declared.Number.{Number}
 use Rattle.text.specs.declared.Written.{Written}
 use Rattle.text.specs.Digits.{digits, decimalOf}
@@ -33,3 +34,6 @@ read-decimal-only s at = only
 
 pub read-hex-only : (s : List ℕ) (at : ℕ) {a b : Number} → a ≡ hexAt s at → b ≡ hexAt s at → a ≡ b
 read-hex-only s at = only
+
+pub places-only : (n : ℕ) {a b : ℕ} → a ≡ length (decimalOf n) → b ≡ length (decimalOf n) → a ≡ b
+places-only n = only

@@ -114,7 +114,7 @@ fn copy(out: &mut [u8], at: usize, bytes: &[u8])
 }
 
 // How many digits the decimal of `n` has.
-fn places(n: u64) -> usize
+pub fn places(n: u64) -> usize
     ensures { λ r. ⌜ r ≡ length (decimalOf n) ⌝ }
 {
     let mut rest = n;

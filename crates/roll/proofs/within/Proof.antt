@@ -20,10 +20,10 @@ returns-2 : tie.Need-returns-2
 returns-2 c = search within-low
 
 returns-3 : tie.Need-returns-3
-returns-3 c = search within-high
+returns-3 c = search within-is
 
 returns-4 : tie.Need-returns-4
-returns-4 c = search within-is
+returns-4 c = search within-high
 
 pub within-spec : {M : Type 1} → statement M
 within-spec =
