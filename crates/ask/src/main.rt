@@ -3,10 +3,13 @@
 // Questions come from standard input until it ends. A question's own module reads its words, calls the library and
 // writes the answer; this file knows the questions' names alone.
 mod components;
+mod floats;
 mod input;
 mod lent;
+mod matrices;
 mod output;
 mod shells;
+mod tables;
 mod words;
 
 use input::MOST_LINE;
@@ -41,6 +44,15 @@ fn question(line: &[u8], space: &mut [u8], out: &mut [u8], used: usize) -> usize
     }
     if words::is(name, b"component") {
         return components::answer(line, at, out, used);
+    }
+    if words::is(name, b"table") {
+        return tables::answer(line, at, out, used);
+    }
+    if words::is(name, b"jk") {
+        return matrices::plain(line, at, out, used);
+    }
+    if words::is(name, b"jkl") {
+        return matrices::sized(line, at, out, used);
     }
     output::unknown(out, used)
 }

@@ -1,4 +1,5 @@
 // Standard output by way of a buffer. Each function takes the number of bytes that wait in it, and answers it anew.
+use crate::floats;
 use libc::STDOUT_FILENO;
 use text::Written;
 
@@ -71,6 +72,39 @@ pub(crate) fn hex(out: &mut [u8], used: usize, bytes: &[u8]) -> usize {
     let mut i = 0;
     while i < bytes.len() {
         next = hex_byte(out, next, bytes[i]);
+        i += 1;
+    }
+    next
+}
+
+fn hex_word(out: &mut [u8], used: usize, word: u64) -> usize {
+    match text::hex_word(out, used, word) {
+        Written::To(next) => next,
+        Written::NoRoom => {
+            flush(out, used);
+            hex_word_first(out, word)
+        }
+    }
+}
+
+fn hex_word_first(out: &mut [u8], word: u64) -> usize {
+    match text::hex_word(out, 0, word) {
+        Written::To(next) => next,
+        Written::NoRoom => 0,
+    }
+}
+
+// A float's bits after a blank.
+fn float(out: &mut [u8], used: usize, x: f64) -> usize {
+    let parted = say(out, used, b" ");
+    hex_word(out, parted, floats::bits(x))
+}
+
+pub(crate) fn floats(out: &mut [u8], used: usize, floats: &[f64]) -> usize {
+    let mut next = used;
+    let mut i = 0;
+    while i < floats.len() {
+        next = float(out, next, floats[i]);
         i += 1;
     }
     next

@@ -2,6 +2,7 @@
 // before, and answers its word with the place after it.
 ghost use Prim.Native.Nat.{_≤_};
 ghost use lib.ListN.{length};
+use crate::floats;
 use text::Number;
 
 pub(crate) enum Byte {
@@ -16,6 +17,17 @@ pub(crate) enum Word {
 
 pub(crate) enum Place {
     Is(usize, usize),
+    Not,
+}
+
+pub(crate) enum Float {
+    Is(f64, usize),
+    Not,
+}
+
+// Whether as many floats as were asked for are read, and the place after them.
+pub(crate) enum Floats {
+    Till(usize),
     Not,
 }
 
@@ -83,4 +95,33 @@ pub(crate) fn read_place(line: &[u8], at: usize) -> Place {
         return Place::Not;
     };
     Place::Is(n as usize, next)
+}
+
+// A float by its bits in hexadecimal.
+fn read_float(line: &[u8], at: usize) -> Float {
+    if line.len() <= at {
+        return Float::Not;
+    }
+    if line[at] != b' ' {
+        return Float::Not;
+    }
+    let Number::Is(bits, next) = text::read_hex(line, at + 1) else {
+        return Float::Not;
+    };
+    Float::Is(floats::of_bits(bits), next)
+}
+
+// As many floats as `out` has places.
+pub(crate) fn read_floats(line: &[u8], at: usize, out: &mut [f64]) -> Floats {
+    let mut next = at;
+    let mut i = 0;
+    while i < out.len() {
+        let Float::Is(x, end) = read_float(line, next) else {
+            return Floats::Not;
+        };
+        out[i] = x;
+        next = end;
+        i += 1;
+    }
+    Floats::Till(next)
 }
