@@ -9,7 +9,7 @@ use native.Mathlib.Nat.{pow-suc, pow-le-pow-right, mod-lt}
 use mathlib.Core.Logic.{_⊎_, inl, inr, ⊎-elim}
 use borrow.Author.Tests.{lt-ltb, le-ltb, ltb-true, ltb-false, eqb-true, eqb-false, ne-eqb, eq-eqb}
 use lib.Dec.{ltb, eqb, lit<}
-use lib.ListN.{length, getD, drop, drop-of-length-le}
+use lib.ListN.{length, getD, drop, length-drop, drop-of-length-le}
 use lib.Seq.{drop-cons}
 use Rattle.number.specs.declared.Number.{Number}
 use Rattle.number.specs.declared.Number.the-variants.{Is, Ended, NotShortest, TooLarge}
@@ -136,3 +136,29 @@ read-one s at b inside is small = rw (head s at b inside is) (simp (lt-ltb b 128
 pub read-more : (s : List ℕ) (at b : ℕ) (r q : Number) → at < length s → b ≡ getD s at 0 → 128 ≤ b → q ≡ higher 3 (drop (at + 1) s) (at + 1) → r ≡ above (b % 128) q → r ≡ readAt s at
 unfolding readAt readFrom
 read-more s at b r q inside is big eq er = er ∙ ap (above (b % 128)) eq ∙ rw (head s at b inside is) (simp (le-ltb b 128 big))
+
+-- ---- a number that reads stands inside
+
+higher-inside : (more : ℕ) (l : List ℕ) (at n next : ℕ) → higher more l at ≡ Is n next → (at < next) × (next ≤ at + length l)
+higher-inside more [] at n next e = let none = none-ended more at in absurd (clash (cc))
+higher-inside zero (b ∷ t) at n next e = let f = fifth-is b t at n next e in (omega arith, omega arith)
+higher-inside (suc more) (b ∷ t) at n next e =
+    ⊎-elim (λ w. let ends = w .1 in (omega arith, omega arith))
+    (λ w. let rest = higher-inside more t (at + 1) (w .rest) next (w .reads) in (omega arith, omega arith))
+    (higher-is more b t at n next e)
+
+from-inside : (l : List ℕ) (at n next : ℕ) → readFrom l at ≡ Is n next → (at < next) × (next ≤ at + length l)
+unfolding readFrom
+from-inside [] at n next e = absurd (clash (cc))
+from-inside (b ∷ t) at n next e = by (ltb b 128) refl e
+  where
+    by : (q : Bool) → ltb b 128 ≡ q → cond q (Is b (at + 1)) (above (b % 128) (higher 3 t (at + 1))) ≡ Is n next → (at < next) × (next ≤ at + length (b ∷ t))
+    by true lt e = let after : next ≡ at + 1 = cc in (omega arith, omega arith)
+    by false ge e =
+        let a = above-is (b % 128) n next (higher 3 t (at + 1)) e in
+        let rest = higher-inside 3 t (at + 1) (a .0) next (a .1) in
+        (omega arith, omega arith)
+
+pub read-inside : (s : List ℕ) (at n next : ℕ) → readAt s at ≡ Is n next → (at < next) × (next ≤ length s)
+unfolding readAt
+read-inside s at n next e = let i = from-inside (drop at s) at n next e in (i .0, omega (arith, i .0, i .1, length-drop at s))

@@ -1,0 +1,172 @@
+-- The header: the loop over the orders, and the kind, orders and term count put together.
+use Prim.Native.Nat.{ℕ, zero, suc, zero-le, _+_, _*_, _-_, _%_, _≤_, _<_}
+use mathlib.Core.Path.{_≡_, refl, sym, ap, _∙_}
+use mathlib.Core.Bool.{Bool, true, false, cond}
+use mathlib.Core.List.{List, [], _∷_, _++_, append-nil}
+use native.Mathlib.Omega.{arith}
+use borrow.Author.Tests.{eq-eqb, ne-eqb}
+use lib.Dec.{eqb}
+use lib.ListN.{length, set, take, replicate}
+use lib.Seq.{length-take-le}
+use Rattle.kind.specs.Limits.{mostOrder, mostTerms, requestOrders}
+use Rattle.kind.specs.Kinds.{kindOf, numberOf, ordersOf}
+use Rattle.kind.specs.declared.Kind.{Kind}
+use Rattle.kind.specs.declared.Kind.the-variants.{Overlap, Kinetic, Nuclear, Moment, Coulomb}
+use Rattle.kind.specs.declared.Named.{Named}
+use Rattle.kind.specs.declared.Named.the-variants as named
+use Rattle.roll.specs.declared.Field.{Field}
+use Rattle.roll.specs.declared.Field.the-variants as field
+use Rattle.roll.specs.declared.ReadOrders.{ReadOrders}
+use Rattle.roll.specs.declared.Opening.the-variants as opening
+use Rattle.roll.specs.declared.Opened.{Opened}
+use Rattle.roll.specs.Reading.{Reading, got, refused, onward, andThen, before, withinAt, roomAfter, ordersAt, total, Header, countedAt, ofKind, headerAt}
+use Rattle.roll.specs.Answers.{heldOrders, refusedOpened, heldHeader, countedFrom, ordersFrom, openCounted, FewOrders, openOf}
+use Rattle.roll.proofs.Fields.{taken-below}
+use Rattle.roll.proofs.Filling.{Filled, filled-none, filled-more, taken-more, before-none, before-more, before-is, onward-is, clash}
+
+-- ---- the orders
+
+pub room-new : (i room o : ℕ) → i % 3 ≡ 2 → mostOrder ≡ roomAfter i room o
+room-new i room o e = simp (eq-eqb (i % 3) 2 e)
+
+pub room-left : (i room o : ℕ) → (i % 3 ≡ 2 → ⊥) → room - o ≡ roomAfter i room o
+room-left i room o ne = simp (ne-eqb (i % 3) 2 ne)
+
+room-small : (i room o : ℕ) → room ≤ mostOrder → roomAfter i room o ≤ mostOrder
+room-small i room o small = by (eqb (i % 3) 2)
+  where
+    by : (b : Bool) → cond b mostOrder (room - o) ≤ mostOrder
+    by true = omega arith
+    by false = omega arith
+
+total-more : (os : List ℕ) (o : ℕ) → total (os ++ (o ∷ [])) ≡ total os + o
+unfolding total
+total-more [] o = omega arith
+total-more (x ∷ os) o = omega (arith, total-more os o)
+
+pub record Ordering (s : List ℕ) (at n : ℕ) (values : List ℕ) (place room l i : ℕ) : Type 0 where
+  pub inside : i ≤ n
+  pub places : n ≤ requestOrders
+  pub small : room ≤ mostOrder
+  pub filled : Filled requestOrders values i
+  pub sums : l ≡ total (take i values)
+  pub few : l ≤ mostOrder * i
+  pub whole : before (take i values) (ordersAt (n - i) i room s place) ≡ ordersAt n 0 mostOrder s at
+
+pub ordering-none : (s : List ℕ) (at n : ℕ) → n ≤ requestOrders → Ordering s at n (replicate requestOrders 0) at mostOrder 0 0
+unfolding total
+ordering-none s at n places =
+    let all : n - 0 ≡ n = omega arith in
+    record { inside = zero-le; places = places; small = omega arith; filled = filled-none requestOrders; sums = refl; few = zero-le; whole = rw all (before-none (ordersAt n 0 mostOrder s at)) }
+
+turn : (s : List ℕ) (place n room i : ℕ) (x : Field) → i < n → x ≡ withinAt s place 0 room → ordersAt (n - i) i room s place ≡ onward x (λ o next. before (o ∷ []) (ordersAt (n - (i + 1)) (i + 1) (roomAfter i room o) s next))
+unfolding ordersAt
+turn s place n room i x less is = let fewer : n - i ≡ suc (n - (i + 1)) = omega arith in rw (fewer, is)
+
+pub ordering-room : (s : List ℕ) (at n : ℕ) (values : List ℕ) (place room l i : ℕ) → Ordering s at n values place room l i → room ≤ mostOrder
+ordering-room s at n values place room l i f = f .small
+
+pub ordering-more : (s : List ℕ) (at n : ℕ) (values : List ℕ) (place room l i : ℕ) (x : Field) (o next r : ℕ) → Ordering s at n values place room l i → i < n → x ≡ withinAt s place 0 room → x ≡ field.Is o next → r ≡ roomAfter i room o → Ordering s at n (set values i o) next r (l + o) (i + 1)
+ordering-more s at n values place room l i x o next r f less is e again =
+    let inside : i < requestOrders = omega (arith, f .places) in
+    let taken = taken-more requestOrders values i o (f .filled) inside in
+    let rest : ordersAt (n - i) i room s place ≡ before (o ∷ []) (ordersAt (n - (i + 1)) (i + 1) (roomAfter i room o) s next) = rw e at (turn s place n room i x less is) in
+    record {
+      inside = omega arith;
+      places = f .places;
+      small = rw again (room-small i room o (f .small));
+      filled = filled-more requestOrders values i o (f .filled) inside;
+      sums = rw taken (omega (arith, f .sums, total-more (take i values) o));
+      few = omega (arith, f .few, f .small, taken-below s place 0 room x o next is e);
+      whole =
+          rw (taken, again)
+          (sym (before-more (take i values) o (ordersAt (n - (i + 1)) (i + 1) (roomAfter i room o) s next))
+          ∙ ap (before (take i values)) (sym rest)
+          ∙ f .whole);
+    }
+
+pub ordering-fits : (s : List ℕ) (at n : ℕ) (values : List ℕ) (place room l i : ℕ) (x : Field) (o next : ℕ) → Ordering s at n values place room l i → i < n → x ≡ withinAt s place 0 room → x ≡ field.Is o next → l + o ≤ mostOrder * requestOrders
+ordering-fits s at n values place room l i x o next f less is e = omega (arith, f .few, f .small, f .places, taken-below s place 0 room x o next is e)
+
+pub ordering-refused : (s : List ℕ) (at n : ℕ) (values : List ℕ) (place room l i : ℕ) (x : Field) (r wrong : ℕ) (y : ReadOrders) → Ordering s at n values place room l i → i < n → x ≡ withinAt s place 0 room → x ≡ field.Refused r wrong → y ≡ heldOrders (refused r wrong) → y ≡ heldOrders (ordersAt n 0 mostOrder s at)
+ordering-refused s at n values place room l i x r wrong y f less is e answer =
+    let rest : ordersAt (n - i) i room s place ≡ refused r wrong = rw e at (turn s place n room i x less is) in
+    answer ∙ ap heldOrders (ap (before (take i values)) (sym rest) ∙ f .whole)
+
+no-more : (s : List ℕ) (place n i room : ℕ) → n ≡ 0 → ordersAt n i room s place ≡ got [] place
+unfolding ordersAt
+no-more s place n i room none = rw none
+
+pub ordering-done : (s : List ℕ) (at n : ℕ) (values : List ℕ) (place room l i : ℕ) → Ordering s at n values place room l i → n ≤ i → record { found = field.Is l place; values = values } ≡ heldOrders (ordersAt n 0 mostOrder s at)
+ordering-done s at n values place room l i f done =
+    let none = no-more s place (n - i) i room (omega arith) in
+    let whole : got (take i values ++ []) place ≡ ordersAt n 0 mostOrder s at = ap (before (take i values)) (sym none) ∙ f .whole in
+    let got-all : got (take i values) place ≡ ordersAt n 0 mostOrder s at = ap (λ (l : List ℕ). got l place) (sym (append-nil (take i values))) ∙ whole in
+    let long : length (take i values) ≡ i = length-take-le i values (omega (arith, f .filled .long, f .places, f .inside)) in
+    let zeros = f .filled .zeros in
+    let sums = f .sums in
+    let held : record { found = field.Is l place; values = values } ≡ heldOrders (got (take i values) place) = cc (long, zeros, sums) in
+    held ∙ ap heldOrders got-all
+
+-- ---- the term count
+
+pub open-made : (k : Kind) (read : ReadOrders) (s : List ℕ) (l at : ℕ) (x : Field) (terms place n : ℕ) → read .found ≡ field.Is l at → x ≡ withinAt s at 1 mostTerms → x ≡ field.Is terms place → n ≡ numberOf k → record { found = opening.Roll; cursor = record { place = place; left = terms; kind = n; l = l }; orders = read .values } ≡ openCounted k read s
+open-made k read s l at x terms place n found is e number = rw (found, ← is, e, number)
+
+pub open-uncounted : (k : Kind) (read : ReadOrders) (s : List ℕ) (l at : ℕ) (x : Field) (r place : ℕ) (y : Opened) → read .found ≡ field.Is l at → x ≡ withinAt s at 1 mostTerms → x ≡ field.Refused r place → y ≡ refusedOpened r place → y ≡ openCounted k read s
+open-uncounted k read s l at x r place y found is e answer = answer ∙ rw (found, ← is, e)
+
+pub open-unordered : (k : Kind) (read : ReadOrders) (s : List ℕ) (r place : ℕ) (y : Opened) → read .found ≡ field.Refused r place → y ≡ refusedOpened r place → y ≡ openCounted k read s
+open-unordered k read s r place y found answer = answer ∙ rw found
+
+-- ---- the kind
+
+counted-is : (k : Kind) (os : List ℕ) (f : Field) → countedFrom k (total os) (os ++ replicate (requestOrders - length os) 0) f ≡ heldHeader (onward f (λ count next. got (record { kind = k; orders = os; terms = count }) next))
+counted-is k os (field.Is n next) = refl
+counted-is k os (field.Refused r place) = refl
+
+open-counted : (k : Kind) (s : List ℕ) (x : Reading (List ℕ)) → openCounted k (heldOrders x) s ≡ heldHeader (andThen x (λ orders next. countedAt k orders s next))
+unfolding countedAt
+open-counted k s (got os next) = counted-is k os (withinAt s next 1 mostTerms)
+open-counted k s (refused r place) = refl
+
+pub open-kind : (s : List ℕ) (most : ℕ) (x : Field) (n next : ℕ) (m : Named) (k : Kind) (count : ℕ) (read : ReadOrders) (y : Opened) → most ≡ numberOf Coulomb → x ≡ withinAt s 0 0 most → x ≡ field.Is n next → m ≡ kindOf n → m ≡ named.Is k → count ≡ ordersOf k → read ≡ heldOrders (ordersAt count 0 mostOrder s next) → y ≡ openCounted k read s → y ≡ openOf s
+unfolding openOf headerAt
+open-kind s most x n next m k count read y limit is e kind e′ counted held answer =
+    answer ∙ ap (λ (r : ReadOrders). openCounted k r s) (held ∙ ap (λ (c : ℕ). heldOrders (ordersAt c 0 mostOrder s next)) counted)
+    ∙ open-counted k s (ordersAt (ordersOf k) 0 mostOrder s next)
+    ∙ sym (ap (λ (m : Named). heldHeader (ofKind m s next)) (sym kind ∙ e′))
+    ∙ sym (ap (λ (f : Field). heldHeader (onward f (λ n next. ofKind (kindOf n) s next))) (ap (withinAt s 0 0) (sym limit) ∙ sym is ∙ e))
+
+pub open-unknown : (s : List ℕ) (most : ℕ) (x : Field) (n next : ℕ) (m : Named) (y : Opened) → most ≡ numberOf Coulomb → x ≡ withinAt s 0 0 most → x ≡ field.Is n next → m ≡ kindOf n → m ≡ named.Unknown → y ≡ refusedOpened 7 0 → y ≡ openOf s
+unfolding openOf headerAt
+open-unknown s most x n next m y limit is e kind e′ answer = answer ∙ rw (← limit, ← is, e, ← kind, e′)
+
+pub open-unread : (s : List ℕ) (most : ℕ) (x : Field) (r place : ℕ) (y : Opened) → most ≡ numberOf Coulomb → x ≡ withinAt s 0 0 most → x ≡ field.Refused r place → y ≡ refusedOpened r place → y ≡ openOf s
+unfolding openOf headerAt
+open-unread s most x r place y limit is e answer = answer ∙ rw (← limit, ← is, e)
+
+pub orders-places : (k : Kind) (n : ℕ) → n ≡ ordersOf k → n ≤ requestOrders
+orders-places Overlap n e = omega arith
+orders-places Kinetic n e = omega arith
+orders-places Nuclear n e = omega arith
+orders-places Moment n e = omega arith
+orders-places Coulomb n e = omega arith
+
+orders-total : (n i room : ℕ) (s : List ℕ) (at : ℕ) (os : List ℕ) (next : ℕ) → room ≤ mostOrder → ordersAt n i room s at ≡ got os next → total os ≤ mostOrder * n
+unfolding ordersAt total
+orders-total zero i room s at os next small e = let none : os ≡ [] = cc in rw none (omega arith)
+orders-total (suc n) i room s at os next small e =
+    let o = onward-is (withinAt s at 0 room) (λ o m. before (o ∷ []) (ordersAt n (i + 1) (roomAfter i room o) s m)) os next e in
+    let b = before-is (o .0) (ordersAt n (i + 1) (roomAfter i room (o .0)) s (o .1)) os next (o .3) in
+    let below = taken-below s at 0 room (withinAt s at 0 room) (o .0) (o .1) refl (o .2) in
+    rw (b .2) (omega (arith, orders-total n (i + 1) (roomAfter i room (o .0)) s (o .1) (b .0) next (room-small i room (o .0) small) (b .1)))
+
+held-total : (x : Reading (List ℕ)) (most : ℕ) → ((os : List ℕ) (next : ℕ) → x ≡ got os next → total os ≤ most) → (l next : ℕ) → heldOrders x .found ≡ field.Is l next → l ≤ most
+held-total (got os m) most few l next e = let same : total os ≡ l = cc in omega (arith, few os m refl)
+held-total (refused r place) most few l next e = absurd (clash (cc))
+
+pub few-orders : (n : ℕ) (s : List ℕ) (at : ℕ) (read : ReadOrders) → n ≤ requestOrders → read ≡ heldOrders (ordersAt n 0 mostOrder s at) → FewOrders read
+few-orders n s at read few is l next e =
+    let most : l ≤ mostOrder * n = held-total (ordersAt n 0 mostOrder s at) (mostOrder * n) (λ os m h. orders-total n 0 mostOrder s at os m (omega arith) h) l next (ap (λ (r : ReadOrders). r .found) (sym is) ∙ e) in
+    omega arith
