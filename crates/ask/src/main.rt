@@ -8,6 +8,7 @@ mod input;
 mod lent;
 mod matrices;
 mod output;
+mod rolls;
 mod shells;
 mod tables;
 mod words;
@@ -45,6 +46,30 @@ fn question(line: &[u8], space: &mut [u8], out: &mut [u8], used: usize) -> usize
     if words::is(name, b"component") {
         return components::answer(line, at, out, used);
     }
+    of_rolls(name, line, at, space, out, used)
+}
+
+fn of_rolls(
+    name: &[u8],
+    line: &[u8],
+    at: usize,
+    space: &mut [u8],
+    out: &mut [u8],
+    used: usize,
+) -> usize {
+    if words::is(name, b"open") {
+        return rolls::open(line, at, space, out, used);
+    }
+    if words::is(name, b"check") {
+        return rolls::check(line, at, space, out, used);
+    }
+    if words::is(name, b"next") {
+        return rolls::next(line, at, space, out, used);
+    }
+    of_floats(name, line, at, out, used)
+}
+
+fn of_floats(name: &[u8], line: &[u8], at: usize, out: &mut [u8], used: usize) -> usize {
     if words::is(name, b"table") {
         return tables::answer(line, at, out, used);
     }

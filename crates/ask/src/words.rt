@@ -25,6 +25,12 @@ pub(crate) enum Float {
     Not,
 }
 
+// The bytes of a roll that ends its line.
+pub(crate) enum Roll {
+    Is(usize),
+    Not,
+}
+
 // Whether as many floats as were asked for are read, and the place after them.
 pub(crate) enum Floats {
     Till(usize),
@@ -124,4 +130,77 @@ pub(crate) fn read_floats(line: &[u8], at: usize, out: &mut [f64]) -> Floats {
         i += 1;
     }
     Floats::Till(next)
+}
+
+// A byte in two hexadecimal digits.
+fn read_pair(line: &[u8], at: usize) -> Byte {
+    if line.len() < 2 {
+        return Byte::Not;
+    }
+    if line.len() - 2 < at {
+        return Byte::Not;
+    }
+    let end = at + 2;
+    let Number::Is(n, length) = text::read_hex(&line[at..end], 0) else {
+        return Byte::Not;
+    };
+    if length != 2 {
+        return Byte::Not;
+    }
+    if 255 < n {
+        return Byte::Not;
+    }
+    Byte::Is(n as u8, end)
+}
+
+// As many bytes as stand there and have room: how many, and the place after them.
+fn read_pairs(line: &[u8], at: usize, space: &mut [u8]) -> Place {
+    let mut next = at;
+    let mut n = 0;
+    while n < space.len() {
+        let Byte::Is(byte, end) = read_pair(line, next) else {
+            return Place::Is(n, next);
+        };
+        space[n] = byte;
+        next = end;
+        n += 1;
+    }
+    Place::Is(n, next)
+}
+
+// A roll's bytes into the first places of `space`: how many, and the place after them.
+pub(crate) fn read_roll(line: &[u8], at: usize, space: &mut [u8]) -> Place {
+    if line.len() <= at {
+        return Place::Not;
+    }
+    if line.len() - at < 2 {
+        return Place::Not;
+    }
+    if line[at] != b' ' {
+        return Place::Not;
+    }
+    if line[at + 1] == b'-' {
+        return Place::Is(0, at + 2);
+    }
+    some_pairs(line, at + 1, space)
+}
+
+fn some_pairs(line: &[u8], at: usize, space: &mut [u8]) -> Place {
+    let Place::Is(n, end) = read_pairs(line, at, space) else {
+        return Place::Not;
+    };
+    if n == 0 {
+        return Place::Not;
+    }
+    Place::Is(n, end)
+}
+
+pub(crate) fn last_roll(line: &[u8], at: usize, space: &mut [u8]) -> Roll {
+    let Place::Is(n, end) = read_roll(line, at, space) else {
+        return Roll::Not;
+    };
+    if end == line.len() {
+        return Roll::Is(n);
+    }
+    Roll::Not
 }
