@@ -1,0 +1,80 @@
+-- The checks of an evaluation: one law for each way out of each.
+use Prim.Native.Nat.{ℕ, _+_}
+use mathlib.Core.Path.{_≡_, refl, sym, ap, _∙_}
+use mathlib.Core.Bool.{Bool, true, false, not}
+use mathlib.Core.List.{List}
+use borrow.Author.Tests.{not-true, not-false}
+use lib.Dec.{eqb}
+use lib.Ieee.{Float}
+use lib.Ieee.Scale.{finite}
+use lib.ListN.{length}
+use Rattle.kind.specs.declared.Kind.{Kind}
+use Rattle.kind.specs.Kinds.{usesBoys}
+use Rattle.kind.specs.Limits.{tablePlaces}
+use Rattle.term.specs.Terms.{Term}
+use Rattle.geometry.specs.declared.Centre.{Centre}
+use Rattle.geometry.specs.Floats.{allFinite, inPlaces}
+use Rattle.geometry.specs.Tables.{prefac}
+use Rattle.geometry.specs.Checks.{usedFinite, exponentsAboveZero, geometryFinite}
+use Rattle.integrals.specs.declared.Value.{Value}
+use Rattle.integrals.specs.declared.Value.the-variants.{Is, Refused}
+use Rattle.integrals.specs.Sums.{kineticStart, totalOf, integralOf}
+use Rattle.integrals.specs.Values.{inputsFinite, boysCounted, unless, resultOf, valueOf}
+
+pub result-is : (x : Float) (t : Bool) → t ≡ finite x → t ≡ true → Is x ≡ resultOf x
+unfolding resultOf unless
+result-is x t e p = rw (← e, p)
+
+pub result-not : (x : Float) (t : Bool) → t ≡ finite x → t ≡ false → Refused 11 0 ≡ resultOf x
+unfolding resultOf unless
+result-not x t e p = rw (← e, p)
+
+pub counted-boys : (k : Kind) (l count : ℕ) (t : Bool) → t ≡ usesBoys k → t ≡ true → eqb count (l + 1) ≡ boysCounted k l count
+unfolding boysCounted
+counted-boys k l count t e p = rw (← e, p)
+
+pub counted-none : (k : Kind) (l count : ℕ) (t : Bool) → t ≡ usesBoys k → t ≡ false → eqb count 0 ≡ boysCounted k l count
+unfolding boysCounted
+counted-none k l count t e p = rw (← e, p)
+
+module _ (k : Kind) (a b c d : Centre) (aux : Float) (boys : List Float) where
+  pub inputs-all : (s t u : Bool) → s ≡ usedFinite k a b c d → s ≡ true → t ≡ finite aux → t ≡ true → u ≡ allFinite boys → u ≡ inputsFinite k a b c d aux boys
+  unfolding inputsFinite
+  inputs-all s t u e p f q g = rw (← e, p, ← f, q) g
+
+  pub inputs-aux : (s t : Bool) → s ≡ usedFinite k a b c d → s ≡ true → t ≡ finite aux → t ≡ false → false ≡ inputsFinite k a b c d aux boys
+  unfolding inputsFinite
+  inputs-aux s t e p f q = rw (← e, p, ← f, q)
+
+  pub inputs-used : (s : Bool) → s ≡ usedFinite k a b c d → s ≡ false → false ≡ inputsFinite k a b c d aux boys
+  unfolding inputsFinite
+  inputs-used s e p = rw (← e, p)
+
+  module _ (l : ℕ) (ts : List Term) where
+    pub integral-is : (table : List Float) (kinetic x : Float) → table ≡ inPlaces tablePlaces (prefac k a b c d) → kinetic ≡ kineticStart a b → x ≡ totalOf k l kinetic table aux boys ts → x ≡ integralOf k l a b c d aux boys ts
+    unfolding integralOf
+    integral-is table kinetic x e f g = rw (← e, ← f) g
+
+    module _ (s : Bool) (e : s ≡ inputsFinite k a b c d aux boys) where
+      pub refused-float : not s ≡ true → Refused 8 0 ≡ valueOf k l a b c d aux boys ts
+      unfolding valueOf unless
+      refused-float p = rw (← e, not-true s p)
+
+      module _ (t : Bool) (p : not s ≡ false) (f : t ≡ exponentsAboveZero k a b c d) where
+        pub refused-exponent : not t ≡ true → Refused 9 0 ≡ valueOf k l a b c d aux boys ts
+        unfolding valueOf unless
+        refused-exponent q = rw (← e, not-false s p, ← f, not-true t q)
+
+        module _ (u : Bool) (q : not t ≡ false) (g : u ≡ boysCounted k l (length boys)) where
+          pub refused-count : not u ≡ true → Refused 10 0 ≡ valueOf k l a b c d aux boys ts
+          unfolding valueOf unless
+          refused-count o = rw (← e, not-false s p, ← f, not-false t q, ← g, not-true u o)
+
+          module _ (v : Bool) (o : not u ≡ false) (h : v ≡ geometryFinite k a b c d) where
+            pub refused-geometry : not v ≡ true → Refused 11 0 ≡ valueOf k l a b c d aux boys ts
+            unfolding valueOf unless
+            refused-geometry w = rw (← e, not-false s p, ← f, not-false t q, ← g, not-false u o, ← h, not-true v w)
+
+            pub passed : (x : Float) (r : Value) → not v ≡ false → x ≡ integralOf k l a b c d aux boys ts → r ≡ resultOf x → r ≡ valueOf k l a b c d aux boys ts
+            unfolding valueOf unless
+            passed x r w y z = rw (← e, not-false s p, ← f, not-false t q, ← g, not-false u o, ← h, not-false v w, ← y) z

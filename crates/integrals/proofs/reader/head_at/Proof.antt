@@ -1,0 +1,26 @@
+-- `head_at` meets its contract: each number is read where the one before ends. Assumes nothing.
+use Rattle.integrals.specs.Stored.{headAt}
+use borrow.Author.Needs.{needs}
+use Rattle.integrals.proofs.reader.head_at.Statement.{statement}
+use Rattle.integrals.proofs.reader.head_at.Tie as tie
+
+number-at-requires : tie.Need-number-at-requires
+number-at-requires c κs = search needs
+
+number-at-requires-2 : tie.Need-number-at-requires-2
+number-at-requires-2 c κs = search needs
+
+number-at-requires-3 : tie.Need-number-at-requires-3
+number-at-requires-3 c κs = search needs
+
+end-of-requires : tie.Need-end-of-requires
+end-of-requires c κs = search needs
+
+returns : tie.Need-returns
+unfolding headAt
+returns c = cc
+
+pub head-at-spec : {M : Type 1} → statement M
+head-at-spec =
+    tie.close
+    (tie.spec number-at-requires number-at-requires-2 number-at-requires-3 end-of-requires returns)

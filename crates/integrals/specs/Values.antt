@@ -1,0 +1,43 @@
+-- 01, "Limits and refusal numbers": an evaluation is refused 8, 9, 10 or 11, in this order, once its roll has been read.
+use Prim.Native.Nat.{ℕ, _+_}
+use mathlib.Core.Bool.{Bool, true, false, _&&_, cond}
+use mathlib.Core.List.{List, [], _∷_}
+use lib.Dec.{eqb}
+use lib.Ieee.{Float}
+use lib.Ieee.Scale.{finite}
+use lib.ListN.{length}
+use Rattle.kind.specs.declared.Kind.{Kind}
+use Rattle.kind.specs.Kinds.{usesBoys}
+use Rattle.term.specs.Terms.{Term}
+use Rattle.geometry.specs.declared.Centre.{Centre}
+use Rattle.geometry.specs.Floats.{allFinite}
+use Rattle.geometry.specs.Checks.{usedFinite, exponentsAboveZero, geometryFinite}
+use Rattle.integrals.specs.declared.Value.{Value}
+use Rattle.integrals.specs.declared.Value.the-variants.{Is, Refused}
+use Rattle.integrals.specs.Sums.{integralOf}
+
+-- 8 unless every used float is finite: the kind's, aux, and every lent Boys number
+unfoldable pub inputsFinite : Kind → Centre → Centre → Centre → Centre → Float → List Float → Bool
+inputsFinite k a b c d aux boys = usedFinite k a b c d && (finite aux && allFinite boys)
+
+-- 10 unless the Boys numbers are exactly L+1 (kinds 2, 4) or 0 (others)
+unfoldable pub boysCounted : Kind → ℕ → ℕ → Bool
+boysCounted k l count = eqb count (cond (usesBoys k) (l + 1) 0)
+
+-- beside a refusal other than 7 the place is 0
+unfoldable pub unless : Bool → ℕ → Value → Value
+unless true number v = v
+unless false number v = Refused number 0
+
+-- 11 also where the result is not finite
+unfoldable pub resultOf : Float → Value
+resultOf x = unless (finite x) 11 (Is x)
+
+-- 8, 9, 10, 11
+unfoldable pub valueOf : Kind → ℕ → Centre → Centre → Centre → Centre → Float → List Float → List Term → Value
+valueOf k l a b c d aux boys ts =
+    unless (inputsFinite k a b c d aux boys) 8
+    (unless (exponentsAboveZero k a b c d) 9
+    (unless (boysCounted k l (length boys)) 10
+    (unless (geometryFinite k a b c d) 11
+    (resultOf (integralOf k l a b c d aux boys ts)))))

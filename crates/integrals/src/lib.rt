@@ -1,0 +1,175 @@
+// The five integrals over a roll: the checks in their order, then the sum.
+ghost use mathlib.Core.Path.{_≡_};
+ghost use Rattle.integrals.specs.Sums.{kineticStart, integralOf};
+ghost use Rattle.integrals.specs.Values.{inputsFinite, boysCounted, resultOf, valueOf};
+ghost use Rattle.integrals.specs.Stored.{ofCursor, termsAt};
+ghost use Rattle.integrals.specs.Evaluation.{evaluateOf};
+ghost use Rattle.kind.specs.Kinds.{kindOf};
+use geometry::Centre;
+use kind::Kind;
+use kind::Named;
+use roll::Cursor;
+use roll::Opening;
+
+mod reader;
+mod sums;
+
+// The integral, or a refusal's number and place.
+pub enum Value {
+    Is(f64),
+    Refused(u8, usize),
+}
+
+// Where g of a kinetic term starts that stays kinetic.
+fn kinetic_of(a: Centre, b: Centre) -> f64
+    ensures { λ r. ⌜ r ≡ kineticStart a b ⌝ }
+{
+    let za = a.exponent;
+    let zb = b.exponent;
+    let e = za * zb / (za + zb);
+    let ab = geometry::get_r12_squared(a.point(), b.point());
+    e * (3.0 - 2.0 * e * ab)
+}
+
+fn integral(
+    kind: Kind,
+    l: u8,
+    a: Centre,
+    b: Centre,
+    c: Centre,
+    d: Centre,
+    aux: f64,
+    boys: &[f64],
+    roll: &[u8],
+    start: usize,
+    terms: u32,
+) -> f64
+    ensures { λ r. ⌜ r ≡ integralOf kind l a b c d aux (now (boys .entry)) (termsAt (now (roll .entry)) terms start) ⌝ }
+{
+    let table = geometry::prefac(kind, a, b, c, d);
+    let kinetic = kinetic_of(a, b);
+    sums::total(kind, l, kinetic, &table, aux, boys, roll, start, terms)
+}
+
+// Check 8: every float that is used is finite.
+fn inputs_finite(
+    kind: Kind,
+    a: Centre,
+    b: Centre,
+    c: Centre,
+    d: Centre,
+    aux: f64,
+    boys: &[f64],
+) -> bool
+    ensures { λ r. ⌜ r ≡ inputsFinite kind a b c d aux (now (boys .entry)) ⌝ }
+{
+    if geometry::used_finite(kind, a, b, c, d) {
+        if geometry::finite(aux) {
+            return geometry::all_finite(boys);
+        }
+    }
+    false
+}
+
+// Check 10: how many Boys numbers there are.
+fn boys_counted(kind: Kind, l: u8, count: usize) -> bool
+    ensures { λ r. ⌜ r ≡ boysCounted kind l count ⌝ }
+{
+    if kind.uses_boys() {
+        return count == l as usize + 1;
+    }
+    count == 0
+}
+
+// Check 11 of the result.
+fn result(x: f64) -> Value
+    ensures { λ r. ⌜ r ≡ resultOf x ⌝ }
+{
+    if geometry::finite(x) {
+        return Value::Is(x);
+    }
+    Value::Refused(11, 0)
+}
+
+// Checks 8, 9, 10 and 11 of a roll's terms, and their sum.
+fn judged(
+    kind: Kind,
+    l: u8,
+    a: Centre,
+    b: Centre,
+    c: Centre,
+    d: Centre,
+    aux: f64,
+    boys: &[f64],
+    roll: &[u8],
+    start: usize,
+    terms: u32,
+) -> Value
+    ensures { λ r. ⌜ r ≡ valueOf kind l a b c d aux (now (boys .entry)) (termsAt (now (roll .entry)) terms start) ⌝ }
+{
+    if !inputs_finite(kind, a, b, c, d, aux, boys) {
+        return Value::Refused(8, 0);
+    }
+    if !geometry::exponents_above_zero(kind, a, b, c, d) {
+        return Value::Refused(9, 0);
+    }
+    if !boys_counted(kind, l, boys.len()) {
+        return Value::Refused(10, 0);
+    }
+    if !geometry::geometry_finite(kind, a, b, c, d) {
+        return Value::Refused(11, 0);
+    }
+    result(integral(kind, l, a, b, c, d, aux, boys, roll, start, terms))
+}
+
+// The terms of a roll that was judged, from its cursor on.
+fn from_cursor(
+    cursor: Cursor,
+    a: Centre,
+    b: Centre,
+    c: Centre,
+    d: Centre,
+    aux: f64,
+    boys: &[f64],
+    roll: &[u8],
+) -> Value
+    ensures { λ r. ⌜ r ≡ ofCursor (kindOf (cursor .kind)) cursor a b c d aux (now (boys .entry)) (now (roll .entry)) ⌝ }
+{
+    match Kind::of(cursor.kind) {
+        Named::Is(kind) => judged(
+            kind,
+            cursor.l,
+            a,
+            b,
+            c,
+            d,
+            aux,
+            boys,
+            roll,
+            cursor.place,
+            cursor.left,
+        ),
+        Named::Unknown => Value::Refused(7, 0),
+    }
+}
+
+// The integral of a roll with the host's numbers, or 7 with its place, 8, 9, 10 or 11.
+pub fn evaluate(
+    roll: &[u8],
+    a: Centre,
+    b: Centre,
+    c: Centre,
+    d: Centre,
+    aux: f64,
+    boys: &[f64],
+) -> Value
+    ensures { λ r. ⌜ r ≡ evaluateOf (now (roll .entry)) a b c d aux (now (boys .entry)) ⌝ }
+{
+    let opened = roll::check(roll);
+    let found = opened.found;
+    let cursor = opened.cursor;
+    match found {
+        Opening::Roll => from_cursor(cursor, a, b, c, d, aux, boys, roll),
+        Opening::Refused(number, place) => Value::Refused(number, place),
+    }
+}

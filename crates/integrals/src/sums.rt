@@ -1,0 +1,246 @@
+// The sums of the five get_ functions of os86.rs, over the terms of a roll.
+ghost use Prim.Native.Nat.{_+_, _≤_};
+ghost use mathlib.Core.Path.{_≡_};
+ghost use lib.ListN.{length, getD};
+ghost use Rattle.geometry.specs.Floats.{_⊗_, zero};
+ghost use Rattle.integrals.specs.Sums.{boysAt, productOf, staysKinetic, plainOf, kineticOf, nuclearOf, coulombOf, sumFrom, ofOrder, runOrders, totalOf};
+ghost use Rattle.integrals.specs.Stored.{addOrderOf, startOf, addendOf, between, termOf, termsAt};
+use super::reader::Head;
+use super::reader::head_at;
+use kind::Kind;
+
+// What a term adds to a sum in list order.
+enum Adds {
+    Plain,
+    Kinetic,
+    Nuclear,
+}
+
+fn float_at(floats: &[f64], at: usize) -> f64
+    ensures { λ r. ⌜ r ≡ getD (now (floats .entry)) at zero ⌝ }
+{
+    if at < floats.len() {
+        return floats[at];
+    }
+    0.0
+}
+
+fn wide(byte: u8) -> usize
+    ensures { λ r. ⌜ r ≡ byte ⌝ }
+{
+    byte as usize
+}
+
+// g, multiplied by the table's entries in listed order.
+fn product(table: &[f64], roll: &[u8], from: usize, end: usize, start: f64) -> f64
+    requires { ⌜ end ≤ length (now roll) ⌝ }
+    ensures { λ r. ⌜ r ≡ productOf (now (table .entry)) (between (now (roll .entry)) from end) start ⌝ }
+{
+    let mut g = start;
+    let mut at = from;
+    while at < end {
+        g = g * float_at(table, wide(roll[at]));
+        at += 1;
+    }
+    g
+}
+
+// Whether a kinetic term has no prefactor above 7.
+fn stays_kinetic(roll: &[u8], from: usize, end: usize) -> bool
+    requires { ⌜ end ≤ length (now roll) ⌝ }
+    ensures { λ r. ⌜ r ≡ staysKinetic (between (now (roll .entry)) from end) ⌝ }
+{
+    let mut at = from;
+    while at < end {
+        if wide(roll[at]) <= 7 {
+            at += 1;
+        } else {
+            return false;
+        }
+    }
+    true
+}
+
+// A kinetic term with no prefactor above 7 starts at `kinetic`, any other at 1.0.
+fn kinetic_start(roll: &[u8], from: usize, end: usize, kinetic: f64) -> f64
+    requires { ⌜ end ≤ length (now roll) ⌝ }
+    ensures { λ r. ⌜ r ≡ startOf Adds.Kinetic kinetic (between (now (roll .entry)) from end) ⌝ }
+{
+    if stays_kinetic(roll, from, end) {
+        return kinetic;
+    }
+    1.0
+}
+
+fn start_of(adds: Adds, roll: &[u8], from: usize, end: usize, kinetic: f64) -> f64
+    requires { ⌜ end ≤ length (now roll) ⌝ }
+    ensures { λ r. ⌜ r ≡ startOf adds kinetic (between (now (roll .entry)) from end) ⌝ }
+{
+    match adds {
+        Adds::Plain => 1.0,
+        Adds::Kinetic => kinetic_start(roll, from, end, kinetic),
+        Adds::Nuclear => 1.0,
+    }
+}
+
+// What one term adds to the sum.
+fn addend(
+    adds: Adds,
+    kinetic: f64,
+    table: &[f64],
+    aux: f64,
+    boys: &[f64],
+    roll: &[u8],
+    h: Head,
+) -> f64
+    requires { ⌜ h .end ≤ length (now roll) ⌝ }
+    ensures { λ r. ⌜ r ≡ addendOf adds kinetic (now (table .entry)) aux (now (boys .entry)) (termOf (now (roll .entry)) h) ⌝ }
+{
+    let start = start_of(adds, roll, h.from, h.end, kinetic);
+    let g = product(table, roll, h.from, h.end, start);
+    let scale = h.scale as f64;
+    match adds {
+        Adds::Plain => scale * aux * g,
+        Adds::Kinetic => scale * aux * g,
+        Adds::Nuclear => scale * aux * g * float_at(boys, h.boys as usize),
+    }
+}
+
+// The sum in list order.
+fn sum(
+    adds: Adds,
+    kinetic: f64,
+    table: &[f64],
+    aux: f64,
+    boys: &[f64],
+    roll: &[u8],
+    start: usize,
+    terms: u32,
+) -> f64
+    ensures { λ r. ⌜ r ≡ sumFrom (addendOf adds kinetic (now (table .entry)) aux (now (boys .entry))) (termsAt (now (roll .entry)) terms start) zero ⌝ }
+{
+    let mut sum = 0.0;
+    let mut at = start;
+    let mut left = terms;
+    while 0 < left {
+        let h = head_at(roll, at);
+        sum = sum + addend(adds, kinetic, table, aux, boys, roll, h);
+        at = h.end;
+        left -= 1;
+    }
+    sum
+}
+
+// A term of the Boys order that is summed adds scale·b·g, any other nothing.
+fn add_order(order: usize, b: f64, table: &[f64], roll: &[u8], h: Head, sum: f64) -> f64
+    requires { ⌜ h .end ≤ length (now roll) ⌝ }
+    ensures { λ r. ⌜ r ≡ addOrderOf order b (now (table .entry)) (termOf (now (roll .entry)) h) sum ⌝ }
+{
+    if h.boys as usize == order {
+        let g = product(table, roll, h.from, h.end, 1.0);
+        return sum + h.scale as f64 * b * g;
+    }
+    sum
+}
+
+// The terms of one Boys order, in list order.
+fn pass(
+    order: usize,
+    table: &[f64],
+    s: f64,
+    boys: &[f64],
+    roll: &[u8],
+    start: usize,
+    terms: u32,
+    before: f64,
+) -> f64
+    ensures { λ r. ⌜ r ≡ sumFrom (coulombOf (now (table .entry)) (boysAt (now (boys .entry)) order ⊗ s)) (ofOrder order (termsAt (now (roll .entry)) terms start)) before ⌝ }
+{
+    let b = float_at(boys, order) * s;
+    let mut sum = before;
+    let mut at = start;
+    let mut left = terms;
+    while 0 < left {
+        let h = head_at(roll, at);
+        sum = add_order(order, b, table, roll, h, sum);
+        at = h.end;
+        left -= 1;
+    }
+    sum
+}
+
+fn get_overlap(table: &[f64], aux: f64, boys: &[f64], roll: &[u8], start: usize, terms: u32) -> f64
+    ensures { λ r. ⌜ r ≡ sumFrom (plainOf (now (table .entry)) aux) (termsAt (now (roll .entry)) terms start) zero ⌝ }
+{
+    sum(Adds::Plain, 0.0, table, aux, boys, roll, start, terms)
+}
+
+fn get_kinetic(
+    kinetic: f64,
+    table: &[f64],
+    aux: f64,
+    boys: &[f64],
+    roll: &[u8],
+    start: usize,
+    terms: u32,
+) -> f64
+    ensures { λ r. ⌜ r ≡ sumFrom (kineticOf kinetic (now (table .entry)) aux) (termsAt (now (roll .entry)) terms start) zero ⌝ }
+{
+    sum(Adds::Kinetic, kinetic, table, aux, boys, roll, start, terms)
+}
+
+fn get_nuclear(table: &[f64], aux: f64, boys: &[f64], roll: &[u8], start: usize, terms: u32) -> f64
+    ensures { λ r. ⌜ r ≡ sumFrom (nuclearOf (now (table .entry)) aux (now (boys .entry))) (termsAt (now (roll .entry)) terms start) zero ⌝ }
+{
+    sum(Adds::Nuclear, 0.0, table, aux, boys, roll, start, terms)
+}
+
+fn get_moment(table: &[f64], aux: f64, boys: &[f64], roll: &[u8], start: usize, terms: u32) -> f64
+    ensures { λ r. ⌜ r ≡ sumFrom (plainOf (now (table .entry)) aux) (termsAt (now (roll .entry)) terms start) zero ⌝ }
+{
+    sum(Adds::Plain, 0.0, table, aux, boys, roll, start, terms)
+}
+
+// Coulomb runs the Boys orders from 0 to L.
+fn get_coulomb(
+    l: u8,
+    table: &[f64],
+    s: f64,
+    boys: &[f64],
+    roll: &[u8],
+    start: usize,
+    terms: u32,
+) -> f64
+    ensures { λ r. ⌜ r ≡ runOrders (now (table .entry)) s (now (boys .entry)) (termsAt (now (roll .entry)) terms start) (l + 1) 0 zero ⌝ }
+{
+    let last = l as usize;
+    let mut sum = 0.0;
+    let mut order = 0;
+    while order <= last {
+        sum = pass(order, table, s, boys, roll, start, terms, sum);
+        order += 1;
+    }
+    sum
+}
+
+pub(crate) fn total(
+    kind: Kind,
+    l: u8,
+    kinetic: f64,
+    table: &[f64],
+    aux: f64,
+    boys: &[f64],
+    roll: &[u8],
+    start: usize,
+    terms: u32,
+) -> f64
+    ensures { λ r. ⌜ r ≡ totalOf kind l kinetic (now (table .entry)) aux (now (boys .entry)) (termsAt (now (roll .entry)) terms start) ⌝ }
+{
+    match kind {
+        Kind::Overlap => get_overlap(table, aux, boys, roll, start, terms),
+        Kind::Kinetic => get_kinetic(kinetic, table, aux, boys, roll, start, terms),
+        Kind::Nuclear => get_nuclear(table, aux, boys, roll, start, terms),
+        Kind::Moment => get_moment(table, aux, boys, roll, start, terms),
+        Kind::Coulomb => get_coulomb(l, table, aux, boys, roll, start, terms),
+    }
+}
