@@ -1,5 +1,9 @@
 // Floats and their bits. The library answers every NaN alike, so a pattern that is a NaN's stands for one of them.
 
+ghost use Prim.Native.Nat.{_+_, _≤_};
+ghost use lib.ListN.{length};
+use geometry::Centre;
+
 // The bits of infinity: those of a NaN lie above, the sign left out.
 const INFINITE: u64 = 0x7ff0_0000_0000_0000;
 // The weight of the sign.
@@ -24,4 +28,16 @@ pub(crate) fn bits(x: f64) -> u64 {
         return f64::to_bits(x);
     }
     NAN
+}
+
+// The centre whose four floats stand from a place on.
+pub(crate) fn centre(floats: &[f64], at: usize) -> Centre
+    requires { ⌜ at + 4 ≤ length (now floats) ⌝ }
+{
+    Centre {
+        x: floats[at],
+        y: floats[at + 1],
+        z: floats[at + 2],
+        exponent: floats[at + 3],
+    }
 }

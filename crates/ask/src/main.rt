@@ -3,6 +3,7 @@
 // Questions come from standard input until it ends. A question's own module reads its words, calls the library and
 // writes the answer; this file knows the questions' names alone.
 mod components;
+mod evals;
 mod floats;
 mod input;
 mod lent;
@@ -65,6 +66,9 @@ fn of_rolls(
     }
     if words::is(name, b"next") {
         return rolls::next(line, at, space, out, used);
+    }
+    if words::is(name, b"eval") {
+        return evals::answer(line, at, space, out, used);
     }
     of_floats(name, line, at, out, used)
 }

@@ -119,7 +119,7 @@ fn hex_word_first(out: &mut [u8], word: u64) -> usize {
 }
 
 // A float's bits after a blank.
-fn float(out: &mut [u8], used: usize, x: f64) -> usize {
+pub(crate) fn float(out: &mut [u8], used: usize, x: f64) -> usize {
     let parted = say(out, used, b" ");
     hex_word(out, parted, floats::bits(x))
 }

@@ -1,8 +1,7 @@
 // `table KIND A B C D`: the prefactor table of a kind and its centres.
-ghost use Prim.Native.Nat.{_+_, _≤_};
+use crate::floats;
 use crate::output;
 use crate::words;
-use geometry::Centre;
 use geometry::Found;
 use geometry::Table;
 use kind::Kind;
@@ -27,23 +26,11 @@ pub(crate) fn answer(line: &[u8], at: usize, out: &mut [u8], used: usize) -> usi
 }
 
 fn asked(kind: u8, floats: &[f64; FLOATS], out: &mut [u8], used: usize) -> usize {
-    let a = centre(floats, 0);
-    let b = centre(floats, 4);
-    let c = centre(floats, 8);
-    let d = centre(floats, 12);
+    let a = floats::centre(floats, 0);
+    let b = floats::centre(floats, 4);
+    let c = floats::centre(floats, 8);
+    let d = floats::centre(floats, 12);
     shown(geometry::prefactors(kind, a, b, c, d), out, used)
-}
-
-// The centre whose four floats stand from a place on.
-fn centre(floats: &[f64; FLOATS], at: usize) -> Centre
-    requires { ⌜ at + 4 ≤ 16 ⌝ }
-{
-    Centre {
-        x: floats[at],
-        y: floats[at + 1],
-        z: floats[at + 2],
-        exponent: floats[at + 3],
-    }
 }
 
 fn shown(table: Table, out: &mut [u8], used: usize) -> usize {

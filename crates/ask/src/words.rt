@@ -117,19 +117,30 @@ fn read_float(line: &[u8], at: usize) -> Float {
     Float::Is(floats::of_bits(bits), next)
 }
 
-// As many floats as `out` has places.
-pub(crate) fn read_floats(line: &[u8], at: usize, out: &mut [f64]) -> Floats {
+// As many floats as stand there and have room: how many, and the place after them.
+pub(crate) fn read_some(line: &[u8], at: usize, room: &mut [f64]) -> Place {
     let mut next = at;
-    let mut i = 0;
-    while i < out.len() {
+    let mut n = 0;
+    while n < room.len() {
         let Float::Is(x, end) = read_float(line, next) else {
-            return Floats::Not;
+            return Place::Is(n, next);
         };
-        out[i] = x;
+        room[n] = x;
         next = end;
-        i += 1;
+        n += 1;
     }
-    Floats::Till(next)
+    Place::Is(n, next)
+}
+
+// As many floats as `room` has places.
+pub(crate) fn read_floats(line: &[u8], at: usize, room: &mut [f64]) -> Floats {
+    let Place::Is(n, end) = read_some(line, at, room) else {
+        return Floats::Not;
+    };
+    if n == room.len() {
+        return Floats::Till(end);
+    }
+    Floats::Not
 }
 
 // A byte in two hexadecimal digits.

@@ -1,17 +1,17 @@
--- `words::read_floats` is safe and ends: the length stays. Assumes nothing.
+-- `words::read_some` is safe and ends: the length stays. Assumes nothing.
 use borrow.Author.Needs.{needs}
 use Prim.Native.Nat.{_-_, _≤_}
 use lib.ListN.{length, length-set}
 use native.Mathlib.Omega.{arith}
 use mathlib.Core.Path.{_≡_}
-use Rattle.ask.proofs.words.read_floats.Statement.{statement}
-use Rattle.ask.proofs.words.read_floats.Tie as tie
+use Rattle.ask.proofs.words.read_some.Statement.{statement}
+use Rattle.ask.proofs.words.read_some.Tie as tie
 
 abbrev Inv-loop : tie.InvT-loop
-Inv-loop line at out₀ next₀ i₀ out next i = (i ≤ length out) × (length out ≡ length out₀)
+Inv-loop line at room₀ next₀ n₀ room next n = (n ≤ length room) × (length room ≡ length room₀)
 
 abbrev μ-loop : tie.MeasureT-loop
-μ-loop line at out₀ next₀ i₀ out next i = length out - i
+μ-loop line at room₀ next₀ n₀ room next n = length room - n
 
 loop-holds : tie.Need-loop-holds Inv-loop μ-loop
 loop-holds c = search needs
@@ -31,14 +31,14 @@ same-length c = search needs
 returns : tie.Need-returns Inv-loop μ-loop
 returns c = search needs
 
-mul-out : tie.Need-mul-out Inv-loop μ-loop
-mul-out c = search needs
+mul-room : tie.Need-mul-room Inv-loop μ-loop
+mul-room c = search needs
 
-slice-write-out : tie.Need-slice-write-out Inv-loop μ-loop
-slice-write-out c = search needs
+slice-write-room : tie.Need-slice-write-room Inv-loop μ-loop
+slice-write-room c = search needs
 
-add-i : tie.Need-add-i Inv-loop μ-loop
-add-i c = search needs
+add-n : tie.Need-add-n Inv-loop μ-loop
+add-n c = search needs
 
 loop-less : tie.Need-loop-less Inv-loop μ-loop
 loop-less c = simp length-set (omega arith)
@@ -52,8 +52,8 @@ same-length-2 c = search needs
 returns-2 : tie.Need-returns-2 Inv-loop μ-loop
 returns-2 c = search needs
 
-pub read-floats-spec : {M : Type 1} → statement M
-read-floats-spec =
+pub read-some-spec : {M : Type 1} → statement M
+read-some-spec =
     tie.close
     (tie.spec
     Inv-loop
@@ -64,9 +64,9 @@ read-floats-spec =
     enum-told
     same-length
     returns
-    mul-out
-    slice-write-out
-    add-i
+    mul-room
+    slice-write-room
+    add-n
     loop-less
     loop-again
     same-length-2
