@@ -3,10 +3,15 @@
 // Questions come from standard input until it ends. A question's own module reads its words, calls the library and
 // writes the answer; this file knows the questions' names alone.
 mod components;
+mod evals;
+mod floats;
 mod input;
 mod lent;
+mod matrices;
 mod output;
+mod rolls;
 mod shells;
+mod tables;
 mod words;
 
 use input::MOST_LINE;
@@ -41,6 +46,42 @@ fn question(line: &[u8], space: &mut [u8], out: &mut [u8], used: usize) -> usize
     }
     if words::is(name, b"component") {
         return components::answer(line, at, out, used);
+    }
+    of_rolls(name, line, at, space, out, used)
+}
+
+fn of_rolls(
+    name: &[u8],
+    line: &[u8],
+    at: usize,
+    space: &mut [u8],
+    out: &mut [u8],
+    used: usize,
+) -> usize {
+    if words::is(name, b"open") {
+        return rolls::open(line, at, space, out, used);
+    }
+    if words::is(name, b"check") {
+        return rolls::check(line, at, space, out, used);
+    }
+    if words::is(name, b"next") {
+        return rolls::next(line, at, space, out, used);
+    }
+    if words::is(name, b"eval") {
+        return evals::answer(line, at, space, out, used);
+    }
+    of_floats(name, line, at, out, used)
+}
+
+fn of_floats(name: &[u8], line: &[u8], at: usize, out: &mut [u8], used: usize) -> usize {
+    if words::is(name, b"table") {
+        return tables::answer(line, at, out, used);
+    }
+    if words::is(name, b"jk") {
+        return matrices::plain(line, at, out, used);
+    }
+    if words::is(name, b"jkl") {
+        return matrices::sized(line, at, out, used);
     }
     output::unknown(out, used)
 }

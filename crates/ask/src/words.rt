@@ -2,6 +2,7 @@
 // before, and answers its word with the place after it.
 ghost use Prim.Native.Nat.{_≤_};
 ghost use lib.ListN.{length};
+use crate::floats;
 use text::Number;
 
 pub(crate) enum Byte {
@@ -16,6 +17,23 @@ pub(crate) enum Word {
 
 pub(crate) enum Place {
     Is(usize, usize),
+    Not,
+}
+
+pub(crate) enum Float {
+    Is(f64, usize),
+    Not,
+}
+
+// The bytes of a roll that ends its line.
+pub(crate) enum Roll {
+    Is(usize),
+    Not,
+}
+
+// Whether as many floats as were asked for are read, and the place after them.
+pub(crate) enum Floats {
+    Till(usize),
     Not,
 }
 
@@ -83,4 +101,117 @@ pub(crate) fn read_place(line: &[u8], at: usize) -> Place {
         return Place::Not;
     };
     Place::Is(n as usize, next)
+}
+
+// A float by its bits in hexadecimal.
+fn read_float(line: &[u8], at: usize) -> Float {
+    if line.len() <= at {
+        return Float::Not;
+    }
+    if line[at] != b' ' {
+        return Float::Not;
+    }
+    let Number::Is(bits, next) = text::read_hex(line, at + 1) else {
+        return Float::Not;
+    };
+    Float::Is(floats::of_bits(bits), next)
+}
+
+// As many floats as stand there and have room: how many, and the place after them.
+pub(crate) fn read_some(line: &[u8], at: usize, room: &mut [f64]) -> Place {
+    let mut next = at;
+    let mut n = 0;
+    while n < room.len() {
+        let Float::Is(x, end) = read_float(line, next) else {
+            return Place::Is(n, next);
+        };
+        room[n] = x;
+        next = end;
+        n += 1;
+    }
+    Place::Is(n, next)
+}
+
+// As many floats as `room` has places.
+pub(crate) fn read_floats(line: &[u8], at: usize, room: &mut [f64]) -> Floats {
+    let Place::Is(n, end) = read_some(line, at, room) else {
+        return Floats::Not;
+    };
+    if n == room.len() {
+        return Floats::Till(end);
+    }
+    Floats::Not
+}
+
+// A byte in two hexadecimal digits.
+fn read_pair(line: &[u8], at: usize) -> Byte {
+    if line.len() < 2 {
+        return Byte::Not;
+    }
+    if line.len() - 2 < at {
+        return Byte::Not;
+    }
+    let end = at + 2;
+    let Number::Is(n, length) = text::read_hex(&line[at..end], 0) else {
+        return Byte::Not;
+    };
+    if length != 2 {
+        return Byte::Not;
+    }
+    if 255 < n {
+        return Byte::Not;
+    }
+    Byte::Is(n as u8, end)
+}
+
+// As many bytes as stand there and have room: how many, and the place after them.
+fn read_pairs(line: &[u8], at: usize, space: &mut [u8]) -> Place {
+    let mut next = at;
+    let mut n = 0;
+    while n < space.len() {
+        let Byte::Is(byte, end) = read_pair(line, next) else {
+            return Place::Is(n, next);
+        };
+        space[n] = byte;
+        next = end;
+        n += 1;
+    }
+    Place::Is(n, next)
+}
+
+// A roll's bytes into the first places of `space`: how many, and the place after them.
+pub(crate) fn read_roll(line: &[u8], at: usize, space: &mut [u8]) -> Place {
+    if line.len() <= at {
+        return Place::Not;
+    }
+    if line.len() - at < 2 {
+        return Place::Not;
+    }
+    if line[at] != b' ' {
+        return Place::Not;
+    }
+    if line[at + 1] == b'-' {
+        return Place::Is(0, at + 2);
+    }
+    some_pairs(line, at + 1, space)
+}
+
+fn some_pairs(line: &[u8], at: usize, space: &mut [u8]) -> Place {
+    let Place::Is(n, end) = read_pairs(line, at, space) else {
+        return Place::Not;
+    };
+    if n == 0 {
+        return Place::Not;
+    }
+    Place::Is(n, end)
+}
+
+pub(crate) fn last_roll(line: &[u8], at: usize, space: &mut [u8]) -> Roll {
+    let Place::Is(n, end) = read_roll(line, at, space) else {
+        return Roll::Not;
+    };
+    if end == line.len() {
+        return Roll::Is(n);
+    }
+    Roll::Not
 }
