@@ -7,5 +7,6 @@ pub mod Emission
 pub mod Groups
 pub mod Headers
 pub mod Measuring
+pub mod Only
 pub mod Requests
 pub mod Walking
