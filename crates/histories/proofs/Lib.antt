@@ -5,5 +5,6 @@ pub mod Demand
 pub mod Fair
 pub mod Nexts
 pub mod Orders
+pub mod Some
 pub mod Walk
 pub mod Whole
