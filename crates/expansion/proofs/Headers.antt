@@ -38,12 +38,12 @@ neither true b e = absurd (let z : _≡_ {A = ℕ} 0 1 = cc in omega arith)
 neither false b e = (refl, e)
 
 -- the order sums of all four centres, and the depth
-record Sums (k : Kind) (os : List ℕ) : Type 0 where
-  of-a : sumOf os A ≤ mostOrder
-  of-b : sumOf os B ≤ mostOrder
-  of-c : sumOf os C ≤ mostOrder
-  of-d : sumOf os D ≤ mostOrder
-  deep : stage k + total os ≤ mostOrders
+pub record Sums (k : Kind) (os : List ℕ) : Type 0 where
+  pub of-a : sumOf os A ≤ mostOrder
+  pub of-b : sumOf os B ≤ mostOrder
+  pub of-c : sumOf os C ≤ mostOrder
+  pub of-d : sumOf os D ≤ mostOrder
+  pub deep : stage k + total os ≤ mostOrders
 
 module _ (os : List ℕ) (twelve : length os ≡ requestOrders) where
   all-total : total os ≡ sumOf os A + sumOf os B + sumOf os C + sumOf os D
@@ -111,7 +111,7 @@ module _ (os : List ℕ) (twelve : length os ≡ requestOrders) where
       omega arith
 
 module _ (k : Kind) (os : List ℕ) (within : Within k os) where
-  all-sums : Sums k os
+  pub all-sums : Sums k os
   all-sums = sums os (within .twelve) k (within .low-sums) (within .none-unused)
 
   pub all-small : Small os
@@ -184,7 +184,7 @@ module _ (k : Kind) (os : List ℕ) (within : Within k os) where
       (numbers-small (take (ordersOf k) os) (take-small (ordersOf k) os (λ (i : ℕ). let h = all-small k os within i in omega arith))))
       ∙ ap (λ (l : List ℕ). numberOf k ∷ l) (sym (append-assoc (take (ordersOf k) os) (bytesOf (length (termsOf k os))) (termsBytes (termsOf k os))))
 
-  orders-long : length (take (ordersOf k) os) ≡ ordersOf k
+  pub orders-long : length (take (ordersOf k) os) ≡ ordersOf k
   orders-long = length-take (ordersOf k) os ∙ (let h = few-orders k in let l = within .twelve in omega arith)
 
   head-length : length (headOf k os) ≡ 1 + ordersOf k + lengthOf (length (termsOf k os))

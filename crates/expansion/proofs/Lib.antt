@@ -8,5 +8,6 @@ pub mod Groups
 pub mod Headers
 pub mod Measuring
 pub mod Only
+pub mod ReadsBack
 pub mod Requests
 pub mod Walking

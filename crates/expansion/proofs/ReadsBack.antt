@@ -1,0 +1,153 @@
+-- Whatever the expansion writes reads back as exactly its kind, orders and terms.
+use Prim.Native.Nat.{ℕ, zero, suc, _+_, _*_, _-_, _≤_, _<_}
+use mathlib.Core.Path.{_≡_, refl, sym, ap, ap₂, subst, _∙_}
+use mathlib.Core.Bool.{Bool, true, false}
+use mathlib.Core.List.{List, [], _∷_, _++_, List·Memᴰ}
+use mathlib.Core.List.List·Memᴰ.{List·Memᴰ·head, List·Memᴰ·tail}
+use native.Mathlib.Omega.{arith}
+use native.Mathlib.Numerals.{add-one}
+use borrow.Author.Tests.{ltb-false}
+use lib.Dec.{ltb}
+use lib.ListN.{length, getD, take, drop, take-append-drop}
+use lib.Seq.{drop-cons, getD-drop}
+use Rattle.kind.specs.declared.Kind.{Kind}
+use Rattle.kind.specs.declared.Kind.the-variants.{Overlap, Kinetic, Nuclear, Moment, Coulomb}
+use Rattle.kind.specs.Kinds.{ordersOf, tableOf, mostPrefactors, usesBoys}
+use Rattle.kind.specs.Limits.{mostOrder, mostOrders, mostTerms, requestOrders}
+use Rattle.term.specs.Terms.{Term}
+use Rattle.steps.specs.declared.Centre.the-variants.{A, B, C, D}
+use Rattle.steps.specs.Choice.{sumOf}
+use Rattle.steps.specs.States.{start, total}
+use Rattle.histories.specs.History.{stage, depth, expand}
+use Rattle.histories.proofs.Orders.{order-le-total}
+use Rattle.histories.proofs.Bounds.{Kept, terms-kept, scale-limit}
+use Rattle.histories.proofs.Some.{Unused, some-term}
+use Rattle.roll.specs.Bytes.{rollBytes}
+use Rattle.roll.specs.Reading.{Roll, got, rollAt, mostBoys, total as rollTotal}
+use Rattle.roll.specs.Fits.{CentresFit, Below, TermFits, TermsFit, RollFits}
+use Rattle.roll.proofs.Back.{roll-back}
+use Rattle.expansion.specs.Expanding.{unusedSet, termsOf, rollOf, Within}
+use Rattle.expansion.proofs.Headers.{Sums, all-sums, all-small, orders-long, few-orders}
+
+same-total : (l : List ℕ) → rollTotal l ≡ total l
+unfolding total rollTotal
+same-total [] = refl
+same-total (n ∷ l) = ap (λ (m : ℕ). n + m) (same-total l)
+
+append-total : (l m : List ℕ) → total (l ++ m) ≡ total l + total m
+unfolding total
+append-total [] m = omega arith
+append-total (n ∷ l) m = let h = append-total l m in omega arith
+
+below-all : (table : ℕ) (ps : List ℕ) → ((p : ℕ) → List·Memᴰ p ps → p < table) → Below table ps
+below-all table [] h = tt
+below-all table (p ∷ ps) h = (h p (List·Memᴰ·head refl), below-all table ps (λ (q : ℕ) (m : List·Memᴰ q ps). h q (List·Memᴰ·tail m)))
+
+terms-all : (k : Kind) (l : ℕ) (ts : List Term) → ((t : Term) → List·Memᴰ t ts → TermFits k l t) → TermsFit k l ts
+terms-all k l [] h = tt
+terms-all k l (t ∷ ts) h = (h t (List·Memᴰ·head refl), terms-all k l ts (λ (u : Term) (m : List·Memᴰ u ts). h u (List·Memᴰ·tail m)))
+
+boys-most : (k : Kind) (l b : ℕ) → b ≤ l → (usesBoys k ≡ false → b ≡ 0) → b ≤ mostBoys k l
+boys-most Overlap l b h z = let e = z refl in omega arith
+boys-most Kinetic l b h z = let e = z refl in omega arith
+boys-most Nuclear l b h z = h
+boys-most Moment l b h z = let e = z refl in omega arith
+boys-most Coulomb l b h z = h
+
+count-most : (k : Kind) (l n : ℕ) → n ≤ stage k + l → n ≤ mostPrefactors k l
+count-most Overlap l n h = omega arith
+count-most Kinetic l n h = omega arith
+count-most Nuclear l n h = omega arith
+count-most Moment l n h = omega arith
+count-most Coulomb l n h = omega arith
+
+-- three more orders whose sum keeps the limit
+centre-more : (os : List ℕ) (i n : ℕ) → i + 2 < length os → getD os i 0 + getD os (i + 1) 0 + getD os (i + 2) 0 ≤ mostOrder → CentresFit (take n (drop (i + 3) os)) → CentresFit (take (suc (suc (suc n))) (drop i os))
+centre-more os i n h s rest = subst (λ (l : List ℕ). CentresFit (take (suc (suc (suc n))) l)) (sym there) (s, rest)
+  where
+    there : drop i os ≡ getD os i 0 ∷ getD os (i + 1) 0 ∷ getD os (i + 2) 0 ∷ drop (i + 3) os
+    there =
+        drop-cons os i 0 (omega arith)
+        ∙ ap (λ (l : List ℕ). getD os i 0 ∷ l)
+        (ap (λ (j : ℕ). drop j os) (sym (add-one i)) ∙ drop-cons os (i + 1) 0 (omega arith)
+        ∙ ap (λ (l : List ℕ). getD os (i + 1) 0 ∷ l) (ap (λ (j : ℕ). drop j os) second ∙ drop-cons os (i + 2) 0 (omega arith) ∙ ap (λ (j : ℕ). getD os (i + 2) 0 ∷ drop j os) third))
+      where
+        second : suc (i + 1) ≡ i + 2
+        second = omega arith
+
+        third : suc (i + 2) ≡ i + 3
+        third = omega arith
+
+module _ (k : Kind) (os : List ℕ) (within : Within k os) where
+  sums : Sums k os
+  sums = all-sums k os within
+
+  two-centres : CentresFit (take 6 os)
+  two-centres =
+      let t = within .twelve in
+      centre-more os 0 3 (omega arith) (sums .of-a) (centre-more os 3 0 (omega arith) (sums .of-b) tt)
+
+  centres : CentresFit (take (ordersOf k) os)
+  centres = by-kind k
+    where
+      three : CentresFit (take 9 os)
+      three = let t = within .twelve in centre-more os 0 6 (omega arith) (sums .of-a) (centre-more os 3 3 (omega arith) (sums .of-b) (centre-more os 6 0 (omega arith) (sums .of-c) tt))
+
+      four : CentresFit (take 12 os)
+      four = let t = within .twelve in centre-more os 0 9 (omega arith) (sums .of-a) (centre-more os 3 6 (omega arith) (sums .of-b) (centre-more os 6 3 (omega arith) (sums .of-c) (centre-more os 9 0 (omega arith) (sums .of-d) tt)))
+
+      by-kind : (j : Kind) → CentresFit (take (ordersOf j) os)
+      by-kind Overlap = two-centres
+      by-kind Kinetic = two-centres
+      by-kind Nuclear = two-centres
+      by-kind Moment = three
+      by-kind Coulomb = four
+
+  rest-zero : total (drop (ordersOf k) os) ≡ 0
+  rest-zero = let h = ltb-false 0 (total (drop (ordersOf k) os)) (within .none-unused) in omega arith
+
+  used-total : rollTotal (take (ordersOf k) os) ≡ total os
+  used-total =
+      same-total (take (ordersOf k) os)
+      ∙ (let h = append-total (take (ordersOf k) os) (drop (ordersOf k) os) in let e = ap total (take-append-drop (ordersOf k) os) in let z = rest-zero in omega arith)
+
+  unused : Unused k os
+  unfolding Unused
+  unused i h =
+      let z = rest-zero in
+      let d : getD (drop (ordersOf k) os) (i - ordersOf k) 0 ≡ getD os i 0 = getD-drop (ordersOf k) os (i - ordersOf k) 0 ∙ ap (λ (j : ℕ). getD os j 0) back in
+      let l = order-le-total (drop (ordersOf k) os) (i - ordersOf k) in
+      omega arith
+    where
+      back : ordersOf k + (i - ordersOf k) ≡ i
+      back = omega arith
+
+  term-fits : (t : Term) → List·Memᴰ t (termsOf k os) → TermFits k (rollTotal (take (ordersOf k) os)) t
+  unfolding depth
+  term-fits t m =
+      let kept = terms-kept k os (all-small k os within) t m in
+      let few = sums .deep in
+      subst (λ (l : ℕ). TermFits k l t) (sym used-total)
+      (record {
+        some = kept .scale-least;
+        scale = scale-limit k os t kept (omega arith);
+        boys = boys-most k (total os) (t .boys) (kept .boys) (kept .boys-none);
+        count = count-most k (total os) (length (t .prefactors)) (kept .count);
+        prefactors = below-all (tableOf k) (t .prefactors) (kept .in-table);
+      })
+
+  module _ (few : length (termsOf k os) ≤ mostTerms) where
+    -- the roll of a request that is not refused keeps the reader's limits
+    pub roll-fits : RollFits (record { kind = k; orders = take (ordersOf k) os; terms = termsOf k os })
+    roll-fits =
+        record {
+          places = orders-long k os within;
+          sums = centres;
+          some = some-term (start k os) unused;
+          most = few;
+          terms = terms-all k (rollTotal (take (ordersOf k) os)) (termsOf k os) term-fits;
+        }
+
+    pub reads-back : rollAt (rollOf k os) ≡ got (record { kind = k; orders = take (ordersOf k) os; terms = termsOf k os }) (length (rollOf k os))
+    unfolding rollOf
+    reads-back = roll-back (record { kind = k; orders = take (ordersOf k) os; terms = termsOf k os }) roll-fits
