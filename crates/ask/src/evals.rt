@@ -3,7 +3,7 @@ use crate::floats;
 use crate::output;
 use crate::words;
 use integrals::Value;
-use words::Floats;
+use words::Filled;
 use words::Place;
 
 // The floats of four centres, and aux.
@@ -30,7 +30,7 @@ pub(crate) fn answer(
 // The roll is read, and the centres and aux follow.
 fn of_roll(roll: &[u8], line: &[u8], at: usize, out: &mut [u8], used: usize) -> usize {
     let mut floats = [0.0; FLOATS];
-    let Floats::Till(next) = words::read_floats(line, at, &mut floats) else {
+    let Filled::Till(next) = words::read_floats(line, at, &mut floats) else {
         return output::unknown(out, used);
     };
     let mut boys = [0.0; MOST_BOYS];

@@ -4,6 +4,7 @@
 // writes the answer; this file knows the questions' names alone.
 mod components;
 mod evals;
+mod expands;
 mod floats;
 mod input;
 mod lent;
@@ -46,6 +47,9 @@ fn question(line: &[u8], space: &mut [u8], out: &mut [u8], used: usize) -> usize
     }
     if words::is(name, b"component") {
         return components::answer(line, at, out, used);
+    }
+    if words::is(name, b"expand") {
+        return expands::answer(line, at, space, out, used);
     }
     of_rolls(name, line, at, space, out, used)
 }

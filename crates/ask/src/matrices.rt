@@ -6,7 +6,7 @@ use crate::output;
 use crate::words;
 use jk::Answer;
 use kind::Kind;
-use words::Floats;
+use words::Filled;
 use words::Place;
 
 // The most floats of I, and of each other slice, that a question can have lent.
@@ -124,10 +124,10 @@ fn given(
     out: &mut [u8],
     used: usize,
 ) -> usize {
-    let Floats::Till(next) = words::read_floats(line, at, i) else {
+    let Filled::Till(next) = words::read_floats(line, at, i) else {
         return output::unknown(out, used);
     };
-    let Floats::Till(end) = words::read_floats(line, next, d) else {
+    let Filled::Till(end) = words::read_floats(line, next, d) else {
         return output::unknown(out, used);
     };
     if end == line.len() {

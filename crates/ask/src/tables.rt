@@ -6,7 +6,7 @@ use geometry::Found;
 use geometry::Table;
 use kind::Kind;
 use words::Byte;
-use words::Floats;
+use words::Filled;
 
 // The floats of four centres.
 const FLOATS: usize = 16;
@@ -16,7 +16,7 @@ pub(crate) fn answer(line: &[u8], at: usize, out: &mut [u8], used: usize) -> usi
         return output::unknown(out, used);
     };
     let mut floats = [0.0; FLOATS];
-    let Floats::Till(end) = words::read_floats(line, next, &mut floats) else {
+    let Filled::Till(end) = words::read_floats(line, next, &mut floats) else {
         return output::unknown(out, used);
     };
     if end == line.len() {

@@ -31,8 +31,8 @@ pub(crate) enum Roll {
     Not,
 }
 
-// Whether as many floats as were asked for are read, and the place after them.
-pub(crate) enum Floats {
+// Whether as many numbers as were asked for are read, and the place after them.
+pub(crate) enum Filled {
     Till(usize),
     Not,
 }
@@ -103,6 +103,21 @@ pub(crate) fn read_place(line: &[u8], at: usize) -> Place {
     Place::Is(n as usize, next)
 }
 
+// As many bytes as `room` has places.
+pub(crate) fn read_bytes(line: &[u8], at: usize, room: &mut [u8]) -> Filled {
+    let mut next = at;
+    let mut i = 0;
+    while i < room.len() {
+        let Byte::Is(byte, end) = read_byte(line, next) else {
+            return Filled::Not;
+        };
+        room[i] = byte;
+        next = end;
+        i += 1;
+    }
+    Filled::Till(next)
+}
+
 // A float by its bits in hexadecimal.
 fn read_float(line: &[u8], at: usize) -> Float {
     if line.len() <= at {
@@ -133,14 +148,14 @@ pub(crate) fn read_some(line: &[u8], at: usize, room: &mut [f64]) -> Place {
 }
 
 // As many floats as `room` has places.
-pub(crate) fn read_floats(line: &[u8], at: usize, room: &mut [f64]) -> Floats {
+pub(crate) fn read_floats(line: &[u8], at: usize, room: &mut [f64]) -> Filled {
     let Place::Is(n, end) = read_some(line, at, room) else {
-        return Floats::Not;
+        return Filled::Not;
     };
     if n == room.len() {
-        return Floats::Till(end);
+        return Filled::Till(end);
     }
-    Floats::Not
+    Filled::Not
 }
 
 // A byte in two hexadecimal digits.
