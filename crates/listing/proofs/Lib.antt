@@ -1,0 +1,6 @@
+pub mod Lines
+pub mod Only
+pub mod Rolls
+pub mod Saying
+pub mod Telling
+pub mod Terms

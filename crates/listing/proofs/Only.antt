@@ -1,0 +1,19 @@
+-- One answer alone, and one content of the buffer, fit each promise of this crate.
+use Prim.Native.Nat.{ℕ}
+use mathlib.Core.Path.{_≡_}
+use mathlib.Core.List.{List}
+use Rattle.kind.proofs.Only.{only}
+use Rattle.listing.specs.declared.Listed.{Listed}
+use Rattle.listing.specs.Text.{refusalText}
+use Rattle.listing.specs.Answers.{TextTold, ListingTold}
+
+-- two answers, and two contents, are the same
+pub record Same (a b : Listed) (xs ys : List ℕ) : Type 0 where
+  pub answer : a ≡ b
+  pub out : xs ≡ ys
+
+pub listing-only : (roll before : List ℕ) (start : ℕ) {a b : Listed} {xs ys : List ℕ} → ListingTold roll before start a xs → ListingTold roll before start b ys → Same a b xs ys
+listing-only roll before start p q = record { answer = only (p .answer) (q .answer); out = only (p .out) (q .out) }
+
+pub refusal-line-only : (refusal place : ℕ) (before : List ℕ) (start : ℕ) {a b : Listed} {xs ys : List ℕ} → TextTold (refusalText refusal place) before start a xs → TextTold (refusalText refusal place) before start b ys → Same a b xs ys
+refusal-line-only refusal place before start p q = record { answer = only (p .answer) (q .answer); out = only (p .out) (q .out) }

@@ -1,0 +1,144 @@
+-- Pieces said one after the other are one text: the places add up, and the stores join.
+-- A loop says what is still to be said; each turn takes its piece off the front.
+use Prim.Native.Nat.{ℕ, suc, _+_, _-_, _≤_, _<_}
+use native.Mathlib.Nat.{add-zero}
+use native.Mathlib.Omega.{arith}
+use mathlib.Core.Path.{_≡_, refl, ap, sym, _∙_}
+use mathlib.Core.Bool.{Bool, true, false}
+use mathlib.Core.List.{List, [], _∷_, _++_}
+use borrow.Author.Tests.{le-leb, lt-leb, leb-true, leb-false}
+use lib.Dec.{leb}
+use lib.ListN.{length, set, length-append}
+use lib.Seq.{sets, sets-eq, length-sets}
+use Rattle.text.specs.declared.Written.{Written}
+use Rattle.text.specs.declared.Written.the-variants.{To, NoRoom}
+use Rattle.text.specs.Writing.{Wrote, roomFor}
+use Rattle.listing.specs.Saying.{further, Said, Kept}
+
+-- by cases on a test
+tested : {P : Type 0} (b : Bool) → (b ≡ true → P) → (b ≡ false → P) → P
+tested true t f = t refl
+tested false t f = f refl
+
+pub clash : _≡_ {A = ℕ} 0 1 → ⊥
+clash e = omega arith
+
+-- ---- places
+
+pub further-past : (room at n : ℕ) → room < at → NoRoom ≡ further room (To at) n
+further-past room at n h = rw (lt-leb (at + n) room (omega arith))
+
+pub further-none : (room at n : ℕ) → at ≤ room → room - at < n → NoRoom ≡ further room (To at) n
+further-none room at n h k = rw (lt-leb (at + n) room (omega arith))
+
+pub further-to : (room at n : ℕ) → at ≤ room → n ≤ room - at → To (at + n) ≡ further room (To at) n
+further-to room at n h k = rw (le-leb (at + n) room (omega arith))
+
+-- two stretches are one
+further-both : (room m n : ℕ) (w : Written) → further room (further room w m) n ≡ further room w (m + n)
+further-both room m n NoRoom = refl
+further-both room m n (To at) =
+    tested (leb (at + m) room)
+    (λ t. let same : at + m + n ≡ at + (m + n) = omega arith in rw (t, same))
+    (λ f. let past : room < at + m = leb-false (at + m) room f in rw (f, lt-leb (at + (m + n)) room (omega arith)))
+
+-- what was said is within the room
+pub further-kept : (room n : ℕ) (w : Written) → Kept room (further room w n)
+further-kept room n w = further-both room n 0 w ∙ ap (further room w) (add-zero n)
+
+pub further-is : (room n : ℕ) (w : Written) (end : ℕ) → further room w n ≡ To end → (at : ℕ) × (w ≡ To at) × (end ≡ at + n) × (at + n ≤ room)
+further-is room n NoRoom end e = absurd (clash (cc))
+further-is room n (To at) end e =
+    tested (leb (at + n) room)
+    (λ t. let is : To (at + n) ≡ To end = rw t at e in (at, refl, cc, leb-true (at + n) room t))
+    (λ f. let is : NoRoom ≡ To end = rw f at e in absurd (clash (cc)))
+
+pub further-not : (room n at : ℕ) → further room (To at) n ≡ NoRoom → room < at + n
+further-not room n at e =
+    tested (leb (at + n) room)
+    (λ t. let is : To (at + n) ≡ NoRoom = rw t at e in absurd (clash (cc)))
+    (λ f. leb-false (at + n) room f)
+
+-- ---- stores
+
+pub sets-append : (l : List ℕ) (i : ℕ) (xs ys : List ℕ) → sets l i (xs ++ ys) ≡ sets (sets l i xs) (i + length xs) ys
+sets-append l i [] ys = ap (λ (k : ℕ). sets l k ys) (omega arith)
+sets-append l i (x ∷ xs) ys = sets-append (set l i x) (suc i) xs ys ∙ ap (λ (k : ℕ). sets (sets (set l i x) (suc i) xs) k ys) (omega arith)
+
+-- ---- one piece
+
+wrote-sets : (before after text : List ℕ) (at : ℕ) (q : Written) → Wrote before at text q after → at + length text ≤ length before → after ≡ sets before at text
+wrote-sets before after text at q w room = w .holds ∙ rw (le-leb (at + length text) (length before) room) (sym (sets-eq text before at room))
+
+wrote-long : (before after text : List ℕ) (at : ℕ) (q : Written) → Wrote before at text q after → length after ≡ length before
+wrote-long before after text at q w =
+    tested (roomFor before at (length text))
+    (λ t. let is : after ≡ sets before at text = wrote-sets before after text at q w (leb-true _ _ t) in ap length is ∙ length-sets before at text)
+    (λ f. let is : after ≡ before = w .holds ∙ rw f in ap length is)
+
+pub said-piece : (room : ℕ) (before after text : List ℕ) (w : Written) (at n : ℕ) (q r : Written) → w ≡ To at → Wrote before at text q after → n ≡ length text → r ≡ further room (To at) n → Said room before w text r after
+said-piece room before after text w at n q r is wrote size answer =
+    let told : r ≡ further room w (length text) = answer ∙ ap (further room (To at)) size ∙ ap (λ (w : Written). further room w (length text)) (sym is) in
+    record {
+      answer = told;
+      holds = λ enough at′ end from to.
+          let f = further-is room (length text) w end (sym told ∙ to) in
+          let same : at′ ≡ at = cc in
+          let place : f .0 ≡ at = cc (f .1) in
+          rw same (wrote-sets before after text at q wrote (omega (arith, f .3)));
+      long = wrote-long before after text at q wrote;
+    }
+
+pub said-nothing : (room : ℕ) (before text : List ℕ) (w : Written) → w ≡ NoRoom → Said room before w text NoRoom before
+said-nothing room before text w is =
+    record {
+      answer = rw is;
+      holds = λ enough at end from to. absurd (clash (cc));
+      long = refl;
+    }
+
+-- ---- one piece after another
+
+pub said-both : {room : ℕ} {a b c xs ys : List ℕ} {w q r : Written} → Said room a w xs q b → Said room b q ys r c → Said room a w (xs ++ ys) r c
+said-both {room} {a} {b} {c} {xs} {ys} {w} {q} {r} first second =
+    record {
+      answer =
+          second .answer ∙ ap (λ (w : Written). further room w (length ys)) (first .answer)
+          ∙ further-both room (length xs) (length ys) w ∙ ap (further room w) (sym (length-append xs ys));
+      holds = λ enough at end from to.
+          let m = further-is room (length ys) q end (sym (second .answer) ∙ to) in
+          let f = further-is room (length xs) w (m .0) (sym (first .answer) ∙ m .1) in
+          let same : f .0 ≡ at = cc (f .1) in
+          let mid : m .0 ≡ at + length xs = omega (arith, f .2) in
+          let one : b ≡ sets a at xs = first .holds enough at (m .0) from (m .1) in
+          let two : c ≡ sets b (m .0) ys = second .holds (omega (arith, first .long)) (m .0) end (m .1) to in
+          two ∙ ap (λ (l : List ℕ). sets l (m .0) ys) one ∙ ap (λ (i : ℕ). sets (sets a at xs) i ys) mid ∙ sym (sets-append a at xs ys);
+      long = second .long ∙ first .long;
+    }
+
+pub said-none : (room : ℕ) (a : List ℕ) (w : Written) → Kept room w → Said room a w [] w a
+said-none room a w kept = record { answer = sym kept; holds = λ enough at end from to. refl; long = refl }
+
+pub said-kept : (room : ℕ) (a b xs : List ℕ) (w r : Written) → Said room a w xs r b → Kept room r
+said-kept room a b xs w r s = rw (s .answer) (further-kept room (length xs) w)
+
+-- ---- what a loop has still to say
+
+pub record Saying (room : ℕ) (before : List ℕ) (w : Written) (whole out : List ℕ) (said : Written) (rest : List ℕ) : Type 0 where
+  pub kept : Kept room said
+  pub long : length out ≡ length before
+  pub onward : (r : Written) (after : List ℕ) → Said room out said rest r after → Said room before w whole r after
+
+pub saying-all : (room : ℕ) (a : List ℕ) (w : Written) (whole : List ℕ) → Kept room w → Saying room a w whole a w whole
+saying-all room a w whole kept = record { kept = kept; long = refl; onward = λ r after s. s }
+
+pub saying-more : {room : ℕ} {a b c whole piece rest : List ℕ} {w q r : Written} → Saying room a w whole b q (piece ++ rest) → Said room b q piece r c → Saying room a w whole c r rest
+saying-more s one =
+    record {
+      kept = said-kept _ _ _ _ _ _ one;
+      long = one .long ∙ s .long;
+      onward = λ r after two. s .onward r after (said-both one two);
+    }
+
+pub saying-done : {room : ℕ} {a b whole : List ℕ} {w q : Written} → Saying room a w whole b q [] → Said room a w whole q b
+saying-done {room} {a} {b} {whole} {w} {q} s = s .onward q b (said-none room b q (s .kept))

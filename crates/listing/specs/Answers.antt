@@ -1,0 +1,49 @@
+-- The answers of the listing and of a refusal's line, with 01's refusals in their order.
+use Prim.Native.Nat.{ℕ, _+_}
+use mathlib.Core.Path.{_≡_}
+use mathlib.Core.Bool.{cond}
+use mathlib.Core.List.{List, _++_}
+use lib.Dec.{ltb}
+use lib.ListN.{length, take, drop}
+use Rattle.kind.specs.Limits.{mostListed}
+use Rattle.roll.specs.Reading.{Reading, got, refused, Roll, rollAt}
+use Rattle.listing.specs.declared.Listed.{Listed}
+use Rattle.listing.specs.declared.Listed.the-variants as listed
+use Rattle.listing.specs.Text.{listingText}
+
+-- a text from a start place on: 5 a start beyond the end, 6 no room, or the text's length
+unfoldable pub textAt : List ℕ → List ℕ → ℕ → Listed
+textAt text out start =
+    cond (ltb (length out) start) (listed.Refused 5 0)
+    (cond (ltb (length out) (start + length text)) (listed.Refused 6 0)
+    (listed.Text (length text)))
+
+-- only the bytes of the text change, and none where it does not fit
+unfoldable pub textOut : List ℕ → List ℕ → ℕ → List ℕ
+textOut text out start =
+    cond (ltb (length out) (start + length text)) out
+    (take start out ++ (text ++ drop (start + length text) out))
+
+pub record TextTold (text before : List ℕ) (start : ℕ) (r : Listed) (after : List ℕ) : Type 0 where
+  pub answer : r ≡ textAt text before start
+  pub out : after ≡ textOut text before start
+
+-- a roll that breaks a rule is 7 with its place
+abbrev pub readAnswer : Reading Roll → List ℕ → ℕ → Listed
+readAnswer (got r end) out start = textAt (listingText r) out start
+readAnswer (refused n place) out start = listed.Refused n place
+
+abbrev pub readOut : Reading Roll → List ℕ → ℕ → List ℕ
+readOut (got r end) out start = textOut (listingText r) out start
+readOut (refused n place) out start = out
+
+-- 6 a roll over the listing's limit, before anything of it is read
+unfoldable pub listingAt : List ℕ → List ℕ → ℕ → Listed
+listingAt roll out start = cond (ltb mostListed (length roll)) (listed.Refused 6 0) (readAnswer (rollAt roll) out start)
+
+unfoldable pub listingOut : List ℕ → List ℕ → ℕ → List ℕ
+listingOut roll out start = cond (ltb mostListed (length roll)) out (readOut (rollAt roll) out start)
+
+pub record ListingTold (roll before : List ℕ) (start : ℕ) (r : Listed) (after : List ℕ) : Type 0 where
+  pub answer : r ≡ listingAt roll before start
+  pub out : after ≡ listingOut roll before start
