@@ -8,6 +8,7 @@ mod expands;
 mod floats;
 mod input;
 mod lent;
+mod lists;
 mod matrices;
 mod output;
 mod rolls;
@@ -50,6 +51,9 @@ fn question(line: &[u8], space: &mut [u8], out: &mut [u8], used: usize) -> usize
     }
     if words::is(name, b"expand") {
         return expands::answer(line, at, space, out, used);
+    }
+    if words::is(name, b"list") {
+        return lists::answer(line, at, space, out, used);
     }
     of_rolls(name, line, at, space, out, used)
 }
