@@ -1,0 +1,192 @@
+// The structs of the exported functions from those of the crates below, and back.
+ghost use mathlib.Core.Path.{_≡_};
+ghost use Rattle.jk.specs.Outcome.{numberOf};
+ghost use Rattle.xewumbal.specs.Answers.{centreOf, cursorIn, expandedOf, listedOf, componentOf, cursorOf, openedOf, foundStep, stepOf, tableOf, valueOf};
+use crate::xew_centre;
+use crate::xew_component;
+use crate::xew_cursor;
+use crate::xew_opened;
+use crate::xew_step;
+use crate::xew_table;
+use crate::xew_value;
+use crate::xew_written;
+use expansion::Expanded;
+use geometry::Centre;
+use geometry::Table;
+use integrals::Value;
+use jk::Answer;
+use roll::Cursor;
+use roll::Opened;
+use roll::Opening;
+use roll::Step;
+use shell::Component;
+use shell::Listed;
+
+pub(crate) fn centre(c: xew_centre) -> Centre
+    ensures { λ r. ⌜ r ≡ centreOf c ⌝ }
+{
+    Centre {
+        x: c.x,
+        y: c.y,
+        z: c.z,
+        exponent: c.exponent,
+    }
+}
+
+pub(crate) fn cursor_in(c: xew_cursor) -> Cursor
+    ensures { λ r. ⌜ r ≡ cursorIn c ⌝ }
+{
+    Cursor {
+        place: c.place,
+        left: c.left,
+        kind: c.kind,
+        l: c.l,
+    }
+}
+
+fn cursor(c: Cursor) -> xew_cursor
+    ensures { λ r. ⌜ r ≡ cursorOf c ⌝ }
+{
+    xew_cursor {
+        place: c.place,
+        left: c.left,
+        kind: c.kind,
+        l: c.l,
+    }
+}
+
+pub(crate) fn expanded(answer: Expanded) -> xew_written
+    ensures { λ r. ⌜ r ≡ expandedOf answer ⌝ }
+{
+    match answer {
+        Expanded::Roll(length, terms) => xew_written {
+            length,
+            terms,
+            refusal: 0,
+        },
+        Expanded::Refused(refusal) => xew_written {
+            length: 0,
+            terms: 0,
+            refusal,
+        },
+    }
+}
+
+pub(crate) fn listed(answer: Listed) -> xew_written
+    ensures { λ r. ⌜ r ≡ listedOf answer ⌝ }
+{
+    match answer {
+        Listed::Bytes(length, terms) => xew_written {
+            length,
+            terms,
+            refusal: 0,
+        },
+        Listed::Refused(refusal) => xew_written {
+            length: 0,
+            terms: 0,
+            refusal,
+        },
+    }
+}
+
+pub(crate) fn component(c: Component) -> xew_component
+    ensures { λ r. ⌜ r ≡ componentOf c ⌝ }
+{
+    let found = c.found;
+    let orders = c.orders;
+    match found {
+        shell::Found::Component => xew_component { orders, refusal: 0 },
+        shell::Found::Refused(refusal) => xew_component { orders, refusal },
+    }
+}
+
+pub(crate) fn table(t: Table) -> xew_table
+    ensures { λ r. ⌜ r ≡ tableOf t ⌝ }
+{
+    let found = t.found;
+    let entries = t.entries;
+    match found {
+        geometry::Found::Given => xew_table {
+            entries,
+            refusal: 0,
+        },
+        geometry::Found::Refused(refusal) => xew_table { entries, refusal },
+    }
+}
+
+pub(crate) fn opened(o: Opened) -> xew_opened
+    ensures { λ r. ⌜ r ≡ openedOf o ⌝ }
+{
+    let found = o.found;
+    let orders = o.orders;
+    let cursor = cursor(o.cursor);
+    match found {
+        Opening::Roll => xew_opened {
+            cursor,
+            place: 0,
+            orders,
+            refusal: 0,
+        },
+        Opening::Refused(refusal, place) => xew_opened {
+            cursor,
+            place,
+            orders,
+            refusal,
+        },
+    }
+}
+
+// A step's answer, whatever was found.
+fn found_step(s: Step, found: u8, place: usize, refusal: u8) -> xew_step
+    ensures { λ r. ⌜ r ≡ foundStep s found place refusal ⌝ }
+{
+    let term = s.term;
+    let prefactors = term.prefactors;
+    xew_step {
+        next: cursor(s.next),
+        place,
+        scale: term.scale,
+        boys: term.boys,
+        count: term.count,
+        prefactors,
+        found,
+        refusal,
+    }
+}
+
+pub(crate) fn step(s: Step) -> xew_step
+    ensures { λ r. ⌜ r ≡ stepOf s ⌝ }
+{
+    let found = s.found;
+    match found {
+        roll::Found::Refused(refusal, place) => found_step(s, 0, place, refusal),
+        roll::Found::Term => found_step(s, 1, 0, 0),
+        roll::Found::End => found_step(s, 2, 0, 0),
+    }
+}
+
+pub(crate) fn value(answer: Value) -> xew_value
+    ensures { λ r. ⌜ r ≡ valueOf answer ⌝ }
+{
+    match answer {
+        Value::Is(value) => xew_value {
+            value,
+            place: 0,
+            refusal: 0,
+        },
+        Value::Refused(refusal, place) => xew_value {
+            value: 0.0,
+            place,
+            refusal,
+        },
+    }
+}
+
+pub(crate) fn matrices(answer: Answer) -> u8
+    ensures { λ r. ⌜ r ≡ numberOf answer ⌝ }
+{
+    match answer {
+        Answer::Done => 0,
+        Answer::Refused(refusal) => refusal,
+    }
+}

@@ -1,0 +1,175 @@
+// The exported functions, under their C names. Each lends what it gets to the function below it, and turns the answer
+// into a plain struct: refusal 0 is success, and zeros stand beside a refusal. include/xewumbal.h is for the host.
+mod answers;
+
+ghost use mathlib.Core.Path.{_≡_};
+ghost use Rattle.xewumbal.specs.Answers.{ExpandAnswered, ListAnswered, JkAnswered};
+ghost use Rattle.xewumbal.specs.Answers.{shell2Answer, shell4Answer, openAnswer, checkAnswer, nextAnswer};
+ghost use Rattle.xewumbal.specs.Answers.{prefactorsAnswer, evaluateAnswer};
+use kind::Kind;
+
+#[repr(C)]
+pub struct xew_centre {
+    pub x: f64,
+    pub y: f64,
+    pub z: f64,
+    pub exponent: f64,
+}
+
+#[repr(C)]
+pub struct xew_written {
+    pub length: usize,
+    pub terms: u32,
+    pub refusal: u8,
+}
+
+#[repr(C)]
+pub struct xew_value {
+    pub value: f64,
+    pub place: usize,
+    pub refusal: u8,
+}
+
+#[repr(C)]
+pub struct xew_component {
+    pub orders: [u8; Kind::ORDERS],
+    pub refusal: u8,
+}
+
+#[repr(C)]
+pub struct xew_table {
+    pub entries: [f64; Kind::TABLE],
+    pub refusal: u8,
+}
+
+#[repr(C)]
+pub struct xew_cursor {
+    pub place: usize,
+    pub left: u32,
+    pub kind: u8,
+    pub l: u8,
+}
+
+#[repr(C)]
+pub struct xew_opened {
+    pub cursor: xew_cursor,
+    pub place: usize,
+    pub orders: [u8; Kind::ORDERS],
+    pub refusal: u8,
+}
+
+// `found` is 0 for a refusal, 1 for a term, 2 for the end.
+#[repr(C)]
+pub struct xew_step {
+    pub next: xew_cursor,
+    pub place: usize,
+    pub scale: u32,
+    pub boys: u8,
+    pub count: u8,
+    pub prefactors: [u8; Kind::PREFACTORS],
+    pub found: u8,
+    pub refusal: u8,
+}
+
+#[no_mangle]
+pub extern "C" fn xew_expand(
+    kind: u8,
+    orders: &[u8; Kind::ORDERS],
+    out: &mut [u8],
+    start: usize,
+) -> xew_written
+    ensures { λ r. ⌜ ExpandAnswered kind (now (orders .entry)) (now (out .entry)) start r (now (out .exit)) ⌝ }
+{
+    answers::expanded(expansion::expand(kind, *orders, out, start))
+}
+
+#[no_mangle]
+pub extern "C" fn xew_shell_list(order: u8, out: &mut [u8], start: usize) -> xew_written
+    ensures { λ r. ⌜ ListAnswered order (now (out .entry)) start r (now (out .exit)) ⌝ }
+{
+    answers::listed(shell::get_ijk_list(order, out, start))
+}
+
+#[no_mangle]
+pub extern "C" fn xew_shell2(a: u8, b: u8, number: u32) -> xew_component
+    ensures { λ r. ⌜ r ≡ shell2Answer a b number ⌝ }
+{
+    answers::component(shell::get_shell2(a, b, number))
+}
+
+#[no_mangle]
+pub extern "C" fn xew_shell4(a: u8, b: u8, c: u8, d: u8, number: u32) -> xew_component
+    ensures { λ r. ⌜ r ≡ shell4Answer a b c d number ⌝ }
+{
+    answers::component(shell::get_shell4(a, b, c, d, number))
+}
+
+#[no_mangle]
+pub extern "C" fn xew_open(roll: &[u8]) -> xew_opened
+    ensures { λ r. ⌜ r ≡ openAnswer (now (roll .entry)) ⌝ }
+{
+    answers::opened(roll::open(roll))
+}
+
+#[no_mangle]
+pub extern "C" fn xew_check(roll: &[u8]) -> xew_opened
+    ensures { λ r. ⌜ r ≡ checkAnswer (now (roll .entry)) ⌝ }
+{
+    answers::opened(roll::check(roll))
+}
+
+#[no_mangle]
+pub extern "C" fn xew_next(cursor: xew_cursor, roll: &[u8]) -> xew_step
+    ensures { λ r. ⌜ r ≡ nextAnswer cursor (now (roll .entry)) ⌝ }
+{
+    answers::step(answers::cursor_in(cursor).next(roll))
+}
+
+#[no_mangle]
+pub extern "C" fn xew_prefactors(
+    kind: u8,
+    a: xew_centre,
+    b: xew_centre,
+    c: xew_centre,
+    d: xew_centre,
+) -> xew_table
+    ensures { λ r. ⌜ r ≡ prefactorsAnswer kind a b c d ⌝ }
+{
+    answers::table(geometry::prefactors(
+        kind,
+        answers::centre(a),
+        answers::centre(b),
+        answers::centre(c),
+        answers::centre(d),
+    ))
+}
+
+#[no_mangle]
+pub extern "C" fn xew_evaluate(
+    roll: &[u8],
+    a: xew_centre,
+    b: xew_centre,
+    c: xew_centre,
+    d: xew_centre,
+    aux: f64,
+    boys: &[f64],
+) -> xew_value
+    ensures { λ r. ⌜ r ≡ evaluateAnswer (now (roll .entry)) a b c d aux (now (boys .entry)) ⌝ }
+{
+    answers::value(integrals::evaluate(
+        roll,
+        answers::centre(a),
+        answers::centre(b),
+        answers::centre(c),
+        answers::centre(d),
+        aux,
+        boys,
+    ))
+}
+
+#[no_mangle]
+pub extern "C" fn xew_jk(n: usize, i: &[f64], d: &[f64], j: &mut [f64], k: &mut [f64]) -> u8
+    ensures { λ r. ⌜ JkAnswered n (now (i .entry)) (now (d .entry)) (now (j .entry)) (now (k .entry)) r (now (j .exit)) (now (k .exit)) ⌝ }
+{
+    answers::matrices(jk::JK_inmem(n, i, d, j, k))
+}

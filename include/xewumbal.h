@@ -1,0 +1,149 @@
+/* xewumbal: Gaussian integrals by the recurrences of Obara and Saika.
+ *
+ * Link with libxewumbal.a (x86-64, the platform's C ABI). No call allocates, keeps anything between calls or has state
+ * of its own, so any threads may call at once. The caller owns every byte and float that it lends; the library reads
+ * or writes them during the call alone. Lent slices of one call must not overlap where one of them is written. A slice
+ * of length 0 may have a null pointer; a pointer with no length beside it must point to what it says.
+ *
+ * Every call answers every input. refusal is 0 for success, or one of these numbers; beside a refusal every other
+ * number and array of the answer is 0 (7 also has its place), and no lent byte or float has changed. On success only
+ * the bytes or floats of the output itself change. Where several refusals apply, the one told is the first in the order
+ * that stands at the call.
+ *
+ *    1  kind above 4
+ *    2  an order sum the kind uses, or a shell's order, above 4
+ *    3  one of the twelve orders unused by the kind is not 0
+ *    4  more than 65,535 complete histories
+ *    5  start place beyond the buffer's end
+ *    6  the whole output doesn't fit from the start place
+ *    7  roll breaks a rule; place says where
+ *    8  a used input float is not finite
+ *    9  a used exponent is 0 or less
+ *   10  Boys numbers are not exactly L+1 (kinds 2, 4) or 0 (others)
+ *   11  a geometry number, table entry or result is not finite
+ *   12  matrix size out of range, or a slice length wrong for it
+ *   13  component number not below the count
+ *
+ * Kinds: 0 overlap, 1 kinetic, 2 nuclear, 3 moment, 4 Coulomb. Orders stand by centre, x y z each: A, B; for kind 3
+ * then the operator; for kind 4 then C, D. L is the sum of all orders. docs/01-scope.md defines terms and rolls.
+ */
+#ifndef XEWUMBAL_H
+#define XEWUMBAL_H
+
+#include <stddef.h>
+#include <stdint.h>
+
+#ifdef __cplusplus
+extern "C" {
+#endif
+
+/* Raised when a struct, a meaning or an answer changes. */
+#define XEW_VERSION 1
+
+#define XEW_KINDS 5           /* kinds are 0 to 4 */
+#define XEW_ORDERS 12         /* orders of a request */
+#define XEW_MOST_ORDER 4      /* order sum of a centre, of the operator, of a shell */
+#define XEW_MOST_TERMS 65535  /* terms of a roll */
+#define XEW_MOST_SCALE 65536  /* scale of a term */
+#define XEW_MOST_SIZE 16      /* rows of J, K and D */
+#define XEW_PREFACTORS 16     /* places for a term's prefactors */
+#define XEW_TABLE 23          /* places for a table's entries: 8, 11, 11, 12 or 23 of them by kind */
+
+/* A centre. Kinds 0 and 1 use A and B; 2 and 3 also C's coordinates; 4 uses A to D. Unused floats are not looked at. */
+typedef struct {
+    double x, y, z, exponent;
+} xew_centre;
+
+/* What was written from the start place on: its bytes, and the terms of a roll or the triples of a shell list. */
+typedef struct {
+    size_t length;
+    uint32_t terms;
+    uint8_t refusal;
+} xew_written;
+
+typedef struct {
+    double value;
+    size_t place;
+    uint8_t refusal;
+} xew_value;
+
+/* The orders of a pair of shells (zeros after them) or of four, x y z each. */
+typedef struct {
+    uint8_t orders[12];
+    uint8_t refusal;
+} xew_component;
+
+/* A kind's prefactor table, 0.0 in the places left. */
+typedef struct {
+    double entries[23];
+    uint8_t refusal;
+} xew_table;
+
+/* Where a reader of a roll stands: the place of the next term, the terms left, the roll's kind and its L. */
+typedef struct {
+    size_t place;
+    uint32_t left;
+    uint8_t kind;
+    uint8_t l;
+} xew_cursor;
+
+/* A roll's orders (zeros after those that the kind uses) and the cursor at its first term. */
+typedef struct {
+    xew_cursor cursor;
+    size_t place;
+    uint8_t orders[12];
+    uint8_t refusal;
+} xew_opened;
+
+/* A term: its scale, its Boys order and its first count prefactors, zeros after them; and the cursor one term further
+ * on. All but found are 0 at the end. */
+typedef struct {
+    xew_cursor next;
+    size_t place;
+    uint32_t scale;
+    uint8_t boys, count, prefactors[XEW_PREFACTORS], found, refusal; /* found: 0 refused, 1 term, 2 end */
+} xew_step;
+
+/* Writes the roll of a request into out from start on: every term of the integral, one for each complete lowering
+ * history. orders points to twelve bytes, 0 where the kind uses none. 1,048,576 bytes hold any roll.
+ * Refusals: 1, 2, 3, 5, 4, 6. */
+xew_written xew_expand(uint8_t kind, const uint8_t (*orders)[12], uint8_t *out, size_t out_len, size_t start);
+
+/* Writes the triples of a shell, three bytes each, x descending, then y. Refusals: 2, 5, 6. */
+xew_written xew_shell_list(uint8_t order, uint8_t *out, size_t out_len, size_t start); /* terms: triples */
+
+/* A component of two shells by its number, from 0, the last shell fastest. Refusals: 2, 13. */
+xew_component xew_shell2(uint8_t a, uint8_t b, uint32_t number);
+
+/* A component of four shells. Refusals: 2, 13. */
+xew_component xew_shell4(uint8_t a, uint8_t b, uint8_t c, uint8_t d, uint32_t number);
+
+/* The header of a roll alone: it says nothing of the terms. roll is exactly the roll's bytes. Refusal: 7. */
+xew_opened xew_open(const uint8_t *roll, size_t roll_len);
+
+/* The whole roll judged: the same answer as xew_open where every term reads and nothing follows. Call it before
+ * stepping through a roll that came from elsewhere, or summing over one: an unfinished roll opens. Refusal: 7. */
+xew_opened xew_check(const uint8_t *roll, size_t roll_len);
+
+/* The term at a cursor of xew_open or xew_check, and the cursor for the next call. A cursor that was made up is
+ * answered too: by what stands at its place, or by 7. Refusal: 7. */
+xew_step xew_next(xew_cursor cursor, const uint8_t *roll, size_t roll_len);
+
+/* The prefactor table of a kind, as the sums use it. Refusals: 1, 8, 9, 11. */
+xew_table xew_prefactors(uint8_t kind, xew_centre a, xew_centre b, xew_centre c, xew_centre d);
+
+/* The integral over a roll, which is judged whole first. aux is the factor of every term (Coulomb: s); boys are F(0) to
+ * F(L) for kinds 2 and 4, and none for the others. Refusals: 7, 8, 9, 10, 11. */
+xew_value xew_evaluate(const uint8_t *roll, size_t roll_len, xew_centre a, xew_centre b, xew_centre c, xew_centre d,
+                       double aux, const double *boys, size_t boys_len);
+
+/* J and K of the integrals i and the density d, row by row: n from 1 to 16, i has n*n*n*n floats, d, j and k have n*n.
+ * The answer is the refusal. Refusals: 12, 8, 11. */
+uint8_t xew_jk(size_t n, const double *i, size_t i_len, const double *d, size_t d_len, double *j, size_t j_len,
+               double *k, size_t k_len);
+
+#ifdef __cplusplus
+}
+#endif
+
+#endif
