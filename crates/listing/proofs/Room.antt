@@ -1,14 +1,13 @@
 -- A listing has at most five bytes for each byte of its roll: a number's decimal has two bytes less than that, which leaves room for
 -- what stands around it. So a buffer of five times the longest roll takes every listing.
-use Prim.Native.Nat.{ℕ, zero, suc, _+_, _*_, _-_, _/_, _^_, _≤_, _<_}
+use Prim.Native.Nat.{ℕ, suc, _+_, _*_, _-_, _/_, _^_, _≤_, _<_}
 use native.Mathlib.Omega.{arith}
-use mathlib.Core.Path.{_≡_, refl, ap, sym, _∙_}
-use mathlib.Core.Bool.{Bool, true, false}
+use mathlib.Core.Path.{_≡_, ap}
 use mathlib.Core.List.{List, [], _∷_, _++_}
 use borrow.Author.Tests.{ltb-true, ltb-false}
-use lib.Dec.{ltb}
+use lib.Dec.{ltb, eqb}
 use lib.ListN.{length, length-append}
-use Rattle.kind.specs.Limits.{mostOrder, mostTerms, mostScale, requestOrders}
+use Rattle.kind.specs.Limits.{mostOrder, requestOrders}
 use Rattle.kind.specs.Kinds.{numberOf, ordersOf, tableOf}
 use Rattle.kind.specs.declared.Kind.{Kind}
 use Rattle.kind.specs.declared.Kind.the-variants.{Overlap, Kinetic, Nuclear, Moment, Coulomb}
@@ -21,7 +20,7 @@ use Rattle.roll.specs.Bytes.{numbersBytes, termBytes, termsBytes, rollBytes}
 use Rattle.roll.specs.Reading.{got, mostBoys, total, Roll, rollAt}
 use Rattle.roll.specs.Fits.{CentresFit, Below, TermFits, TermsFit, RollFits}
 use Rattle.roll.proofs.Written.{roll-read}
-use Rattle.listing.specs.Text.{blank, afterBlanks, kindText, headLine, termNumbers, termLine, termLines, listingText}
+use Rattle.listing.specs.Text.{blank, afterBlanks, kindText, headLine, termNumbers, termLine, termLines, listingText, placeText, refusalText}
 use Rattle.listing.proofs.Saying.{tested}
 
 -- ---- a number's decimal
@@ -183,3 +182,29 @@ listing-short s r end bytes reads =
     let w = roll-read s r end bytes reads in
     let long : length s ≡ length (rollBytes (r .kind) (r .orders) (r .terms)) = ap length (w .0) in
     omega (arith, fits-short r (w .1))
+
+-- ---- a refusal's line
+
+twenty-digits : (n : ℕ) → n < 2 ^ 64 → length (decimalOf n) ≤ 20
+twenty-digits n h =
+    let m = n / 10 / 10 / 10 / 10 / 10 / 10 / 10 / 10 / 10 / 10 in
+    one-more n 19 (omega arith)
+    (one-more (n / 10) 18 (omega arith)
+    (one-more (n / 10 / 10) 17 (omega arith)
+    (one-more (n / 10 / 10 / 10) 16 (omega arith)
+    (one-more (n / 10 / 10 / 10 / 10) 15 (omega arith)
+    (one-more (n / 10 / 10 / 10 / 10 / 10) 14 (omega arith)
+    (one-more (n / 10 / 10 / 10 / 10 / 10 / 10) 13 (omega arith)
+    (one-more (n / 10 / 10 / 10 / 10 / 10 / 10 / 10) 12 (omega arith)
+    (one-more (n / 10 / 10 / 10 / 10 / 10 / 10 / 10 / 10) 11 (omega arith)
+    (one-more (n / 10 / 10 / 10 / 10 / 10 / 10 / 10 / 10 / 10) 10 (omega arith) (ten-digits m (omega arith)))))))))))
+
+place-short : (refusal place : ℕ) → place < 2 ^ 64 → length (placeText refusal place) ≤ 24
+place-short refusal place small =
+    tested (eqb refusal 7)
+    (λ t. rw t (omega (arith, twenty-digits place small)))
+    (λ f. rw f (omega arith))
+
+pub refusal-short : (refusal place : ℕ) → refusal < 256 → place < 2 ^ 64 → length (refusalText refusal place) ≤ 64
+unfolding refusalText
+refusal-short refusal place few small = simp length-append (omega (arith, three-digits refusal (omega arith), place-short refusal place small))
