@@ -1,4 +1,8 @@
 // Lists the roll that comes from standard input, or tells why it is refused.
+ghost use Prim.Native.Nat.{_≤_};
+ghost use lib.ListN.{length};
+ghost use Rattle.listing.specs.Text.{refusalText};
+ghost use Rattle.list.specs.Output.{outputOf, textRoom, Holds};
 use kind::Kind;
 use libc::STDIN_FILENO;
 use libc::STDOUT_FILENO;
@@ -9,7 +13,10 @@ const INPUT: usize = Kind::MOST_LISTED + 1;
 // The text of a longest roll: a byte of a roll gives at most five of its listing.
 const TEXT: usize = 5 * Kind::MOST_LISTED;
 
-fn refused(refusal: u8, place: usize, text: &mut [u8]) -> usize {
+fn refused(refusal: u8, place: usize, text: &mut [u8]) -> usize
+    requires { ⌜ textRoom ≤ length (now text) ⌝ }
+    ensures { λ r. ⌜ Holds (now (text .exit)) r (refusalText refusal place) ⌝ }
+{
     match listing::refusal_line(refusal, place, text, 0) {
         Listed::Text(n) => n,
         Listed::Refused(_, _) => 0,
@@ -17,18 +24,21 @@ fn refused(refusal: u8, place: usize, text: &mut [u8]) -> usize {
 }
 
 // How many bytes of text say what is to be said of a roll.
-fn told(roll: &[u8], text: &mut [u8]) -> usize {
+fn told(roll: &[u8], text: &mut [u8]) -> usize
+    requires { ⌜ textRoom ≤ length (now text) ⌝ }
+    ensures { λ r. ⌜ Holds (now (text .exit)) r (outputOf (now (roll .entry))) ⌝ }
+{
     match listing::listing(roll, text, 0) {
         Listed::Text(n) => n,
         Listed::Refused(refusal, place) => refused(refusal, place, text),
     }
 }
 
-fn show(roll: &[u8], text: &mut [u8]) {
+fn show(roll: &[u8], text: &mut [u8])
+    requires { ⌜ textRoom ≤ length (now text) ⌝ }
+{
     let n = told(roll, text);
-    if n <= text.len() {
-        io::write_all(STDOUT_FILENO, &text[0..n]);
-    }
+    io::write_all(STDOUT_FILENO, &text[0..n]);
 }
 
 fn main() {

@@ -16,7 +16,7 @@ use Rattle.text.specs.Writing.{Wrote, roomFor}
 use Rattle.listing.specs.Saying.{further, Said, Kept}
 
 -- by cases on a test
-tested : {P : Type 0} (b : Bool) → (b ≡ true → P) → (b ≡ false → P) → P
+pub tested : {P : Type 0} (b : Bool) → (b ≡ true → P) → (b ≡ false → P) → P
 tested true t f = t refl
 tested false t f = f refl
 
