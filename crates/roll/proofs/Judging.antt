@@ -1,28 +1,30 @@
--- A whole roll judged: each step of the cursor takes one term off what is still to be judged.
-use Prim.Native.Nat.{ℕ, zero, suc, _+_, _-_, _≤_, _<_}
+-- A whole roll judged: its header, then its terms gone over.
+use Prim.Native.Nat.{ℕ, zero, suc, _-_, _≤_, _<_}
 use mathlib.Core.Path.{_≡_, refl, sym, ap, _∙_}
-use mathlib.Core.Bool.{Bool, true, false, cond, _||_}
-use mathlib.Core.List.{List, [], _∷_, _++_}
+use mathlib.Core.Bool.{true, false, cond, _||_}
+use mathlib.Core.List.{List, [], _∷_}
 use native.Mathlib.Omega.{arith}
-use native.Mathlib.Nat.{not-suc-le-zero, pos-of-ne-zero}
-use borrow.Author.Tests.{le-ltb, eqb-true, eqb-false, eq-eqb, ne-eqb}
+use native.Mathlib.Nat.{not-suc-le-zero}
+use borrow.Author.Tests.{le-ltb}
 use lib.Dec.{ltb, eqb}
-use lib.ListN.{length, replicate}
-use Rattle.kind.specs.Kinds.{kindOf, numberOf, mostL}
+use lib.ListN.{length}
+use Rattle.kind.specs.Kinds.{kindOf, tableOf, mostL, mostPrefactors}
 use Rattle.kind.specs.declared.Kind.{Kind}
 use Rattle.kind.specs.declared.Named.{Named}
 use Rattle.kind.specs.declared.Named.the-variants as named
 use Rattle.kind.proofs.Laws.{kind-number}
-use Rattle.term.specs.Terms.{Term, held, noTerm}
+use Rattle.term.specs.Terms.{Term}
 use Rattle.roll.specs.declared.Cursor.{Cursor}
-use Rattle.roll.specs.declared.Found.the-variants as found
-use Rattle.roll.specs.declared.Step.{Step}
+use Rattle.roll.specs.declared.Field.{Field}
+use Rattle.roll.specs.declared.Field.the-variants as field
 use Rattle.roll.specs.declared.Opening.the-variants as opening
 use Rattle.roll.specs.declared.Opened.{Opened}
-use Rattle.roll.specs.Reading.{Reading, got, refused, andThen, before, termAt, termsAt, total, Header, headerAt}
-use Rattle.roll.specs.Answers.{noCursor, refusedStep, endStep, stepped, endOr, stepWith, stepAs, stepOf, refusedOpened, cursorAt, heldHeader, openOf, judged, judgedAs, Honest, checked, checkOf}
+use Rattle.roll.specs.Reading.{Reading, got, refused, andThen, before, mostBoys, termAt, termsAt, total, Header, headerAt}
+use Rattle.roll.specs.Answers.{refusedStep, stepWith, stepAs, stepOf, refusedOpened, cursorAt, heldHeader, openOf, judged, judgedAs, Honest, checked, checkOf}
+use Rattle.roll.specs.Over.{termsOver, judgedOver}
 use Rattle.roll.proofs.Filling.{clash}
-use Rattle.roll.proofs.Inside.{term-inside, header-read, header-inside, orders-most}
+use Rattle.roll.proofs.Going.{went-over}
+use Rattle.roll.proofs.Inside.{header-read, header-inside, orders-most}
 
 -- ---- one term of many
 
@@ -35,34 +37,7 @@ pub terms-none : (left : ℕ) (k : Kind) (l : ℕ) (s : List ℕ) (at : ℕ) →
 unfolding termsAt
 terms-none left k l s at e = rw e
 
-judged-before : (o : Opened) (t : Term) (r : Reading (List Term)) → judged o (before (t ∷ []) r) ≡ judged o r
-judged-before o t (got ts end) = refl
-judged-before o t (refused r place) = refl
-
--- ---- what a step of an honest cursor tells
-
-data Tells (k : Kind) (o : Opened) (c : Cursor) (s : List ℕ) : Step → Type 0 where
-  takes : (t : Term) (next : ℕ) → 0 < c .left → termAt k (c .l) s (c .place) ≡ got t next → Tells k o c s (stepped c (got t next))
-  ends : judged o (termsAt (c .left) k (c .l) s (c .place)) ≡ o → Tells k o c s endStep
-  refuses : (r place : ℕ) → judged o (termsAt (c .left) k (c .l) s (c .place)) ≡ refusedOpened r place → Tells k o c s (refusedStep r place)
-
-tells-end : (k : Kind) (o : Opened) (c : Cursor) (s : List ℕ) → c .left ≡ 0 → Tells k o c s (endOr s (c .place))
-tells-end k o c s none = by (eqb (c .place) (length s)) refl
-  where
-    by : (b : Bool) → eqb (c .place) (length s) ≡ b → Tells k o c s (cond b endStep (refusedStep 7 (c .place)))
-    by true e = ends (ap (judged o) (terms-none (c .left) k (c .l) s (c .place) none) ∙ rw e)
-    by false e = refuses 7 (c .place) (ap (judged o) (terms-none (c .left) k (c .l) s (c .place) none) ∙ rw e)
-
-tells-term : (k : Kind) (o : Opened) (c : Cursor) (s : List ℕ) (x : Reading Term) → 0 < c .left → termAt k (c .l) s (c .place) ≡ x → Tells k o c s (stepped c x)
-tells-term k o c s (got t next) some e = takes t next some e
-tells-term k o c s (refused r place) some e = refuses r place (ap (judged o) (terms-turn (c .left) k (c .l) s (c .place) (refused r place) some e))
-
-tells-with : (k : Kind) (o : Opened) (c : Cursor) (s : List ℕ) → Tells k o c s (stepWith k c s)
-tells-with k o c s = by (eqb (c .left) 0) refl
-  where
-    by : (b : Bool) → eqb (c .left) 0 ≡ b → Tells k o c s (cond b (endOr s (c .place)) (stepped c (termAt k (c .l) s (c .place))))
-    by true e = tells-end k o c s (eqb-true (c .left) 0 e)
-    by false e = tells-term k o c s (termAt k (c .l) s (c .place)) (pos-of-ne-zero (eqb-false (c .left) 0 e)) refl
+-- ---- an honest cursor
 
 pub honest-step : (c : Cursor) (s : List ℕ) (h : Honest c s) → stepOf c s ≡ stepWith (h .kind) c s
 unfolding stepOf
@@ -70,60 +45,28 @@ honest-step c s h =
     ap (λ (n : Named). stepAs n c s) (h .is)
     ∙ simp (le-ltb (mostL (h .kind)) (c .l) (h .small), le-ltb (length s) (c .place) (h .inside))
 
-tells : (o : Opened) (c : Cursor) (s : List ℕ) (h : Honest c s) (x : Step) → x ≡ stepOf c s → Tells (h .kind) o c s x
-tells o c s h x is = rw (is ∙ honest-step c s h) (tells-with (h .kind) o c s)
+-- ---- the terms of a kind, gone over
 
--- ---- the loop
+pub judge-went : (k : Kind) (o : Opened) (s : List ℕ) (boys most table : ℕ) (x : Field) (n next : ℕ) → boys ≡ mostBoys k (o .cursor .l) → most ≡ mostPrefactors k (o .cursor .l) → table ≡ tableOf k → x ≡ termsOver (o .cursor .left) boys most table s (o .cursor .place) → x ≡ field.Is n next → o ≡ judgedAs (named.Is k) o (o .cursor) s
+judge-went k o s boys most table x n next b m t is e =
+    ap (λ (y : Field). judgedOver o y) (sym e) ∙ went-over k o (o .cursor .left) (o .cursor .l) s (o .cursor .place) boys most table x b m t is
 
-pub record Judging (o : Opened) (start : Cursor) (s : List ℕ) (c : Cursor) : Type 0 where
-  pub honest : Honest c s
-  pub same : judgedAs (kindOf (c .kind)) o c s ≡ judgedAs (kindOf (start .kind)) o start s
+pub judge-stopped : (k : Kind) (o : Opened) (s : List ℕ) (boys most table : ℕ) (x : Field) (r place : ℕ) (y : Opened) → boys ≡ mostBoys k (o .cursor .l) → most ≡ mostPrefactors k (o .cursor .l) → table ≡ tableOf k → x ≡ termsOver (o .cursor .left) boys most table s (o .cursor .place) → x ≡ field.Refused r place → y ≡ refusedOpened r place → y ≡ judgedAs (named.Is k) o (o .cursor) s
+judge-stopped k o s boys most table x r place y b m t is e answer =
+    answer ∙ ap (λ (y : Field). judgedOver o y) (sym e) ∙ went-over k o (o .cursor .left) (o .cursor .l) s (o .cursor .place) boys most table x b m t is
 
-pub judging-first : (o : Opened) (s : List ℕ) → Honest (o .cursor) s → Judging o (o .cursor) s (o .cursor)
-judging-first o s h = record { honest = h; same = refl }
+-- an honest cursor's L is within its kind's
+pub judge-small : (o : Opened) (s : List ℕ) (n : Named) (k : Kind) → Honest (o .cursor) s → n ≡ kindOf (o .cursor .kind) → n ≡ named.Is k → o .cursor .l ≤ mostL k
+judge-small o s n k h is e = let same : h .kind ≡ k = one (h .kind) k (sym (h .is) ∙ sym is ∙ e) in rw same at (h .small)
+  where
+    one : (a b : Kind) → named.Is a ≡ named.Is b → a ≡ b
+    one a b e = cc
 
--- what an honest cursor has still to go through
-rest : (o : Opened) (start : Cursor) (s : List ℕ) (c : Cursor) (j : Judging o start s c) → judged o (termsAt (c .left) (j .honest .kind) (c .l) s (c .place)) ≡ judgedAs (kindOf (start .kind)) o start s
-rest o start s c j = ap (λ (n : Named). judgedAs n o c s) (sym (j .honest .is)) ∙ j .same
+pub judge-kind : (o : Opened) (s : List ℕ) (n : Named) (k : Kind) (y : Opened) → n ≡ kindOf (o .cursor .kind) → n ≡ named.Is k → y ≡ judgedAs (named.Is k) o (o .cursor) s → y ≡ judgedAs (kindOf (o .cursor .kind)) o (o .cursor) s
+judge-kind o s n k y is e answer = answer ∙ ap (λ (m : Named). judgedAs m o (o .cursor) s) (sym e ∙ is)
 
-further : (o : Opened) (start : Cursor) (s : List ℕ) (c : Cursor) (j : Judging o start s c) (x : Step) → Tells (j .honest .kind) o c s x → x .found ≡ found.Term → Judging o start s (x .next) × (x .next .left < c .left)
-further o start s c j x (takes t next some e) found =
-    let k = j .honest .kind in
-    let turn : termsAt (c .left) k (c .l) s (c .place) ≡ before (t ∷ []) (termsAt (c .left - 1) k (c .l) s next) = terms-turn (c .left) k (c .l) s (c .place) (got t next) some e in (
-      record {
-        honest = record { kind = k; is = j .honest .is; small = j .honest .small; inside = term-inside k (c .l) s (c .place) t next e };
-        same =
-            ap (λ (n : Named). judgedAs n o (record { place = next; left = c .left - 1; kind = c .kind; l = c .l }) s) (j .honest .is)
-            ∙ sym (judged-before o t (termsAt (c .left - 1) k (c .l) s next))
-            ∙ ap (judged o) (sym turn)
-            ∙ rest o start s c j;
-      },
-      omega arith,
-    )
-further o start s c j x (ends e) found = absurd (clash (cc))
-further o start s c j x (refuses r place e) found = absurd (clash (cc))
-
-pub judging-more : (o : Opened) (start : Cursor) (s : List ℕ) (c : Cursor) (x : Step) → Judging o start s c → x ≡ stepOf c s → x .found ≡ found.Term → Judging o start s (x .next)
-judging-more o start s c x j is e = further o start s c j x (tells o c s (j .honest) x is) e .0
-
-pub judging-falls : (o : Opened) (start : Cursor) (s : List ℕ) (c : Cursor) (x : Step) → Judging o start s c → x ≡ stepOf c s → x .found ≡ found.Term → x .next .left < c .left
-judging-falls o start s c x j is e = further o start s c j x (tells o c s (j .honest) x is) e .1
-
-at-end : (k : Kind) (o : Opened) (c : Cursor) (s : List ℕ) (x : Step) → Tells k o c s x → x .found ≡ found.End → o ≡ judged o (termsAt (c .left) k (c .l) s (c .place))
-at-end k o c s x (takes t next some e) found = absurd (clash (cc))
-at-end k o c s x (ends e) found = sym e
-at-end k o c s x (refuses r place e) found = absurd (clash (cc))
-
-pub judging-end : (o : Opened) (start : Cursor) (s : List ℕ) (c : Cursor) (x : Step) → Judging o start s c → x ≡ stepOf c s → x .found ≡ found.End → o ≡ judgedAs (kindOf (start .kind)) o start s
-judging-end o start s c x j is e = at-end (j .honest .kind) o c s x (tells o c s (j .honest) x is) e ∙ rest o start s c j
-
-at-refusal : (k : Kind) (o : Opened) (c : Cursor) (s : List ℕ) (x : Step) (r place : ℕ) → Tells k o c s x → x .found ≡ found.Refused r place → refusedOpened r place ≡ judged o (termsAt (c .left) k (c .l) s (c .place))
-at-refusal k o c s x r place (takes t next some e) found = absurd (clash (cc))
-at-refusal k o c s x r place (ends e) found = absurd (clash (cc))
-at-refusal k o c s x r place (refuses r′ place′ e) found = let one : r′ ≡ r = cc in let two : place′ ≡ place = cc in cc (e, one, two)
-
-pub judging-refused : (o : Opened) (start : Cursor) (s : List ℕ) (c : Cursor) (x : Step) (r place : ℕ) (y : Opened) → Judging o start s c → x ≡ stepOf c s → x .found ≡ found.Refused r place → y ≡ refusedOpened r place → y ≡ judgedAs (kindOf (start .kind)) o start s
-judging-refused o start s c x r place y j is e answer = answer ∙ at-refusal (j .honest .kind) o c s x r place (tells o c s (j .honest) x is) e ∙ rest o start s c j
+pub judge-unknown : (o : Opened) (s : List ℕ) (n : Named) (y : Opened) → n ≡ kindOf (o .cursor .kind) → n ≡ named.Unknown → y ≡ refusedOpened 7 (o .cursor .place) → y ≡ judgedAs (kindOf (o .cursor .kind)) o (o .cursor) s
+judge-unknown o s n y is e answer = answer ∙ ap (λ (m : Named). judgedAs m o (o .cursor) s) (sym e ∙ is)
 
 -- ---- from the header on
 

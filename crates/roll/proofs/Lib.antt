@@ -2,6 +2,7 @@ pub mod Back
 pub mod Checked
 pub mod Fields
 pub mod Filling
+pub mod Going
 pub mod Heading
 pub mod Inside
 pub mod Judging

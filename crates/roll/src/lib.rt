@@ -10,7 +10,10 @@ ghost use Rattle.roll.specs.Answers.{heldPrefactors, heldTerm, termOf, F
 use kind::Kind;
 use kind::Named;
 use number::Number;
+use over::terms_over;
 use term::Term;
+
+mod over;
 
 // What was read and the place after it, or the refusal and its place.
 enum Field {
@@ -382,20 +385,37 @@ pub fn open(roll: &[u8]) -> Opened
     }
 }
 
-// Goes through the terms to the end, or to the first refusal.
+// The terms of a roll of a kind, gone over to the end or to the first refusal.
+fn judge_kind(roll: &[u8], opened: Opened, kind: Kind) -> Opened
+    requires { ⌜ opened .cursor .l ≤ mostL kind ⌝ }
+    ensures { λ r. ⌜ r ≡ judgedAs (Named.Is kind) opened (opened .cursor) (now (roll .entry)) ⌝ }
+{
+    let cursor = opened.cursor;
+    let l = cursor.l;
+    let boys = most_boys(kind, l);
+    let most = kind.most_prefactors(l);
+    let table = kind.table();
+    match terms_over(
+        roll,
+        cursor.place,
+        cursor.left,
+        boys as u32,
+        most as u32,
+        table as u32,
+    ) {
+        Field::Is(_, _) => opened,
+        Field::Refused(refusal, place) => refused_roll(refusal, place),
+    }
+}
+
 fn judge(roll: &[u8], opened: Opened) -> Opened
     requires { ⌜ Honest (opened .cursor) (now roll) ⌝ }
     ensures { λ r. ⌜ r ≡ judgedAs (kindOf (opened .cursor .kind)) opened (opened .cursor) (now (roll .entry)) ⌝ }
 {
-    let mut cursor = opened.cursor;
-    loop {
-        let step = cursor.next(roll);
-        let found = step.found;
-        match found {
-            Found::Term => cursor = step.next,
-            Found::End => return opened,
-            Found::Refused(refusal, place) => return refused_roll(refusal, place),
-        }
+    let cursor = opened.cursor;
+    match Kind::of(cursor.kind) {
+        Named::Is(kind) => judge_kind(roll, opened, kind),
+        Named::Unknown => refused_roll(7, cursor.place),
     }
 }
 

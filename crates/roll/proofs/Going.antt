@@ -1,0 +1,180 @@
+-- Going over terms says what reading them says: a law for each way out, and that both are one.
+use Prim.Native.Nat.{ℕ, zero, suc, _+_, _-_, _≤_, _<_}
+use mathlib.Core.Path.{_≡_, refl, sym, ap, _∙_}
+use mathlib.Core.Bool.{Bool, true, false, cond}
+use mathlib.Core.List.{List, [], _∷_}
+use native.Mathlib.Omega.{arith}
+use native.Mathlib.Nat.{not-suc-le-zero}
+use borrow.Author.Tests.{eq-eqb, ne-eqb}
+use lib.Dec.{eqb}
+use lib.ListN.{length}
+use Rattle.kind.specs.Limits.{mostScale}
+use Rattle.kind.specs.Kinds.{tableOf, mostPrefactors}
+use Rattle.kind.specs.declared.Kind.{Kind}
+use Rattle.term.specs.Terms.{Term}
+use Rattle.roll.specs.declared.Field.{Field}
+use Rattle.roll.specs.declared.Field.the-variants as field
+use Rattle.roll.specs.declared.Opened.{Opened}
+use Rattle.roll.specs.Reading.{Reading, got, refused, onward, andThen, before, withinAt, prefactorsAt, mostBoys, countAt, boysAt, termAt, termsAt}
+use Rattle.roll.specs.Answers.{refusedOpened, judged}
+use Rattle.roll.specs.Over.{over, overThen, countOver, boysOver, termOver, endOver, termsOver, judgedOver}
+
+-- ---- both are one
+
+over-onward : {A : Type 0} (x : Field) (f : ℕ → ℕ → Reading A) → over (onward x f) ≡ overThen x (λ n next. over (f n next))
+over-onward (field.Is n next) f = refl
+over-onward (field.Refused r place) f = refl
+
+over-kept : {A B : Type 0} (x : Reading A) (f : A → B) → over (andThen x (λ a end. got (f a) end)) ≡ over x
+over-kept (got a next) f = refl
+over-kept (refused r place) f = refl
+
+-- the same with what follows
+over-same : (x : Field) (f g : ℕ → ℕ → Field) → ((n next : ℕ) → f n next ≡ g n next) → overThen x f ≡ overThen x g
+over-same (field.Is n next) f g same = same n next
+over-same (field.Refused r place) f g same = refl
+
+count-over : (k : Kind) (l scale boys : ℕ) (s : List ℕ) (at : ℕ) → countOver (mostPrefactors k l) (tableOf k) s at ≡ over (countAt k l scale boys s at)
+unfolding countOver countAt
+count-over k l scale boys s at =
+    sym (over-onward (withinAt s at 0 (mostPrefactors k l)) (λ count next. andThen (prefactorsAt count (tableOf k) s next) (λ ps end. got (record { scale = scale; boys = boys; prefactors = ps }) end))
+    ∙ over-same (withinAt s at 0 (mostPrefactors k l)) (λ count next. over (andThen (prefactorsAt count (tableOf k) s next) (λ ps end. got (record { scale = scale; boys = boys; prefactors = ps }) end))) (λ count next. over (prefactorsAt count (tableOf k) s next)) (λ count next. over-kept (prefactorsAt count (tableOf k) s next) (λ (ps : List ℕ). record { scale = scale; boys = boys; prefactors = ps })))
+
+boys-over : (k : Kind) (l scale : ℕ) (s : List ℕ) (at : ℕ) → boysOver (mostBoys k l) (mostPrefactors k l) (tableOf k) s at ≡ over (boysAt k l scale s at)
+unfolding boysOver boysAt
+boys-over k l scale s at =
+    over-same (withinAt s at 0 (mostBoys k l)) (λ n next. countOver (mostPrefactors k l) (tableOf k) s next) (λ n next. over (countAt k l scale n s next)) (λ n next. count-over k l scale n s next)
+    ∙ sym (over-onward (withinAt s at 0 (mostBoys k l)) (λ boys next. countAt k l scale boys s next))
+
+term-over : (k : Kind) (l : ℕ) (s : List ℕ) (at : ℕ) → termOver (mostBoys k l) (mostPrefactors k l) (tableOf k) s at ≡ over (termAt k l s at)
+unfolding termOver termAt
+term-over k l s at =
+    over-same (withinAt s at 1 mostScale) (λ n next. boysOver (mostBoys k l) (mostPrefactors k l) (tableOf k) s next) (λ n next. over (boysAt k l n s next)) (λ n next. boys-over k l n s next)
+    ∙ sym (over-onward (withinAt s at 1 mostScale) (λ scale next. boysAt k l scale s next))
+
+over-before : (t : Term) (r : Reading (List Term)) → over (before (t ∷ []) r) ≡ over r
+over-before t (got ts end) = refl
+over-before t (refused r place) = refl
+
+over-end : (b : Bool) (at : ℕ) (x : Reading (List Term)) → x ≡ cond b (got [] at) (refused 7 at) → cond b (field.Is 0 at) (field.Refused 7 at) ≡ over x
+over-end true at x is = rw is
+over-end false at x is = rw is
+
+-- one term, where the rest is known
+one-over : (left boys most table : ℕ) (k : Kind) (l : ℕ) (s : List ℕ) (x : Reading Term) → ((next : ℕ) → termsOver left boys most table s next ≡ over (termsAt left k l s next)) → overThen (over x) (λ n next. termsOver left boys most table s next) ≡ over (andThen x (λ t next. before (t ∷ []) (termsAt left k l s next)))
+one-over left boys most table k l s (got t next) rest = rest next ∙ sym (over-before t (termsAt left k l s next))
+one-over left boys most table k l s (refused r place) rest = refl
+
+terms-over : (left : ℕ) (k : Kind) (l : ℕ) (s : List ℕ) (at : ℕ) → termsOver left (mostBoys k l) (mostPrefactors k l) (tableOf k) s at ≡ over (termsAt left k l s at)
+unfolding termsOver termsAt
+terms-over zero k l s at = over-end (eqb at (length s)) at (cond (eqb at (length s)) (got [] at) (refused 7 at)) refl
+terms-over (suc left) k l s at =
+    ap (λ (x : Field). overThen x (λ n next. termsOver left (mostBoys k l) (mostPrefactors k l) (tableOf k) s next)) (term-over k l s at)
+    ∙ one-over left (mostBoys k l) (mostPrefactors k l) (tableOf k) k l s (termAt k l s at) (λ next. terms-over left k l s next)
+
+judged-over : (o : Opened) (x : Reading (List Term)) → judgedOver o (over x) ≡ judged o x
+judged-over o (got ts end) = refl
+judged-over o (refused r place) = refl
+
+-- ---- the loop over prefactors: what is left says what the whole says
+
+pub record Passing (s : List ℕ) (at count table place left : ℕ) : Type 0 where
+  pub same : over (prefactorsAt left table s place) ≡ over (prefactorsAt count table s at)
+
+pub passing-first : (s : List ℕ) (at count table : ℕ) → Passing s at count table at count
+passing-first s at count table = record { same = refl }
+
+passing-turn : (s : List ℕ) (table place left : ℕ) (x : Field) → 0 < left → x ≡ withinAt s place 0 (table - 1) → over (prefactorsAt left table s place) ≡ overThen x (λ n next. over (prefactorsAt (left - 1) table s next))
+unfolding prefactorsAt
+passing-turn s table place zero x some is = absurd (not-suc-le-zero some)
+passing-turn s table place (suc left) x some is = let less : suc left - 1 ≡ left = omega arith in rw (less, ← is) (by x)
+  where
+    drop-one : (p : ℕ) (r : Reading (List ℕ)) → over (before (p ∷ []) r) ≡ over r
+    drop-one p (got ps next) = refl
+    drop-one p (refused r place) = refl
+
+    by : (x : Field) → over (onward x (λ p next. before (p ∷ []) (prefactorsAt left table s next))) ≡ overThen x (λ n next. over (prefactorsAt left table s next))
+    by (field.Is p next) = drop-one p (prefactorsAt left table s next)
+    by (field.Refused r wrong) = refl
+
+pub passing-more : (s : List ℕ) (at count table place left last : ℕ) (x : Field) (n next : ℕ) → Passing s at count table place left → 0 < left → last ≡ table - 1 → x ≡ withinAt s place 0 last → x ≡ field.Is n next → Passing s at count table next (left - 1)
+passing-more s at count table place left last x n next p some size is e =
+    record { same = sym (passing-turn s table place left x some (is ∙ ap (withinAt s place 0) size) ∙ ap (λ (y : Field). overThen y (λ n next. over (prefactorsAt (left - 1) table s next))) e) ∙ p .same }
+
+pub passing-refused : (s : List ℕ) (at count table place left last : ℕ) (x : Field) (r wrong : ℕ) → Passing s at count table place left → 0 < left → last ≡ table - 1 → x ≡ withinAt s place 0 last → x ≡ field.Refused r wrong → field.Refused r wrong ≡ over (prefactorsAt count table s at)
+passing-refused s at count table place left last x r wrong p some size is e =
+    sym (passing-turn s table place left x some (is ∙ ap (withinAt s place 0) size) ∙ ap (λ (y : Field). overThen y (λ n next. over (prefactorsAt (left - 1) table s next))) e) ∙ p .same
+
+passing-none : (s : List ℕ) (table place left : ℕ) → left ≡ 0 → field.Is 0 place ≡ over (prefactorsAt left table s place)
+unfolding prefactorsAt
+passing-none s table place left none = rw none
+
+pub passing-done : (s : List ℕ) (at count table place left : ℕ) → Passing s at count table place left → left ≤ 0 → field.Is 0 place ≡ over (prefactorsAt count table s at)
+passing-done s at count table place left p none = passing-none s table place left (omega arith) ∙ p .same
+
+-- ---- a term
+
+pub counted-over : (most table : ℕ) (s : List ℕ) (at : ℕ) (x y : Field) (count next : ℕ) → x ≡ withinAt s at 0 most → x ≡ field.Is count next → y ≡ over (prefactorsAt count table s next) → y ≡ countOver most table s at
+unfolding countOver
+counted-over most table s at x y count next is e answer = answer ∙ rw (sym is ∙ e)
+
+pub uncounted-over : (most table : ℕ) (s : List ℕ) (at : ℕ) (x : Field) (r place : ℕ) → x ≡ withinAt s at 0 most → x ≡ field.Refused r place → field.Refused r place ≡ countOver most table s at
+unfolding countOver
+uncounted-over most table s at x r place is e = rw (sym is ∙ e)
+
+pub boys-went : (boys most table : ℕ) (s : List ℕ) (at : ℕ) (x y : Field) (n next : ℕ) → x ≡ withinAt s at 0 boys → x ≡ field.Is n next → y ≡ countOver most table s next → y ≡ boysOver boys most table s at
+unfolding boysOver
+boys-went boys most table s at x y n next is e answer = answer ∙ rw (sym is ∙ e)
+
+pub boys-refused : (boys most table : ℕ) (s : List ℕ) (at : ℕ) (x : Field) (r place : ℕ) → x ≡ withinAt s at 0 boys → x ≡ field.Refused r place → field.Refused r place ≡ boysOver boys most table s at
+unfolding boysOver
+boys-refused boys most table s at x r place is e = rw (sym is ∙ e)
+
+pub scale-went : (boys most table : ℕ) (s : List ℕ) (at : ℕ) (x y : Field) (n next : ℕ) → x ≡ withinAt s at 1 mostScale → x ≡ field.Is n next → y ≡ boysOver boys most table s next → y ≡ termOver boys most table s at
+unfolding termOver
+scale-went boys most table s at x y n next is e answer = answer ∙ rw (sym is ∙ e)
+
+pub scale-refused : (boys most table : ℕ) (s : List ℕ) (at : ℕ) (x : Field) (r place : ℕ) → x ≡ withinAt s at 1 mostScale → x ≡ field.Refused r place → field.Refused r place ≡ termOver boys most table s at
+unfolding termOver
+scale-refused boys most table s at x r place is e = rw (sym is ∙ e)
+
+pub ends-there : (length place : ℕ) → place ≡ length → field.Is 0 place ≡ endOver length place
+ends-there length place e = simp (eq-eqb place length e)
+
+pub ends-not : (length place : ℕ) → (place ≡ length → ⊥) → field.Refused 7 place ≡ endOver length place
+ends-not length place more = simp (ne-eqb place length more)
+
+-- ---- the loop over terms
+
+pub record Going (s : List ℕ) (at terms boys most table place left : ℕ) : Type 0 where
+  pub same : termsOver left boys most table s place ≡ termsOver terms boys most table s at
+
+pub going-first : (s : List ℕ) (at terms boys most table : ℕ) → Going s at terms boys most table at terms
+going-first s at terms boys most table = record { same = refl }
+
+going-turn : (s : List ℕ) (boys most table place left : ℕ) (x : Field) → 0 < left → x ≡ termOver boys most table s place → termsOver left boys most table s place ≡ overThen x (λ n next. termsOver (left - 1) boys most table s next)
+unfolding termsOver
+going-turn s boys most table place zero x some is = absurd (not-suc-le-zero some)
+going-turn s boys most table place (suc left) x some is = let less : suc left - 1 ≡ left = omega arith in rw (less, is)
+
+pub going-more : (s : List ℕ) (at terms boys most table place left : ℕ) (x : Field) (n next : ℕ) → Going s at terms boys most table place left → 0 < left → x ≡ termOver boys most table s place → x ≡ field.Is n next → Going s at terms boys most table next (left - 1)
+going-more s at terms boys most table place left x n next g some is e =
+    record { same = sym (going-turn s boys most table place left x some is ∙ ap (λ (y : Field). overThen y (λ n next. termsOver (left - 1) boys most table s next)) e) ∙ g .same }
+
+pub going-refused : (s : List ℕ) (at terms boys most table place left : ℕ) (x : Field) (r wrong : ℕ) → Going s at terms boys most table place left → 0 < left → x ≡ termOver boys most table s place → x ≡ field.Refused r wrong → field.Refused r wrong ≡ termsOver terms boys most table s at
+going-refused s at terms boys most table place left x r wrong g some is e =
+    sym (going-turn s boys most table place left x some is ∙ ap (λ (y : Field). overThen y (λ n next. termsOver (left - 1) boys most table s next)) e) ∙ g .same
+
+going-none : (s : List ℕ) (boys most table place left : ℕ) → left ≡ 0 → endOver (length s) place ≡ termsOver left boys most table s place
+unfolding termsOver
+going-none s boys most table place left none = rw none
+
+pub going-done : (s : List ℕ) (at terms boys most table place left : ℕ) (y : Field) → Going s at terms boys most table place left → left ≤ 0 → y ≡ endOver (length s) place → y ≡ termsOver terms boys most table s at
+going-done s at terms boys most table place left y g none answer = answer ∙ going-none s boys most table place left (omega arith) ∙ g .same
+
+-- ---- the judge
+
+pub went-over : (k : Kind) (o : Opened) (left l : ℕ) (s : List ℕ) (at : ℕ) (boys most table : ℕ) (x : Field) → boys ≡ mostBoys k l → most ≡ mostPrefactors k l → table ≡ tableOf k → x ≡ termsOver left boys most table s at → judgedOver o x ≡ judged o (termsAt left k l s at)
+went-over k o left l s at boys most table x b m t is =
+    let whole : x ≡ over (termsAt left k l s at) = is ∙ rw (b, m, t) (terms-over left k l s at) in
+    ap (λ (y : Field). judgedOver o y) whole ∙ judged-over o (termsAt left k l s at)

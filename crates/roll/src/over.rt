@@ -1,0 +1,91 @@
+// Terms that are gone over and not kept: a number after the other, each within its limits.
+ghost use mathlib.Core.Path.{_≡_};
+ghost use Prim.Native.Nat.{_≤_};
+ghost use Rattle.roll.specs.Reading.{prefactorsAt};
+ghost use Rattle.roll.specs.Over.{over, countOver, boysOver, termOver, endOver, termsOver};
+use crate::Field;
+use crate::within;
+use kind::Kind;
+
+// Goes over so many prefactors, each below the table size.
+fn prefactors_over(roll: &[u8], at: usize, count: u32, table: u32) -> Field
+    requires { ⌜ 1 ≤ table ⌝ }
+    ensures { λ r. ⌜ r ≡ over (prefactorsAt count table (now (roll .entry)) at) ⌝ }
+{
+    let last = table - 1;
+    let mut place = at;
+    let mut left = count;
+    while 0 < left {
+        match within(roll, place, 0, last) {
+            Field::Is(_, next) => place = next,
+            Field::Refused(refusal, wrong) => return Field::Refused(refusal, wrong),
+        }
+        left -= 1;
+    }
+    Field::Is(0, place)
+}
+
+fn count_over(roll: &[u8], at: usize, most: u32, table: u32) -> Field
+    requires { ⌜ 1 ≤ table ⌝ }
+    ensures { λ r. ⌜ r ≡ countOver most table (now (roll .entry)) at ⌝ }
+{
+    match within(roll, at, 0, most) {
+        Field::Is(count, next) => prefactors_over(roll, next, count, table),
+        Field::Refused(refusal, place) => Field::Refused(refusal, place),
+    }
+}
+
+fn boys_over(roll: &[u8], at: usize, boys: u32, most: u32, table: u32) -> Field
+    requires { ⌜ 1 ≤ table ⌝ }
+    ensures { λ r. ⌜ r ≡ boysOver boys most table (now (roll .entry)) at ⌝ }
+{
+    match within(roll, at, 0, boys) {
+        Field::Is(_, next) => count_over(roll, next, most, table),
+        Field::Refused(refusal, place) => Field::Refused(refusal, place),
+    }
+}
+
+// Goes over the term at a place; its Boys order is at most `boys`, its prefactor count at most `most`.
+fn term_over(roll: &[u8], at: usize, boys: u32, most: u32, table: u32) -> Field
+    requires { ⌜ 1 ≤ table ⌝ }
+    ensures { λ r. ⌜ r ≡ termOver boys most table (now (roll .entry)) at ⌝ }
+{
+    match within(roll, at, 1, Kind::MOST_SCALE) {
+        Field::Is(_, next) => boys_over(roll, next, boys, most, table),
+        Field::Refused(refusal, place) => Field::Refused(refusal, place),
+    }
+}
+
+// Nothing follows the last term.
+fn end_over(length: usize, place: usize) -> Field
+    ensures { λ r. ⌜ r ≡ endOver length place ⌝ }
+{
+    if place == length {
+        return Field::Is(0, place);
+    }
+    Field::Refused(7, place)
+}
+
+// Goes over so many terms to the end of a roll, or to the first refusal.
+pub(crate) fn terms_over(
+    roll: &[u8],
+    at: usize,
+    terms: u32,
+    boys: u32,
+    most: u32,
+    table: u32,
+) -> Field
+    requires { ⌜ 1 ≤ table ⌝ }
+    ensures { λ r. ⌜ r ≡ termsOver terms boys most table (now (roll .entry)) at ⌝ }
+{
+    let mut place = at;
+    let mut left = terms;
+    while 0 < left {
+        match term_over(roll, place, boys, most, table) {
+            Field::Is(_, next) => place = next,
+            Field::Refused(refusal, wrong) => return Field::Refused(refusal, wrong),
+        }
+        left -= 1;
+    }
+    end_over(roll.len(), place)
+}
