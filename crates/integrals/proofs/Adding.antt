@@ -1,6 +1,6 @@
 -- Sums over the terms of a roll go on from where they stand, in list order and by Boys order.
 use Prim.Native.Nat.{ℕ, suc, _+_, _-_, _<_, _≤_}
-use mathlib.Core.Path.{_≡_, refl, ap}
+use mathlib.Core.Path.{_≡_, refl, sym, ap, _∙_}
 use mathlib.Core.Bool.{Bool, true, false, cond}
 use mathlib.Core.List.{List, _∷_}
 use native.Mathlib.Nat.{min-le-right}
@@ -72,14 +72,18 @@ module _ (table : List Float) (s : Float) (boys : List Float) (ts : List Term) (
   orders-done p q = let none : l + 1 - order ≡ 0 = omega arith in rw none at q
 
 -- one term in the pass of a Boys order
-module _ (roll : List ℕ) (h : Head) (order : ℕ) (b : Float) (table : List Float) (sum : Float) where
-  pub of-order : (g : Float) → h .boys ≡ order → g ≡ productOf table (between roll (h .from) (h .end)) one → sum ⊕ scaleOf (h .scale) ⊗ b ⊗ g ≡ addOrderOf order b table (termOf roll h) sum
-  unfolding addOrderOf termOf coulombOf gOf
-  of-order g e f = rw (eq-eqb (h .boys) order e, f)
+pub added-term : (roll : List ℕ) (h : Head) (b : Float) (table : List Float) (sum g : Float) → g ≡ productOf table (between roll (h .from) (h .end)) one → sum ⊕ scaleOf (h .scale) ⊗ b ⊗ g ≡ sum ⊕ coulombOf table b (termOf roll h)
+unfolding termOf coulombOf gOf
+added-term roll h b table sum g f = rw f
 
-  pub not-of-order : (h .boys ≡ order → ⊥) → sum ≡ addOrderOf order b table (termOf roll h) sum
+module _ (roll : List ℕ) (at order : ℕ) (b : Float) (table : List Float) (sum : Float) (boys : ℕ) where
+  pub of-order : (h : Head) (v : Float) → boys ≡ headAt roll at .boys → boys ≡ order → h ≡ headAt roll at → v ≡ sum ⊕ coulombOf table b (termOf roll h) → v ≡ addOrderOf order b table (termOf roll (headAt roll at)) sum
   unfolding addOrderOf termOf
-  not-of-order e = rw (ne-eqb (h .boys) order e)
+  of-order h v is e head f = let same : headAt roll at .boys ≡ order = sym is ∙ e in rw (eq-eqb (headAt roll at .boys) order same) (f ∙ ap (λ (h : Head). sum ⊕ coulombOf table b (termOf roll h)) head)
+
+  pub not-of-order : boys ≡ headAt roll at .boys → (boys ≡ order → ⊥) → sum ≡ addOrderOf order b table (termOf roll (headAt roll at)) sum
+  unfolding addOrderOf termOf
+  not-of-order is other = rw (ne-eqb (headAt roll at .boys) order (λ same. other (is ∙ same)))
 
 module _ (table : List Float) (b : Float) (order : ℕ) where
   one-of-order : (t : Term) (ts : List Term) (sum : Float) → sumFrom (coulombOf table b) (ofOrder order (t ∷ ts)) sum ≡ sumFrom (coulombOf table b) (ofOrder order ts) (addOrderOf order b table t sum)
@@ -91,8 +95,8 @@ module _ (table : List Float) (b : Float) (order : ℕ) where
       by false = refl
 
   module _ (roll : List ℕ) (at left : ℕ) (sum whole : Float) where
-    pub pass-more : (h : Head) (v : Float) → 0 < left → h ≡ headAt roll at → v ≡ addOrderOf order b table (termOf roll h) sum → sumFrom (coulombOf table b) (ofOrder order (termsAt roll left at)) sum ≡ whole → sumFrom (coulombOf table b) (ofOrder order (termsAt roll (left - 1) (h .end))) v ≡ whole
-    pass-more h v p e q w =
+    pub pass-more : (end : ℕ) (v : Float) → 0 < left → end ≡ headAt roll at .end → v ≡ addOrderOf order b table (termOf roll (headAt roll at)) sum → sumFrom (coulombOf table b) (ofOrder order (termsAt roll left at)) sum ≡ whole → sumFrom (coulombOf table b) (ofOrder order (termsAt roll (left - 1) end)) v ≡ whole
+    pass-more end v p e q w =
         rw (q, e) (rw (one-left roll at left p, one-of-order (termOf roll (headAt roll at)) (termsAt roll (left - 1) (headAt roll at .end)) sum) at w)
 
 pub pass-done : (table boys : List Float) (s f : Float) (order : ℕ) (roll : List ℕ) (at left : ℕ) (ts : List Term) (sum before : Float) → left ≤ 0 → f ≡ boysAt boys order → sumFrom (coulombOf table (f ⊗ s)) (ofOrder order (termsAt roll left at)) sum ≡ sumFrom (coulombOf table (f ⊗ s)) (ofOrder order ts) before → sum ≡ sumFrom (coulombOf table (boysAt boys order ⊗ s)) (ofOrder order ts) before

@@ -1,3 +1,4 @@
+pub mod Skipping
 pub mod Stored
 pub mod Adding
 pub mod Values

@@ -1,10 +1,10 @@
 -- How a roll that has been judged is read again: its numbers, its terms, one after the other.
-use Prim.Native.Nat.{ℕ, zero, suc, _+_, _-_, min}
+use Prim.Native.Nat.{ℕ, zero, suc, _+_, _-_, _<_, _≤_, min}
 use mathlib.Core.List.{List, [], _∷_}
 use mathlib.Core.Bool.{cond}
 use lib.Dec.{eqb}
 use lib.Ieee.{Float}
-use lib.ListN.{length, take, drop}
+use lib.ListN.{length, take, drop, getD}
 use Rattle.number.specs.declared.Number.{Number}
 use Rattle.number.specs.declared.Number.the-variants.{Is, Ended, NotShortest, TooLarge}
 use Rattle.number.specs.Numbers.{readAt}
@@ -40,6 +40,13 @@ headAt roll at =
     let boys = seenAt roll (scale .next) in
     let count = seenAt roll (boys .next) in
     record { scale = scale .value; boys = boys .value; from = count .next; end = min (count .next + count .value) (length roll) }
+
+-- where a term's scale, Boys order and count are one byte each, and its prefactors end inside the roll
+pub record Short (roll : List ℕ) (at : ℕ) : Type 0 where
+  pub scale : getD roll at 0 < 128
+  pub boys : getD roll (at + 1) 0 < 128
+  pub count : getD roll (at + 2) 0 < 128
+  pub inside : at + 3 + getD roll (at + 2) 0 ≤ length roll
 
 -- the bytes from one place to another
 unfoldable pub between : List ℕ → ℕ → ℕ → List ℕ

@@ -1,7 +1,8 @@
 // A roll that has been judged, read again: its numbers, and its terms by where they stand.
-ghost use Prim.Native.Nat.{_+_, min};
+ghost use Prim.Native.Nat.{_+_, _<_, min};
+ghost use mathlib.Core.Bool.{true};
 ghost use mathlib.Core.Path.{_≡_};
-ghost use Rattle.integrals.specs.Stored.{seenAt, headAt};
+ghost use Rattle.integrals.specs.Stored.{seenAt, headAt, Short};
 use number::Number;
 
 // A number of a roll and the place after it.
@@ -56,4 +57,70 @@ pub(crate) fn head_at(roll: &[u8], at: usize) -> Head
         from: count.next,
         end,
     }
+}
+
+fn wide(byte: u8) -> usize
+    ensures { λ r. ⌜ (r ≡ byte) × (r < 256) ⌝ }
+{
+    byte as usize
+}
+
+// Whether the scale, the Boys order and the count here are one byte each, and the prefactors end inside the roll.
+fn is_short(roll: &[u8], at: usize) -> bool
+    ensures { λ r. ⌜ (r ≡ true → Short (now (roll .entry)) at) ⌝ }
+{
+    if roll.len() <= at {
+        return false;
+    }
+    let rest = roll.len() - at;
+    if rest < 3 {
+        return false;
+    }
+    if 128 <= wide(roll[at]) {
+        return false;
+    }
+    if 128 <= wide(roll[at + 1]) {
+        return false;
+    }
+    let count = wide(roll[at + 2]);
+    if 128 <= count {
+        return false;
+    }
+    count + 3 <= rest
+}
+
+fn short_boys(roll: &[u8], at: usize) -> usize
+    requires { ⌜ Short (now roll) at ⌝ }
+    ensures { λ r. ⌜ r ≡ headAt (now (roll .entry)) at .boys ⌝ }
+{
+    wide(roll[at + 1])
+}
+
+fn short_end(roll: &[u8], at: usize) -> usize
+    requires { ⌜ Short (now roll) at ⌝ }
+    ensures { λ r. ⌜ r ≡ headAt (now (roll .entry)) at .end ⌝ }
+{
+    at + 3 + wide(roll[at + 2])
+}
+
+// A term's Boys order.
+pub(crate) fn boys_at(roll: &[u8], at: usize) -> usize
+    ensures { λ r. ⌜ r ≡ headAt (now (roll .entry)) at .boys ⌝ }
+{
+    if is_short(roll, at) {
+        return short_boys(roll, at);
+    }
+    let h = head_at(roll, at);
+    h.boys as usize
+}
+
+// The place after a term.
+pub(crate) fn end_at(roll: &[u8], at: usize) -> usize
+    ensures { λ r. ⌜ r ≡ headAt (now (roll .entry)) at .end ⌝ }
+{
+    if is_short(roll, at) {
+        return short_end(roll, at);
+    }
+    let h = head_at(roll, at);
+    h.end
 }

@@ -2,10 +2,12 @@
 ghost use Prim.Native.Nat.{_+_, _≤_};
 ghost use mathlib.Core.Path.{_≡_};
 ghost use lib.ListN.{length, getD};
-ghost use Rattle.geometry.specs.Floats.{_⊗_, zero};
+ghost use Rattle.geometry.specs.Floats.{_⊕_, _⊗_, zero};
 ghost use Rattle.integrals.specs.Sums.{boysAt, productOf, staysKinetic, plainOf, kineticOf, nuclearOf, coulombOf, sumFrom, ofOrder, runOrders, totalOf};
-ghost use Rattle.integrals.specs.Stored.{addOrderOf, startOf, addendOf, between, termOf, termsAt};
+ghost use Rattle.integrals.specs.Stored.{headAt, addOrderOf, startOf, addendOf, between, termOf, termsAt};
 use super::reader::Head;
+use super::reader::boys_at;
+use super::reader::end_at;
 use super::reader::head_at;
 use kind::Kind;
 
@@ -131,14 +133,21 @@ fn sum(
     sum
 }
 
-// A term of the Boys order that is summed adds scale·b·g, any other nothing.
-fn add_order(order: usize, b: f64, table: &[f64], roll: &[u8], h: Head, sum: f64) -> f64
+// What the term at a place adds to the sum of its Boys order.
+fn add_term(b: f64, table: &[f64], roll: &[u8], h: Head, sum: f64) -> f64
     requires { ⌜ h .end ≤ length (now roll) ⌝ }
-    ensures { λ r. ⌜ r ≡ addOrderOf order b (now (table .entry)) (termOf (now (roll .entry)) h) sum ⌝ }
+    ensures { λ r. ⌜ r ≡ sum ⊕ coulombOf (now (table .entry)) b (termOf (now (roll .entry)) h) ⌝ }
 {
-    if h.boys as usize == order {
-        let g = product(table, roll, h.from, h.end, 1.0);
-        return sum + h.scale as f64 * b * g;
+    let g = product(table, roll, h.from, h.end, 1.0);
+    sum + h.scale as f64 * b * g
+}
+
+// A term of the Boys order that is summed adds scale·b·g, any other nothing.
+fn add_order(order: usize, b: f64, table: &[f64], roll: &[u8], at: usize, sum: f64) -> f64
+    ensures { λ r. ⌜ r ≡ addOrderOf order b (now (table .entry)) (termOf (now (roll .entry)) (headAt (now (roll .entry)) at)) sum ⌝ }
+{
+    if boys_at(roll, at) == order {
+        return add_term(b, table, roll, head_at(roll, at), sum);
     }
     sum
 }
@@ -161,9 +170,8 @@ fn pass(
     let mut at = start;
     let mut left = terms;
     while 0 < left {
-        let h = head_at(roll, at);
-        sum = add_order(order, b, table, roll, h, sum);
-        at = h.end;
+        sum = add_order(order, b, table, roll, at, sum);
+        at = end_at(roll, at);
         left -= 1;
     }
     sum

@@ -1,17 +1,17 @@
 -- `add_order` meets its contract: a law for each way out. Assumes nothing.
-use Rattle.integrals.proofs.Adding.{of-order, not-of-order}
+use Rattle.integrals.proofs.Adding.{head-inside, of-order, not-of-order}
 use borrow.Author.Needs.{needs}
 use Rattle.integrals.proofs.sums.add_order.Statement.{statement}
 use Rattle.integrals.proofs.sums.add_order.Tie as tie
 
-cast-if1 : tie.Need-cast-if1
-cast-if1 c = search needs
+boys-at-requires : tie.Need-boys-at-requires
+boys-at-requires c κs = search needs
 
-product-requires : tie.Need-product-requires
-product-requires c κs = search needs
+head-at-requires : tie.Need-head-at-requires
+head-at-requires c κs = search needs
 
-int-to-float-result : tie.Need-int-to-float-result
-int-to-float-result c = search needs
+add-term-requires : tie.Need-add-term-requires
+add-term-requires c κs = search head-inside
 
 returns : tie.Need-returns
 returns c = search of-order
@@ -21,4 +21,4 @@ returns-2 c = search not-of-order
 
 pub add-order-spec : {M : Type 1} → statement M
 add-order-spec =
-    tie.close (tie.spec cast-if1 product-requires int-to-float-result returns returns-2)
+    tie.close (tie.spec boys-at-requires head-at-requires add-term-requires returns returns-2)

@@ -3,7 +3,7 @@ use mathlib.Core.Path.{_≡_, refl}
 use borrow.Author.Needs.{needs}
 use Rattle.integrals.specs.Sums.{sumFrom, coulombOf, ofOrder}
 use Rattle.integrals.specs.Stored.{termsAt}
-use Rattle.integrals.proofs.Adding.{head-inside, pass-more, pass-done}
+use Rattle.integrals.proofs.Adding.{pass-more, pass-done}
 use Rattle.integrals.proofs.sums.pass.Statement.{statement}
 use Rattle.integrals.proofs.sums.pass.Tie as tie
 
@@ -19,11 +19,11 @@ float-at-requires c κs = search needs
 loop-holds : tie.Need-loop-holds Inv-loop μ-loop
 loop-holds c = refl
 
-head-at-requires : tie.Need-head-at-requires Inv-loop μ-loop
-head-at-requires c κs = search needs
-
 add-order-requires : tie.Need-add-order-requires Inv-loop μ-loop
-add-order-requires c κs = search head-inside
+add-order-requires c κs = search needs
+
+end-at-requires : tie.Need-end-at-requires Inv-loop μ-loop
+end-at-requires c κs = search needs
 
 sub-left : tie.Need-sub-left Inv-loop μ-loop
 sub-left c = search needs
@@ -45,8 +45,8 @@ pass-spec =
     μ-loop
     float-at-requires
     loop-holds
-    head-at-requires
     add-order-requires
+    end-at-requires
     sub-left
     loop-less
     loop-again
