@@ -393,14 +393,14 @@ fn judge_kind(roll: &[u8], opened: Opened, kind: Kind) -> Opened
     let cursor = opened.cursor;
     let l = cursor.l;
     let boys = most_boys(kind, l);
-    let most = kind.most_prefactors(l);
+    let prefactors = kind.most_prefactors(l);
     let table = kind.table();
     match terms_over(
         roll,
         cursor.place,
         cursor.left,
         boys as u32,
-        most as u32,
+        prefactors as u32,
         table as u32,
     ) {
         Field::Is(_, _) => opened,

@@ -82,7 +82,7 @@ pub(crate) fn terms_over(
     let mut left = terms;
     while 0 < left {
         match term_over(roll, place, boys, most, table) {
-            Field::Is(_, next) => place = next,
+            Field::Is(_, after) => place = after,
             Field::Refused(refusal, wrong) => return Field::Refused(refusal, wrong),
         }
         left -= 1;

@@ -16,8 +16,8 @@ loop-holds c = search going-first
 term-over-requires : tie.Need-term-over-requires Inv-loop μ-loop
 term-over-requires c κs = search needs
 
-enum-known-next : tie.Need-enum-known-next Inv-loop μ-loop
-enum-known-next c = search needs
+enum-known-after : tie.Need-enum-known-after Inv-loop μ-loop
+enum-known-after c = search needs
 
 enum-known-refusal : tie.Need-enum-known-refusal Inv-loop μ-loop
 enum-known-refusal c = search needs
@@ -48,7 +48,7 @@ terms-over-spec =
     μ-loop
     loop-holds
     term-over-requires
-    enum-known-next
+    enum-known-after
     enum-known-refusal
     returns
     sub-left
