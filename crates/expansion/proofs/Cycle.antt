@@ -1,4 +1,4 @@
--- What each call of the walk asks and gives, a law for each. The number that falls: nine for each step left, then the branches left.
+-- What each call of the walk asks and gives, a law for each. The number that falls: ten for each step left, then the branches left.
 use Prim.Native.Nat.{ℕ, zero, suc, _+_, _*_, _-_, _/_, _%_, _^_, _≤_, _<_}
 use mathlib.Core.Path.{_≡_, refl, sym, ap, ap₂, subst, _∙_}
 use mathlib.Core.Bool.{true}
@@ -35,10 +35,13 @@ use Rattle.expansion.proofs.Digits.{length-prefactors}
 use Rattle.expansion.proofs.Walking.{from-none, from-skip, from-legal, turn-next, below-eight, emitted-none, room-first, room-then, emitted-both}
 
 unfoldable pub nodeFuel : Kind → ℕ → Path → ℕ
-nodeFuel k left p = 9 * depth (viewOf k left p) + 9
+nodeFuel k left p = 10 * depth (viewOf k left p) + 10
+
+unfoldable pub innerFuel : Kind → ℕ → Path → ℕ
+innerFuel k left p = 10 * depth (viewOf k left p) + 9
 
 unfoldable pub branchFuel : Kind → ℕ → Path → ℕ → ℕ
-branchFuel k left p number = 9 * depth (viewOf k left p) + (8 - number)
+branchFuel k left p number = 10 * depth (viewOf k left p) + (8 - number)
 
 module _ (k : Kind) (left : List ℕ) (f : Fun) (is : f ≡ chosen k left) where
   pub choose-none : f ≡ none → Nothing ≡ lowering k left
@@ -54,10 +57,10 @@ module _ (k : Kind) (left : List ℕ) (f : Fun) (is : f ≡ chosen k left) where
     unfolding lowering
     choose-at x e = ap (onAxis c) (sym e ∙ axis) ∙ ap (λ (w : Fun). onFun w left) (sym found ∙ is)
 
-module _ (k : Kind) (left : ℕ) (p : Path) (c : Centre) (x : Axis) (times number at : ℕ) (out : List ℕ) (may : BranchMay k left p c x times number at out) where
-  pub branch-none : times ≡ 0 → Emitted (termsBytes (termsFrom k left p c x number)) at out at out
-  branch-none e = emitted-none (termsFrom k left p c x number) at out (from-none k left c x times number (may .turn) p e)
+pub branch-none : (k : Kind) (left : ℕ) (p : Path) (c : Centre) (x : Axis) (times number at : ℕ) (out : List ℕ) → BranchMay k left p c x times number at out → times ≡ 0 → Emitted (termsBytes (termsFrom k left p c x number)) at out at out
+branch-none k left p c x times number at out may e = emitted-none (termsFrom k left p c x number) at out (from-none k left c x times number (may .turn) p e)
 
+module _ (k : Kind) (left : ℕ) (p : Path) (c : Centre) (x : Axis) (times number at : ℕ) (out : List ℕ) (may : BranchMay k left p c x times number at out) where
   module _ (some : times ≡ 0 → ⊥) where
     pub number-fits : number + 1 < 256
     number-fits = let h = below-eight k left c x times number (may .turn) some in omega arith
@@ -103,6 +106,9 @@ module _ (k : Kind) (left : ℕ) (p : Path) (c : Centre) (x : Axis) (times numbe
       pub then-done : (r : ℕ) (after : List ℕ) → Emitted (termsBytes (termsFrom k left p c x (number + 1))) next mid r after → Emitted (termsBytes (termsFrom k left p c x number)) at out r after
       then-done r after h =
           emitted-both (termsFrom k left p c x number) (termsBelow (child .kind) (child .left) (child .path)) (termsFrom k left p c x (number + 1)) split at out next mid first r after h
+
+      pub then-last : times / 16 ≡ 0 → Emitted (termsBytes (termsFrom k left p c x number)) at out next mid
+      then-last e = then-done next mid (branch-none k left p c x (times / 16) (number + 1) next mid then-may e)
 
 -- the numbers of a path on the way are small
 pub record Words (p : Path) : Type 0 where
@@ -196,6 +202,10 @@ module _ (k : Kind) (left : ℕ) (p : Path) (at : ℕ) (out : List ℕ) (may : N
   pub node-emitted : (r : ℕ) (after : List ℕ) → left ≡ 0 → Emitted (termBytes (termAt p)) at out r after → Emitted (termsBytes (termsBelow k left p)) at out r after
   node-emitted r after e h = subst (λ (bytes : List ℕ). Emitted bytes at out r after) (sym (one-term e)) h
 
+  pub inner-falls : (t : ℕ) → nodeFuel k left p ≡ t → innerFuel k left p < t
+  unfolding nodeFuel innerFuel
+  inner-falls t e = omega arith
+
   module _ (some : left ≡ 0 → ⊥) (r : Lowering) (is : r ≡ lowering k (orders left)) where
     pub node-none : r ≡ Nothing → Emitted (termsBytes (termsBelow k left p)) at out at out
     node-none e = emitted-none (termsBelow k left p) at out (below-none k left p (may .good .word) some r is e)
@@ -204,8 +214,8 @@ module _ (k : Kind) (left : ℕ) (p : Path) (at : ℕ) (out : List ℕ) (may : N
       from-first : termsBelow k left p ≡ termsFrom k left p c x 0
       from-first = below-first k left p (may .good .word) some r is c x at-them
 
-      pub first-falls : (t : ℕ) → nodeFuel k left p ≡ t → branchFuel k left p 0 < t
-      unfolding nodeFuel branchFuel
+      pub first-falls : (t : ℕ) → innerFuel k left p ≡ t → branchFuel k left p 0 < t
+      unfolding innerFuel branchFuel
       first-falls t e = omega arith
 
       pub first-may : (times : ℕ) → times ≡ multiplierWord c x (orders left) (branches k c x) → BranchMay k left p c x times 0 at out

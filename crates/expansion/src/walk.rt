@@ -66,6 +66,15 @@ pub(crate) fn node(out: &mut [u8], at: usize, kind: Kind, left: u64, path: Path)
     if left == 0 {
         return emit(out, at, path);
     }
+    inner(out, at, kind, left, path)
+}
+
+// Writes all terms below a state that has an order left.
+fn inner(out: &mut [u8], at: usize, kind: Kind, left: u64, path: Path) -> usize
+    requires { ⌜ NodeMay kind left path at (now out) ⌝ }
+    requires { ⌜ (left ≡ 0 → ⊥) ⌝ }
+    ensures { λ r. ⌜ Emitted (termsBytes (termsBelow kind left path)) at (now (out .entry)) r (now (out .exit)) ⌝ }
+{
     let lowered = choose(kind, left);
     match lowered {
         Lowering::Nothing => at,
@@ -111,15 +120,9 @@ fn branch(
     let goes_on = next.kind;
     let on = next.path;
     let after = node(out, at, goes_on, next.left, on);
-    branch(
-        out,
-        after,
-        kind,
-        left,
-        path,
-        centre,
-        axis,
-        times / 16,
-        number + 1,
-    )
+    let rest = times / 16;
+    if rest == 0 {
+        return after;
+    }
+    branch(out, after, kind, left, path, centre, axis, rest, number + 1)
 }
