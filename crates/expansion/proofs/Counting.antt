@@ -29,18 +29,28 @@ use Rattle.expansion.proofs.Emission.{term-length}
 use Rattle.expansion.proofs.Walking.{from-none, from-skip, turn-next, below-eight}
 use Rattle.expansion.proofs.Children.{child-moves, child-held}
 use Rattle.expansion.proofs.Cycle.{Words, good-words, below-done, below-none, below-first, first-turn}
-use Rattle.expansion.proofs.Measuring.{measured-few, small-none, small-over, plus-over}
+use Rattle.expansion.proofs.Measuring.{measured-few, small-none, small-over, plus-over, plus-none}
 use Rattle.expansion.proofs.Groups.{nextPath, next-scale, next-count, next-of, group-split, group-turn, width-one}
 
 unfoldable pub nodeCount : Kind → ℕ → ℕ
-nodeCount k left = 9 * (stage k + total (orders left)) + 9
+nodeCount k left = 10 * (stage k + total (orders left)) + 10
+
+unfoldable pub innerCount : Kind → ℕ → ℕ
+innerCount k left = 10 * (stage k + total (orders left)) + 9
 
 unfoldable pub branchCount : Kind → ℕ → ℕ → ℕ
-branchCount k left number = 9 * (stage k + total (orders left)) + (8 - number)
+branchCount k left number = 10 * (stage k + total (orders left)) + (8 - number)
 
 measured-none : (ts : List Term) → ts ≡ [] → Fits 0 0 ≡ measured ts
 unfolding termsBytes
 measured-none ts e = sym (ap measured e ∙ measured-few [] (omega arith))
+
+pub end-told : (k : Kind) (left scale count : ℕ) (c : Centre) (x : Axis) (times number : ℕ) → Turn k left c x times number → times ≡ 0 → MeasuresFrom k left scale count c x number (Fits 0 0)
+end-told k left scale count c x times number turn e =
+    record {
+      is = λ (p : Path) (f : p .scale ≡ scale) (g : p .count ≡ count) (h : Good k left p). measured-none (termsFrom k left p c x number) (from-none k left c x times number turn p e);
+      small-enough = small-none;
+    }
 
 module _ (k : Kind) (left scale count : ℕ) (may : MeasureMay k left scale count) where
   words : Words (may .path)
@@ -63,6 +73,10 @@ module _ (k : Kind) (left scale count : ℕ) (may : MeasureMay k left scale coun
         small-enough = s;
       }
 
+  pub inner-count : (t : ℕ) → nodeCount k left ≡ t → innerCount k left < t
+  unfolding nodeCount innerCount
+  inner-count t e = omega arith
+
   module _ (some : left ≡ 0 → ⊥) (l : Lowering) (is : l ≡ lowering k (orders left)) where
     pub none-told : l ≡ Nothing → Measures k left scale count (Fits 0 0)
     none-told e =
@@ -72,8 +86,8 @@ module _ (k : Kind) (left scale count : ℕ) (may : MeasureMay k left scale coun
         }
 
     module _ (c : Centre) (x : Axis) (at-them : l ≡ At c x) where
-      pub first-count : (t : ℕ) → nodeCount k left ≡ t → branchCount k left 0 < t
-      unfolding nodeCount branchCount
+      pub first-count : (t : ℕ) → innerCount k left ≡ t → branchCount k left 0 < t
+      unfolding innerCount branchCount
       first-count t e = omega arith
 
       pub turn-first : (times : ℕ) → times ≡ multiplierWord c x (orders left) (branches k c x) → Turn k left c x times 0
@@ -87,13 +101,6 @@ module _ (k : Kind) (left scale count : ℕ) (may : MeasureMay k left scale coun
           }
 
   module _ (c : Centre) (x : Axis) (times number : ℕ) (turn : Turn k left c x times number) where
-    pub end-told : times ≡ 0 → MeasuresFrom k left scale count c x number (Fits 0 0)
-    end-told e =
-        record {
-          is = λ (p : Path) (f : p .scale ≡ scale) (g : p .count ≡ count) (h : Good k left p). measured-none (termsFrom k left p c x number) (from-none k left c x times number turn p e);
-          small-enough = small-none;
-        }
-
     module _ (some : times ≡ 0 → ⊥) where
       pub number-next : number + 1 < 256
       number-next = let h = below-eight k left c x times number turn some in omega arith
@@ -188,3 +195,7 @@ module _ (k : Kind) (left scale count : ℕ) (may : MeasureMay k left scale coun
                   e ∙ ap₂ plus group-is (n .is p f g h ∙ ap (λ (v : ℕ). measured (termsFrom k left p c x (number + v))) width) ∙ sym (group-split k left scale count c x times number turn legal m is first told p f g h);
               small-enough = s;
             }
+
+        -- no multiplier is left after the group
+        pub last-told : (s : ℕ) → s ≡ skipOf w times → s ≡ 0 → Small here → MeasuresFrom k left scale count c x number here
+        last-told s e none small = rest-told (Fits 0 0) here (end-told k left scale count c x s (number + w) (rest-turn s e) none) (plus-none here small) small

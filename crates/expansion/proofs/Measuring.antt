@@ -102,6 +102,16 @@ module _ (m n : Measured) where
         pub plus-small : a + c ≤ mostTerms → Small (Fits (a + c) (b + d))
         plus-small h = small-fits (a + c) (b + d) h (let u = small-bytes m s a b is in let v = small-bytes n t c d too in omega arith)
 
+-- nothing more
+pub plus-none : (m : Measured) → Small m → m ≡ plus m (Fits 0 0)
+unfolding plus
+plus-none (Fits a b) s =
+    let few : a + 0 ≤ mostTerms = omega (arith, small-terms (Fits a b) s a b refl) in
+    let same : a + 0 ≡ a = omega arith in
+    let long : b + 0 ≡ b = omega arith in
+    sym (ap (λ (v : Bool). cond v (Fits (a + 0) (b + 0)) Over) (le-leb (a + 0) mostTerms few) ∙ ap₂ Fits same long)
+plus-none Over s = refl
+
 -- a group of two, or one
 module _ (w : ℕ) (m : Measured) where
   pub group-two : (r : Measured) → w ≡ 2 → r ≡ plus m m → r ≡ groupOf w m

@@ -94,6 +94,15 @@ pub(crate) fn measure_node(kind: Kind, left: u64, scale: u64, count: u64) -> Mea
     if left == 0 {
         return leaf(scale, count);
     }
+    measure_inner(kind, left, scale, count)
+}
+
+// The size of all terms below a state that has an order left.
+fn measure_inner(kind: Kind, left: u64, scale: u64, count: u64) -> Measured
+    requires { ⌜ MeasureMay kind left scale count ⌝ }
+    requires { ⌜ (left ≡ 0 → ⊥) ⌝ }
+    ensures { λ r. ⌜ Measures kind left scale count r ⌝ }
+{
     let lowered = choose(kind, left);
     match lowered {
         Lowering::Nothing => Measured::Fits(0, 0),
@@ -139,6 +148,10 @@ fn measure_branch(
     let first = measure_node(goes_on, left - step.falls, scale * (times % 16), count + 1);
     let alike = width(kind, number);
     let here = group(alike, first);
+    let after = skip(alike, times);
+    if after == 0 {
+        return here;
+    }
     match here {
         Measured::Over => Measured::Over,
         Measured::Fits(_, _) => {
@@ -149,7 +162,7 @@ fn measure_branch(
                 count,
                 centre,
                 axis,
-                skip(alike, times),
+                after,
                 number + alike,
             );
             plus(here, rest)

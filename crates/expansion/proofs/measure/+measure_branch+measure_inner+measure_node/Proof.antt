@@ -1,15 +1,18 @@
--- `+measure_branch+measure_node` meets its contract.
+-- `measure_branch`, `measure_inner` and `measure_node` meet their contracts. Assumes nothing.
 use borrow.Author.Needs.{needs}
-use Rattle.expansion.proofs.Counting.{nodeCount, branchCount, end-told, number-next, skip-count, skip-turn, skip-told, fall-fits, scale-fits, count-fits, child-count, child-measured, rest-number, rest-count, rest-turn, over-told, rest-told, leaf-scale, leaf-count, leaf-told, first-count, turn-first, none-told, first-told}
+use Rattle.expansion.proofs.Counting.{nodeCount, innerCount, branchCount, end-told, number-next, skip-count, skip-turn, skip-told, fall-fits, scale-fits, count-fits, child-count, child-measured, rest-number, rest-count, rest-turn, over-told, last-told, rest-told, leaf-scale, leaf-count, leaf-told, inner-count, first-count, turn-first, none-told, first-told}
 use Prim.Native.Nat.{ℕ, _<_}
 use borrow.Fn.Kinds.{In}
 use borrow.Fn.PlainCycle.{Measures, is, falls, and}
 use Rattle.expansion.proofs.measure.measure_branch.Reads as measure-branch
 use Rattle.expansion.proofs.measure.measure_branch.Kinds as measure-branch-kinds
-use Rattle.expansion.proofs.measure.+measure_branch+measure_node.Lts-measure_branch as measure-branch-lts
+use Rattle.expansion.proofs.measure.+measure_branch+measure_inner+measure_node.Lts-measure_branch as measure-branch-lts
+use Rattle.expansion.proofs.measure.measure_inner.Reads as measure-inner
+use Rattle.expansion.proofs.measure.measure_inner.Kinds as measure-inner-kinds
+use Rattle.expansion.proofs.measure.+measure_branch+measure_inner+measure_node.Lts-measure_inner as measure-inner-lts
 use Rattle.expansion.proofs.measure.measure_node.Reads as measure-node
 use Rattle.expansion.proofs.measure.measure_node.Kinds as measure-node-kinds
-use Rattle.expansion.proofs.measure.+measure_branch+measure_node.Lts-measure_node as measure-node-lts
+use Rattle.expansion.proofs.measure.+measure_branch+measure_inner+measure_node.Lts-measure_node as measure-node-lts
 use Rattle.expansion.proofs.measure.group.Reads as group-reads
 use Rattle.expansion.proofs.measure.leaf.Reads as leaf-reads
 use Rattle.expansion.proofs.measure.plus.Reads as plus-reads
@@ -18,11 +21,14 @@ use Rattle.expansion.proofs.measure.width.Reads as width-reads
 use Rattle.expansion.proofs.walk.choose.Reads as choose-reads
 use Rattle.steps.proofs.branch.Reads as branch-reads
 use Rattle.steps.proofs.multipliers.Reads as multipliers-reads
-use Rattle.expansion.proofs.measure.+measure_branch+measure_node.{statement}
-use Rattle.expansion.proofs.measure.+measure_branch+measure_node.Tie.{close}
+use Rattle.expansion.proofs.measure.+measure_branch+measure_inner+measure_node.{statement}
+use Rattle.expansion.proofs.measure.+measure_branch+measure_inner+measure_node.Tie.{close}
 
 abbrev μ-measure-branch : Measures 0 measure-branch-kinds.ps ℕ
 μ-measure-branch κs a = branchCount (a .0) (a .1 .0) (a .1 .1 .1 .1 .1 .1 .1 .0)
+
+abbrev μ-measure-inner : Measures 0 measure-inner-kinds.ps ℕ
+μ-measure-inner κs a = innerCount (a .0) (a .1 .0)
 
 abbrev μ-measure-node : Measures 0 measure-node-kinds.ps ℕ
 μ-measure-node κs a = nodeCount (a .0) (a .1 .0)
@@ -43,6 +49,18 @@ measure-branch-below t =
     (falls 0 measure-branch-kinds.ps _<_ μ-measure-branch t)
     measure-branch.Pre
 
+abbrev measure-inner-at : ℕ → In 0 measure-inner-kinds.ps
+measure-inner-at t =
+    and 0 measure-inner-kinds.ps (is 0 measure-inner-kinds.ps μ-measure-inner t) measure-inner.Pre
+
+abbrev measure-inner-below : ℕ → In 0 measure-inner-kinds.ps
+measure-inner-below t =
+    and
+    0
+    measure-inner-kinds.ps
+    (falls 0 measure-inner-kinds.ps _<_ μ-measure-inner t)
+    measure-inner.Pre
+
 abbrev measure-node-at : ℕ → In 0 measure-node-kinds.ps
 measure-node-at t =
     and 0 measure-node-kinds.ps (is 0 measure-node-kinds.ps μ-measure-node t) measure-node.Pre
@@ -55,7 +73,7 @@ measure-node-below t =
     (falls 0 measure-node-kinds.ps _<_ μ-measure-node t)
     measure-node.Pre
 
--- src/measure.rt:123:9
+-- src/measure.rt:132:9
 measure-branch-returns : (t : ℕ) → measure-branch-lts.Need-returns (
   measure-branch-below t,
   measure-branch.Post,
@@ -74,7 +92,7 @@ measure-branch-returns : (t : ℕ) → measure-branch-lts.Need-returns (
 ) (measure-branch-at t) measure-branch.Post
 measure-branch-returns t c = search end-told
 
--- src/measure.rt:134:13
+-- src/measure.rt:143:13
 measure-branch-add-measure-branch : (t : ℕ) → measure-branch-lts.Need-add-measure-branch (
   measure-branch-below t,
   measure-branch.Post,
@@ -93,7 +111,7 @@ measure-branch-add-measure-branch : (t : ℕ) → measure-branch-lts.Need-add-me
 ) (measure-branch-at t) measure-branch.Post
 measure-branch-add-measure-branch t c = record { fits = search number-next }
 
--- src/measure.rt:126:9
+-- src/measure.rt:135:9
 measure-branch-measure-branch-requires : (t : ℕ) → measure-branch-lts.Need-measure-branch-requires (
   measure-branch-below t,
   measure-branch.Post,
@@ -112,7 +130,7 @@ measure-branch-measure-branch-requires : (t : ℕ) → measure-branch-lts.Need-m
 ) (measure-branch-at t) measure-branch.Post
 measure-branch-measure-branch-requires t c κs = (search skip-count, (search, search skip-turn))
 
--- src/measure.rt:126:9
+-- src/measure.rt:135:9
 measure-branch-returns-2 : (t : ℕ) → measure-branch-lts.Need-returns-2 (
   measure-branch-below t,
   measure-branch.Post,
@@ -131,7 +149,7 @@ measure-branch-returns-2 : (t : ℕ) → measure-branch-lts.Need-returns-2 (
 ) (measure-branch-at t) measure-branch.Post
 measure-branch-returns-2 t c = search skip-told
 
--- src/measure.rt:137:9
+-- src/measure.rt:146:9
 measure-branch-branch-requires : (t : ℕ) → measure-branch-lts.Need-branch-requires (
   measure-branch-below t,
   measure-branch.Post,
@@ -150,7 +168,7 @@ measure-branch-branch-requires : (t : ℕ) → measure-branch-lts.Need-branch-re
 ) (measure-branch-at t) measure-branch.Post
 measure-branch-branch-requires t c κs = search needs
 
--- src/measure.rt:139:39
+-- src/measure.rt:148:39
 measure-branch-sub-measure-node : (t : ℕ) → measure-branch-lts.Need-sub-measure-node (
   measure-branch-below t,
   measure-branch.Post,
@@ -169,7 +187,7 @@ measure-branch-sub-measure-node : (t : ℕ) → measure-branch-lts.Need-sub-meas
 ) (measure-branch-at t) measure-branch.Post
 measure-branch-sub-measure-node t c = search fall-fits
 
--- src/measure.rt:139:58
+-- src/measure.rt:148:58
 measure-branch-mul-measure-node : (t : ℕ) → measure-branch-lts.Need-mul-measure-node (
   measure-branch-below t,
   measure-branch.Post,
@@ -188,7 +206,7 @@ measure-branch-mul-measure-node : (t : ℕ) → measure-branch-lts.Need-mul-meas
 ) (measure-branch-at t) measure-branch.Post
 measure-branch-mul-measure-node t c = record { fits = search scale-fits }
 
--- src/measure.rt:139:80
+-- src/measure.rt:148:80
 measure-branch-add-measure-node : (t : ℕ) → measure-branch-lts.Need-add-measure-node (
   measure-branch-below t,
   measure-branch.Post,
@@ -207,7 +225,7 @@ measure-branch-add-measure-node : (t : ℕ) → measure-branch-lts.Need-add-meas
 ) (measure-branch-at t) measure-branch.Post
 measure-branch-add-measure-node t c = record { fits = search count-fits }
 
--- src/measure.rt:139:9
+-- src/measure.rt:148:9
 measure-branch-measure-node-requires : (t : ℕ) → measure-branch-lts.Need-measure-node-requires (
   measure-branch-below t,
   measure-branch.Post,
@@ -226,7 +244,7 @@ measure-branch-measure-node-requires : (t : ℕ) → measure-branch-lts.Need-mea
 ) (measure-branch-at t) measure-branch.Post
 measure-branch-measure-node-requires t c κs = (search child-count, search child-measured)
 
--- src/measure.rt:140:9
+-- src/measure.rt:149:9
 measure-branch-width-requires : (t : ℕ) → measure-branch-lts.Need-width-requires (
   measure-branch-below t,
   measure-branch.Post,
@@ -245,7 +263,7 @@ measure-branch-width-requires : (t : ℕ) → measure-branch-lts.Need-width-requ
 ) (measure-branch-at t) measure-branch.Post
 measure-branch-width-requires t c κs = search needs
 
--- src/measure.rt:141:9
+-- src/measure.rt:150:9
 measure-branch-group-requires : (t : ℕ) → measure-branch-lts.Need-group-requires (
   measure-branch-below t,
   measure-branch.Post,
@@ -264,45 +282,7 @@ measure-branch-group-requires : (t : ℕ) → measure-branch-lts.Need-group-requ
 ) (measure-branch-at t) measure-branch.Post
 measure-branch-group-requires t c κs = search
 
--- src/measure.rt:143:27
-measure-branch-enum-told : (t : ℕ) → measure-branch-lts.Need-enum-told (
-  measure-branch-below t,
-  measure-branch.Post,
-  branch-reads.Asked,
-  branch-reads.Learnt,
-  measure-node-below t,
-  measure-node.Post,
-  width-reads.Asked,
-  width-reads.Learnt,
-  group-reads.Asked,
-  group-reads.Learnt,
-  skip-reads.Asked,
-  skip-reads.Learnt,
-  plus-reads.Asked,
-  plus-reads.Learnt,
-) (measure-branch-at t) measure-branch.Post
-measure-branch-enum-told t c = search needs
-
--- src/measure.rt:152:17
-measure-branch-enum-told-2 : (t : ℕ) → measure-branch-lts.Need-enum-told-2 (
-  measure-branch-below t,
-  measure-branch.Post,
-  branch-reads.Asked,
-  branch-reads.Learnt,
-  measure-node-below t,
-  measure-node.Post,
-  width-reads.Asked,
-  width-reads.Learnt,
-  group-reads.Asked,
-  group-reads.Learnt,
-  skip-reads.Asked,
-  skip-reads.Learnt,
-  plus-reads.Asked,
-  plus-reads.Learnt,
-) (measure-branch-at t) measure-branch.Post
-measure-branch-enum-told-2 t c = search needs
-
--- src/measure.rt:152:17
+-- src/measure.rt:151:9
 measure-branch-skip-requires : (t : ℕ) → measure-branch-lts.Need-skip-requires (
   measure-branch-below t,
   measure-branch.Post,
@@ -321,7 +301,64 @@ measure-branch-skip-requires : (t : ℕ) → measure-branch-lts.Need-skip-requir
 ) (measure-branch-at t) measure-branch.Post
 measure-branch-skip-requires t c κs = search needs
 
--- src/measure.rt:153:17
+-- src/measure.rt:153:9
+measure-branch-returns-3 : (t : ℕ) → measure-branch-lts.Need-returns-3 (
+  measure-branch-below t,
+  measure-branch.Post,
+  branch-reads.Asked,
+  branch-reads.Learnt,
+  measure-node-below t,
+  measure-node.Post,
+  width-reads.Asked,
+  width-reads.Learnt,
+  group-reads.Asked,
+  group-reads.Learnt,
+  skip-reads.Asked,
+  skip-reads.Learnt,
+  plus-reads.Asked,
+  plus-reads.Learnt,
+) (measure-branch-at t) measure-branch.Post
+measure-branch-returns-3 t c = search last-told
+
+-- src/measure.rt:156:27
+measure-branch-enum-told : (t : ℕ) → measure-branch-lts.Need-enum-told (
+  measure-branch-below t,
+  measure-branch.Post,
+  branch-reads.Asked,
+  branch-reads.Learnt,
+  measure-node-below t,
+  measure-node.Post,
+  width-reads.Asked,
+  width-reads.Learnt,
+  group-reads.Asked,
+  group-reads.Learnt,
+  skip-reads.Asked,
+  skip-reads.Learnt,
+  plus-reads.Asked,
+  plus-reads.Learnt,
+) (measure-branch-at t) measure-branch.Post
+measure-branch-enum-told t c = search needs
+
+-- src/measure.rt:166:17
+measure-branch-enum-told-2 : (t : ℕ) → measure-branch-lts.Need-enum-told-2 (
+  measure-branch-below t,
+  measure-branch.Post,
+  branch-reads.Asked,
+  branch-reads.Learnt,
+  measure-node-below t,
+  measure-node.Post,
+  width-reads.Asked,
+  width-reads.Learnt,
+  group-reads.Asked,
+  group-reads.Learnt,
+  skip-reads.Asked,
+  skip-reads.Learnt,
+  plus-reads.Asked,
+  plus-reads.Learnt,
+) (measure-branch-at t) measure-branch.Post
+measure-branch-enum-told-2 t c = search needs
+
+-- src/measure.rt:166:17
 measure-branch-add-measure-branch-2 : (t : ℕ) → measure-branch-lts.Need-add-measure-branch-2 (
   measure-branch-below t,
   measure-branch.Post,
@@ -340,7 +377,7 @@ measure-branch-add-measure-branch-2 : (t : ℕ) → measure-branch-lts.Need-add-
 ) (measure-branch-at t) measure-branch.Post
 measure-branch-add-measure-branch-2 t c = record { fits = search rest-number }
 
--- src/measure.rt:145:17
+-- src/measure.rt:158:17
 measure-branch-measure-branch-requires-2 :
     (t : ℕ) → measure-branch-lts.Need-measure-branch-requires-2 (
       measure-branch-below t,
@@ -360,7 +397,7 @@ measure-branch-measure-branch-requires-2 :
     ) (measure-branch-at t) measure-branch.Post
 measure-branch-measure-branch-requires-2 t c κs = (search rest-count, (search, search rest-turn))
 
--- src/measure.rt:155:13
+-- src/measure.rt:168:13
 measure-branch-plus-requires : (t : ℕ) → measure-branch-lts.Need-plus-requires (
   measure-branch-below t,
   measure-branch.Post,
@@ -379,26 +416,7 @@ measure-branch-plus-requires : (t : ℕ) → measure-branch-lts.Need-plus-requir
 ) (measure-branch-at t) measure-branch.Post
 measure-branch-plus-requires t c κs = (search, search)
 
--- src/measure.rt:108:1
-measure-branch-returns-3 : (t : ℕ) → measure-branch-lts.Need-returns-3 (
-  measure-branch-below t,
-  measure-branch.Post,
-  branch-reads.Asked,
-  branch-reads.Learnt,
-  measure-node-below t,
-  measure-node.Post,
-  width-reads.Asked,
-  width-reads.Learnt,
-  group-reads.Asked,
-  group-reads.Learnt,
-  skip-reads.Asked,
-  skip-reads.Learnt,
-  plus-reads.Asked,
-  plus-reads.Learnt,
-) (measure-branch-at t) measure-branch.Post
-measure-branch-returns-3 t c = search over-told
-
--- src/measure.rt:108:1
+-- src/measure.rt:117:1
 measure-branch-returns-4 : (t : ℕ) → measure-branch-lts.Need-returns-4 (
   measure-branch-below t,
   measure-branch.Post,
@@ -415,18 +433,110 @@ measure-branch-returns-4 : (t : ℕ) → measure-branch-lts.Need-returns-4 (
   plus-reads.Asked,
   plus-reads.Learnt,
 ) (measure-branch-at t) measure-branch.Post
-measure-branch-returns-4 t c = search rest-told
+measure-branch-returns-4 t c = search over-told
 
--- src/measure.rt:95:9
-measure-node-leaf-requires : (t : ℕ) → measure-node-lts.Need-leaf-requires (
-  leaf-reads.Asked,
-  leaf-reads.Learnt,
+-- src/measure.rt:117:1
+measure-branch-returns-5 : (t : ℕ) → measure-branch-lts.Need-returns-5 (
+  measure-branch-below t,
+  measure-branch.Post,
+  branch-reads.Asked,
+  branch-reads.Learnt,
+  measure-node-below t,
+  measure-node.Post,
+  width-reads.Asked,
+  width-reads.Learnt,
+  group-reads.Asked,
+  group-reads.Learnt,
+  skip-reads.Asked,
+  skip-reads.Learnt,
+  plus-reads.Asked,
+  plus-reads.Learnt,
+) (measure-branch-at t) measure-branch.Post
+measure-branch-returns-5 t c = search rest-told
+
+-- src/measure.rt:106:9
+measure-inner-choose-requires : (t : ℕ) → measure-inner-lts.Need-choose-requires (
   choose-reads.Asked,
   choose-reads.Learnt,
   multipliers-reads.Asked,
   multipliers-reads.Learnt,
   measure-branch-below t,
   measure-branch.Post,
+) (measure-inner-at t) measure-inner.Post
+measure-inner-choose-requires t c κs = search needs
+
+-- src/measure.rt:108:30
+measure-inner-enum-told : (t : ℕ) → measure-inner-lts.Need-enum-told (
+  choose-reads.Asked,
+  choose-reads.Learnt,
+  multipliers-reads.Asked,
+  multipliers-reads.Learnt,
+  measure-branch-below t,
+  measure-branch.Post,
+) (measure-inner-at t) measure-inner.Post
+measure-inner-enum-told t c = search needs
+
+-- src/measure.rt:109:22
+measure-inner-enum-known-lowered : (t : ℕ) → measure-inner-lts.Need-enum-known-lowered (
+  choose-reads.Asked,
+  choose-reads.Learnt,
+  multipliers-reads.Asked,
+  multipliers-reads.Learnt,
+  measure-branch-below t,
+  measure-branch.Post,
+) (measure-inner-at t) measure-inner.Post
+measure-inner-enum-known-lowered t c = search needs
+
+-- src/measure.rt:110:17
+measure-inner-multipliers-requires : (t : ℕ) → measure-inner-lts.Need-multipliers-requires (
+  choose-reads.Asked,
+  choose-reads.Learnt,
+  multipliers-reads.Asked,
+  multipliers-reads.Learnt,
+  measure-branch-below t,
+  measure-branch.Post,
+) (measure-inner-at t) measure-inner.Post
+measure-inner-multipliers-requires t c κs = search needs
+
+-- src/measure.rt:111:13
+measure-inner-measure-branch-requires : (t : ℕ) → measure-inner-lts.Need-measure-branch-requires (
+  choose-reads.Asked,
+  choose-reads.Learnt,
+  multipliers-reads.Asked,
+  multipliers-reads.Learnt,
+  measure-branch-below t,
+  measure-branch.Post,
+) (measure-inner-at t) measure-inner.Post
+measure-inner-measure-branch-requires t c κs = (search first-count, (search, search turn-first))
+
+-- src/measure.rt:101:1
+measure-inner-returns : (t : ℕ) → measure-inner-lts.Need-returns (
+  choose-reads.Asked,
+  choose-reads.Learnt,
+  multipliers-reads.Asked,
+  multipliers-reads.Learnt,
+  measure-branch-below t,
+  measure-branch.Post,
+) (measure-inner-at t) measure-inner.Post
+measure-inner-returns t c = search none-told
+
+-- src/measure.rt:101:1
+measure-inner-returns-2 : (t : ℕ) → measure-inner-lts.Need-returns-2 (
+  choose-reads.Asked,
+  choose-reads.Learnt,
+  multipliers-reads.Asked,
+  multipliers-reads.Learnt,
+  measure-branch-below t,
+  measure-branch.Post,
+) (measure-inner-at t) measure-inner.Post
+measure-inner-returns-2 t c = search first-told
+
+-- src/measure.rt:95:9
+measure-node-leaf-requires : (t : ℕ) → measure-node-lts.Need-leaf-requires (
+  leaf-reads.Asked,
+  leaf-reads.Learnt,
+  measure-inner-below t,
+  measure-inner.Post,
 ) (measure-node-at t) measure-node.Post
 measure-node-leaf-requires t c κs = (search leaf-scale, search leaf-count)
 
@@ -434,109 +544,32 @@ measure-node-leaf-requires t c κs = (search leaf-scale, search leaf-count)
 measure-node-returns : (t : ℕ) → measure-node-lts.Need-returns (
   leaf-reads.Asked,
   leaf-reads.Learnt,
-  choose-reads.Asked,
-  choose-reads.Learnt,
-  multipliers-reads.Asked,
-  multipliers-reads.Learnt,
-  measure-branch-below t,
-  measure-branch.Post,
+  measure-inner-below t,
+  measure-inner.Post,
 ) (measure-node-at t) measure-node.Post
 measure-node-returns t c = search leaf-told
 
--- src/measure.rt:97:9
-measure-node-choose-requires : (t : ℕ) → measure-node-lts.Need-choose-requires (
+-- src/measure.rt:97:5
+measure-node-measure-inner-requires : (t : ℕ) → measure-node-lts.Need-measure-inner-requires (
   leaf-reads.Asked,
   leaf-reads.Learnt,
-  choose-reads.Asked,
-  choose-reads.Learnt,
-  multipliers-reads.Asked,
-  multipliers-reads.Learnt,
-  measure-branch-below t,
-  measure-branch.Post,
+  measure-inner-below t,
+  measure-inner.Post,
 ) (measure-node-at t) measure-node.Post
-measure-node-choose-requires t c κs = search needs
-
--- src/measure.rt:99:30
-measure-node-enum-told : (t : ℕ) → measure-node-lts.Need-enum-told (
-  leaf-reads.Asked,
-  leaf-reads.Learnt,
-  choose-reads.Asked,
-  choose-reads.Learnt,
-  multipliers-reads.Asked,
-  multipliers-reads.Learnt,
-  measure-branch-below t,
-  measure-branch.Post,
-) (measure-node-at t) measure-node.Post
-measure-node-enum-told t c = search needs
-
--- src/measure.rt:100:22
-measure-node-enum-known-lowered : (t : ℕ) → measure-node-lts.Need-enum-known-lowered (
-  leaf-reads.Asked,
-  leaf-reads.Learnt,
-  choose-reads.Asked,
-  choose-reads.Learnt,
-  multipliers-reads.Asked,
-  multipliers-reads.Learnt,
-  measure-branch-below t,
-  measure-branch.Post,
-) (measure-node-at t) measure-node.Post
-measure-node-enum-known-lowered t c = search needs
-
--- src/measure.rt:101:17
-measure-node-multipliers-requires : (t : ℕ) → measure-node-lts.Need-multipliers-requires (
-  leaf-reads.Asked,
-  leaf-reads.Learnt,
-  choose-reads.Asked,
-  choose-reads.Learnt,
-  multipliers-reads.Asked,
-  multipliers-reads.Learnt,
-  measure-branch-below t,
-  measure-branch.Post,
-) (measure-node-at t) measure-node.Post
-measure-node-multipliers-requires t c κs = search needs
-
--- src/measure.rt:102:13
-measure-node-measure-branch-requires : (t : ℕ) → measure-node-lts.Need-measure-branch-requires (
-  leaf-reads.Asked,
-  leaf-reads.Learnt,
-  choose-reads.Asked,
-  choose-reads.Learnt,
-  multipliers-reads.Asked,
-  multipliers-reads.Learnt,
-  measure-branch-below t,
-  measure-branch.Post,
-) (measure-node-at t) measure-node.Post
-measure-node-measure-branch-requires t c κs = (search first-count, (search, search turn-first))
+measure-node-measure-inner-requires t c κs = (search inner-count, (search, search))
 
 -- src/measure.rt:90:1
 measure-node-returns-2 : (t : ℕ) → measure-node-lts.Need-returns-2 (
   leaf-reads.Asked,
   leaf-reads.Learnt,
-  choose-reads.Asked,
-  choose-reads.Learnt,
-  multipliers-reads.Asked,
-  multipliers-reads.Learnt,
-  measure-branch-below t,
-  measure-branch.Post,
+  measure-inner-below t,
+  measure-inner.Post,
 ) (measure-node-at t) measure-node.Post
-measure-node-returns-2 t c = search none-told
+measure-node-returns-2 t c = search needs
 
--- src/measure.rt:90:1
-measure-node-returns-3 : (t : ℕ) → measure-node-lts.Need-returns-3 (
-  leaf-reads.Asked,
-  leaf-reads.Learnt,
-  choose-reads.Asked,
-  choose-reads.Learnt,
-  multipliers-reads.Asked,
-  multipliers-reads.Learnt,
-  measure-branch-below t,
-  measure-branch.Post,
-) (measure-node-at t) measure-node.Post
-measure-node-returns-3 t c = search first-told
-
-pub +measure-branch+measure-node-spec : {M : Type 1} → statement M
-+measure-branch+measure-node-spec =
-    close μ-measure-branch μ-measure-node (λ t. measure-branch-lts.spec (
+pub +measure-branch+measure-inner+measure-node-spec : {M : Type 1} → statement M
++measure-branch+measure-inner+measure-node-spec =
+    close μ-measure-branch μ-measure-inner μ-measure-node (λ t. measure-branch-lts.spec (
       measure-branch-below t,
       measure-branch.Post,
       branch-reads.Asked,
@@ -565,17 +598,16 @@ pub +measure-branch+measure-node-spec : {M : Type 1} → statement M
     (measure-branch-measure-node-requires t)
     (measure-branch-width-requires t)
     (measure-branch-group-requires t)
+    (measure-branch-skip-requires t)
+    (measure-branch-returns-3 t)
     (measure-branch-enum-told t)
     (measure-branch-enum-told-2 t)
-    (measure-branch-skip-requires t)
     (measure-branch-add-measure-branch-2 t)
     (measure-branch-measure-branch-requires-2 t)
     (measure-branch-plus-requires t)
-    (measure-branch-returns-3 t)
-    (measure-branch-returns-4 t))
-    λ t. measure-node-lts.spec (
-      leaf-reads.Asked,
-      leaf-reads.Learnt,
+    (measure-branch-returns-4 t)
+    (measure-branch-returns-5 t))
+    (λ t. measure-inner-lts.spec (
       choose-reads.Asked,
       choose-reads.Learnt,
       multipliers-reads.Asked,
@@ -583,14 +615,20 @@ pub +measure-branch+measure-node-spec : {M : Type 1} → statement M
       measure-branch-below t,
       measure-branch.Post,
     )
+    (measure-inner-at t)
+    measure-inner.Post
+    (measure-inner-choose-requires t)
+    (measure-inner-enum-told t)
+    (measure-inner-enum-known-lowered t)
+    (measure-inner-multipliers-requires t)
+    (measure-inner-measure-branch-requires t)
+    (measure-inner-returns t)
+    (measure-inner-returns-2 t))
+    λ t. measure-node-lts.spec
+    (leaf-reads.Asked, leaf-reads.Learnt, measure-inner-below t, measure-inner.Post)
     (measure-node-at t)
     measure-node.Post
     (measure-node-leaf-requires t)
     (measure-node-returns t)
-    (measure-node-choose-requires t)
-    (measure-node-enum-told t)
-    (measure-node-enum-known-lowered t)
-    (measure-node-multipliers-requires t)
-    (measure-node-measure-branch-requires t)
+    (measure-node-measure-inner-requires t)
     (measure-node-returns-2 t)
-    (measure-node-returns-3 t)
