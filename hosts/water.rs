@@ -135,7 +135,7 @@ fn main() {
         });
         let names: String = functions.iter().map(|f| format!(" {:4}", f.name)).collect();
         let difference = (ours - should).abs();
-        println!("{}{names} {ours:22.16e} {should:22.16e} {difference:7.1e}", NAMES[kind as usize]);
+        println!("{}{names} {ours:23.16e} {should:23.16e} {difference:7.1e}", NAMES[kind as usize]);
         let (values, largest, worst) = seen[kind as usize];
         seen[kind as usize] = (values + 1, should.abs().max(largest), difference.max(worst));
     }
