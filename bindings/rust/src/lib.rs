@@ -2,7 +2,9 @@
 //!
 //! Every call answers every input, by an enum: what was asked for, or a [`Refusal`]. No call allocates, keeps anything
 //! or has state of its own. include/xewumbal.h says more of each call, and docs/01-scope.md defines terms and rolls.
-//! Kinds and orders are plain bytes, so that a wrong one is refused and not lost.
+//! Kinds and orders are plain bytes: a wrong one is refused, as every wrong input is.
+//!
+//! To build, `XEWUMBAL_ARCHIVE` names the folder of libxewumbal.a, which `./run archive` makes.
 //!
 //! ```
 //! use xewumbal::{evaluate, expand, Centre, Expanded, Value, OVERLAP};
@@ -210,11 +212,13 @@ pub fn check(roll: &[u8]) -> Opened {
 impl Cursor {
     /// The term here, and the cursor for the next call.
     pub fn next(self, roll: &[u8]) -> Step {
-        let raw::Step { next, scale, boys, count, prefactors, .. } = match raw::next(self, roll) {
-            answer if answer.found == 1 => answer,
-            answer => return Refusal::of(answer.refusal, answer.place).map_or(Step::End, Step::Refused),
-        };
-        Step::Term { term: Term { scale, boys, count, prefactors }, next }
+        let answer = raw::next(self, roll);
+        let raw::Step { next, scale, boys, count, prefactors, found, .. } = answer;
+        match Refusal::of(answer.refusal, answer.place) {
+            Some(refusal) => Step::Refused(refusal),
+            None if found == 1 => Step::Term { term: Term { scale, boys, count, prefactors }, next },
+            None => Step::End,
+        }
     }
 }
 
