@@ -1,0 +1,248 @@
+//! Gaussian integrals by the recurrences of Obara and Saika: safe functions over libxewumbal.a, which is proved.
+//!
+//! Every call answers every input, by an enum: what was asked for, or a [`Refusal`]. No call allocates, keeps anything
+//! or has state of its own. include/xewumbal.h says more of each call, and docs/01-scope.md defines terms and rolls.
+//! Kinds and orders are plain bytes: a wrong one is refused, as every wrong input is.
+//!
+//! To build, `XEWUMBAL_ARCHIVE` names the folder of libxewumbal.a, which `./run archive` makes.
+//!
+//! ```
+//! use xewumbal::{evaluate, expand, Centre, Expanded, Value, OVERLAP};
+//!
+//! let mut room = [0; 100];
+//! let length = match expand(OVERLAP, &[1, 0, 0, 1, 0, 0, 0, 0, 0, 0, 0, 0], &mut room, 0) {
+//!     Expanded::Roll { length, .. } => length,
+//!     Expanded::Refused(refusal) => panic!("refused {}: {refusal}", refusal.number()),
+//! };
+//! let a = Centre { x: 0.0, y: 0.0, z: 0.0, exponent: 1.0 };
+//! let none = Centre::default();
+//! assert_eq!(evaluate(&room[..length], a, a, none, none, 1.0, &[]), Value::Is(0.25));
+//! ```
+#![no_std]
+#![deny(missing_docs, unsafe_code)]
+
+#[allow(missing_docs, unsafe_code)]
+mod raw;
+#[allow(missing_docs)]
+mod refusal;
+
+pub use raw::{Centre, Cursor};
+pub use refusal::Refusal;
+
+/// The version of include/xewumbal.h.
+pub const VERSION: u32 = 1;
+
+/// Kinds are 0 to 4.
+pub const KINDS: u8 = 5;
+/// The orders of a request, used by its kind or not.
+pub const ORDERS: usize = 12;
+/// The order sum of a centre, of the operator, of a shell.
+pub const MOST_ORDER: u8 = 4;
+/// The terms of a roll.
+pub const MOST_TERMS: u32 = 65535;
+/// The scale of a term.
+pub const MOST_SCALE: u32 = 65536;
+/// The rows of J, K and D.
+pub const MOST_SIZE: usize = 16;
+/// The places for a term's prefactors.
+pub const PREFACTORS: usize = 16;
+/// The places for a table's entries: 8, 11, 11, 12 or 23 of them by kind.
+pub const TABLE: usize = 23;
+
+/// Kind 0.
+pub const OVERLAP: u8 = 0;
+/// Kind 1.
+pub const KINETIC: u8 = 1;
+/// Kind 2.
+pub const NUCLEAR: u8 = 2;
+/// Kind 3.
+pub const MOMENT: u8 = 3;
+/// Kind 4.
+pub const COULOMB: u8 = 4;
+
+/// The answer of [`expand`].
+#[derive(Clone, Copy, Debug, PartialEq, Eq)]
+pub enum Expanded {
+    /// The roll has `length` bytes from the start place on, and `terms` terms.
+    #[allow(missing_docs)]
+    Roll { length: usize, terms: u32 },
+    /// By 1, 2, 3, 5, 4 or 6.
+    Refused(Refusal),
+}
+
+/// The answer of [`shell_list`].
+#[derive(Clone, Copy, Debug, PartialEq, Eq)]
+pub enum Listed {
+    /// The list has `length` bytes from the start place on, three for each of its `triples`.
+    #[allow(missing_docs)]
+    Triples { length: usize, triples: u32 },
+    /// By 2, 5 or 6.
+    Refused(Refusal),
+}
+
+/// The answer of [`shell2`] and [`shell4`].
+#[derive(Clone, Copy, Debug, PartialEq, Eq)]
+pub enum Component {
+    /// The shells' orders, x y z each; for a pair zeros after them.
+    Orders([u8; ORDERS]),
+    /// By 2 or 13.
+    Refused(Refusal),
+}
+
+/// The answer of [`open`] and [`check`].
+#[derive(Clone, Copy, Debug, PartialEq, Eq)]
+pub enum Opened {
+    /// The cursor at the first term, and the roll's orders, zeros after those that its kind uses.
+    #[allow(missing_docs)]
+    Roll { cursor: Cursor, orders: [u8; ORDERS] },
+    /// By 7.
+    Refused(Refusal),
+}
+
+/// A term of a roll.
+#[derive(Clone, Copy, Debug, PartialEq, Eq)]
+pub struct Term {
+    /// What its product is multiplied by.
+    pub scale: u32,
+    /// Its Boys order.
+    pub boys: u8,
+    count: u8,
+    prefactors: [u8; PREFACTORS],
+}
+
+impl Term {
+    /// Its prefactors, as places of the kind's table.
+    pub fn prefactors(&self) -> &[u8] {
+        &self.prefactors[..usize::from(self.count)]
+    }
+}
+
+/// The answer of [`Cursor::next`].
+#[derive(Clone, Copy, Debug, PartialEq, Eq)]
+pub enum Step {
+    /// The term at the cursor, and the cursor one term further on.
+    #[allow(missing_docs)]
+    Term { term: Term, next: Cursor },
+    /// No term is left, and nothing follows.
+    End,
+    /// By 7.
+    Refused(Refusal),
+}
+
+/// The answer of [`prefactors`].
+#[derive(Clone, Copy, Debug, PartialEq)]
+pub enum Table {
+    /// The kind's table, 0.0 in the places left.
+    Entries([f64; TABLE]),
+    /// By 1, 8, 9 or 11.
+    Refused(Refusal),
+}
+
+/// The answer of [`evaluate`].
+#[derive(Clone, Copy, Debug, PartialEq)]
+pub enum Value {
+    /// The integral.
+    Is(f64),
+    /// By 7, 8, 9, 10 or 11.
+    Refused(Refusal),
+}
+
+/// The answer of [`jk`].
+#[derive(Clone, Copy, Debug, PartialEq, Eq)]
+pub enum Matrices {
+    /// J and K are written.
+    Written,
+    /// By 12, 8 or 11.
+    Refused(Refusal),
+}
+
+/// Writes the roll of a request into `out` from `start` on: every term of the integral. 1,048,576 bytes hold any roll.
+pub fn expand(kind: u8, orders: &[u8; ORDERS], out: &mut [u8], start: usize) -> Expanded {
+    let answer = raw::expand(kind, orders, out, start);
+    match Refusal::of(answer.refusal, 0) {
+        Some(refusal) => Expanded::Refused(refusal),
+        None => Expanded::Roll { length: answer.length, terms: answer.terms },
+    }
+}
+
+/// Writes the triples of a shell into `out` from `start` on, three bytes each, x descending, then y.
+pub fn shell_list(order: u8, out: &mut [u8], start: usize) -> Listed {
+    let answer = raw::shell_list(order, out, start);
+    match Refusal::of(answer.refusal, 0) {
+        Some(refusal) => Listed::Refused(refusal),
+        None => Listed::Triples { length: answer.length, triples: answer.terms },
+    }
+}
+
+fn component(answer: raw::Component) -> Component {
+    match Refusal::of(answer.refusal, 0) {
+        Some(refusal) => Component::Refused(refusal),
+        None => Component::Orders(answer.orders),
+    }
+}
+
+/// A component of two shells by its number, from 0, the last shell fastest.
+pub fn shell2(a: u8, b: u8, number: u32) -> Component {
+    component(raw::shell2(a, b, number))
+}
+
+/// A component of four shells by its number, from 0, the last shell fastest.
+pub fn shell4(a: u8, b: u8, c: u8, d: u8, number: u32) -> Component {
+    component(raw::shell4(a, b, c, d, number))
+}
+
+fn opened(answer: raw::Opened) -> Opened {
+    match Refusal::of(answer.refusal, answer.place) {
+        Some(refusal) => Opened::Refused(refusal),
+        None => Opened::Roll { cursor: answer.cursor, orders: answer.orders },
+    }
+}
+
+/// Reads the header of a roll alone: it says nothing of the terms. `roll` is exactly the roll's bytes.
+pub fn open(roll: &[u8]) -> Opened {
+    opened(raw::open(roll))
+}
+
+/// Judges the whole roll: the same answer as [`open`] where every term reads and nothing follows. Call it before
+/// stepping through a roll that came from elsewhere, or summing over one: an unfinished roll opens.
+pub fn check(roll: &[u8]) -> Opened {
+    opened(raw::check(roll))
+}
+
+impl Cursor {
+    /// The term here, and the cursor for the next call.
+    pub fn next(self, roll: &[u8]) -> Step {
+        let answer = raw::next(self, roll);
+        let raw::Step { next, scale, boys, count, prefactors, found, .. } = answer;
+        match Refusal::of(answer.refusal, answer.place) {
+            Some(refusal) => Step::Refused(refusal),
+            None if found == 1 => Step::Term { term: Term { scale, boys, count, prefactors }, next },
+            None => Step::End,
+        }
+    }
+}
+
+/// The prefactor table of a kind, as the sums use it.
+pub fn prefactors(kind: u8, a: Centre, b: Centre, c: Centre, d: Centre) -> Table {
+    let answer = raw::prefactors(kind, a, b, c, d);
+    match Refusal::of(answer.refusal, 0) {
+        Some(refusal) => Table::Refused(refusal),
+        None => Table::Entries(answer.entries),
+    }
+}
+
+/// The integral over a roll, which is judged whole first. `aux` is the factor of every term (Coulomb: s); `boys` are
+/// F(0) to F(L) for kinds 2 and 4, and none for the others.
+pub fn evaluate(roll: &[u8], a: Centre, b: Centre, c: Centre, d: Centre, aux: f64, boys: &[f64]) -> Value {
+    let answer = raw::evaluate(roll, a, b, c, d, aux, boys);
+    match Refusal::of(answer.refusal, answer.place) {
+        Some(refusal) => Value::Refused(refusal),
+        None => Value::Is(answer.value),
+    }
+}
+
+/// Writes J and K of the integrals `i` and the density `d`, row by row: `n` is 1 to 16, `i` has n⁴ floats, `d`, `j` and `k`
+/// have n².
+pub fn jk(n: usize, i: &[f64], d: &[f64], j: &mut [f64], k: &mut [f64]) -> Matrices {
+    Refusal::of(raw::jk(n, i, d, j, k), 0).map_or(Matrices::Written, Matrices::Refused)
+}

@@ -1,0 +1,137 @@
+//! The structs and functions of include/xewumbal.h, and every `unsafe` of the crate: each function here lends slices as
+//! a pointer and a length, and the library reads and writes within them, during the call alone.
+use crate::{ORDERS, PREFACTORS, TABLE};
+use core::mem::size_of;
+
+/// A centre: three coordinates and an exponent. Kinds 0 and 1 use A and B; 2 and 3 also C's coordinates; 4 uses A to D.
+/// Unused floats are not looked at.
+#[repr(C)]
+#[derive(Clone, Copy, Debug, Default, PartialEq)]
+pub struct Centre {
+    pub x: f64,
+    pub y: f64,
+    pub z: f64,
+    pub exponent: f64,
+}
+
+/// Where a reader of a roll stands: the place of the next term, the terms left, the roll's kind and its L. `open` and
+/// `check` give one; one that was made up is answered too.
+#[repr(C)]
+#[derive(Clone, Copy, Debug, Default, PartialEq, Eq)]
+pub struct Cursor {
+    pub place: usize,
+    pub left: u32,
+    pub kind: u8,
+    pub l: u8,
+}
+
+#[repr(C)]
+pub struct Written {
+    pub length: usize,
+    pub terms: u32,
+    pub refusal: u8,
+}
+
+#[repr(C)]
+pub struct Value {
+    pub value: f64,
+    pub place: usize,
+    pub refusal: u8,
+}
+
+#[repr(C)]
+pub struct Component {
+    pub orders: [u8; ORDERS],
+    pub refusal: u8,
+}
+
+#[repr(C)]
+pub struct Table {
+    pub entries: [f64; TABLE],
+    pub refusal: u8,
+}
+
+#[repr(C)]
+pub struct Opened {
+    pub cursor: Cursor,
+    pub place: usize,
+    pub orders: [u8; ORDERS],
+    pub refusal: u8,
+}
+
+#[repr(C)]
+pub struct Step {
+    pub next: Cursor,
+    pub place: usize,
+    pub scale: u32,
+    pub boys: u8,
+    pub count: u8,
+    pub prefactors: [u8; PREFACTORS],
+    pub found: u8,
+    pub refusal: u8,
+}
+
+// The sizes that a C compiler gives the structs.
+const _: () = assert!(size_of::<Centre>() == 32 && size_of::<Cursor>() == 16);
+const _: () = assert!(size_of::<Written>() == 16 && size_of::<Value>() == 24);
+const _: () = assert!(size_of::<Component>() == 13 && size_of::<Table>() == 192);
+const _: () = assert!(size_of::<Opened>() == 40 && size_of::<Step>() == 48);
+
+#[rustfmt::skip]
+extern "C" {
+    fn xew_expand(kind: u8, orders: *const [u8; ORDERS], out: *mut u8, out_len: usize, start: usize) -> Written;
+    fn xew_shell_list(order: u8, out: *mut u8, out_len: usize, start: usize) -> Written;
+    fn xew_shell2(a: u8, b: u8, number: u32) -> Component;
+    fn xew_shell4(a: u8, b: u8, c: u8, d: u8, number: u32) -> Component;
+    fn xew_open(roll: *const u8, roll_len: usize) -> Opened;
+    fn xew_check(roll: *const u8, roll_len: usize) -> Opened;
+    fn xew_next(cursor: Cursor, roll: *const u8, roll_len: usize) -> Step;
+    fn xew_prefactors(kind: u8, a: Centre, b: Centre, c: Centre, d: Centre) -> Table;
+    fn xew_evaluate(roll: *const u8, roll_len: usize, a: Centre, b: Centre, c: Centre, d: Centre,
+                    aux: f64, boys: *const f64, boys_len: usize) -> Value;
+    fn xew_jk(n: usize, i: *const f64, i_len: usize, d: *const f64, d_len: usize,
+              j: *mut f64, j_len: usize, k: *mut f64, k_len: usize) -> u8;
+}
+
+pub fn expand(kind: u8, orders: &[u8; ORDERS], out: &mut [u8], start: usize) -> Written {
+    unsafe { xew_expand(kind, orders, out.as_mut_ptr(), out.len(), start) }
+}
+
+pub fn shell_list(order: u8, out: &mut [u8], start: usize) -> Written {
+    unsafe { xew_shell_list(order, out.as_mut_ptr(), out.len(), start) }
+}
+
+pub fn shell2(a: u8, b: u8, number: u32) -> Component {
+    unsafe { xew_shell2(a, b, number) }
+}
+
+pub fn shell4(a: u8, b: u8, c: u8, d: u8, number: u32) -> Component {
+    unsafe { xew_shell4(a, b, c, d, number) }
+}
+
+pub fn open(roll: &[u8]) -> Opened {
+    unsafe { xew_open(roll.as_ptr(), roll.len()) }
+}
+
+pub fn check(roll: &[u8]) -> Opened {
+    unsafe { xew_check(roll.as_ptr(), roll.len()) }
+}
+
+pub fn next(cursor: Cursor, roll: &[u8]) -> Step {
+    unsafe { xew_next(cursor, roll.as_ptr(), roll.len()) }
+}
+
+pub fn prefactors(kind: u8, a: Centre, b: Centre, c: Centre, d: Centre) -> Table {
+    unsafe { xew_prefactors(kind, a, b, c, d) }
+}
+
+pub fn evaluate(roll: &[u8], a: Centre, b: Centre, c: Centre, d: Centre, aux: f64, boys: &[f64]) -> Value {
+    unsafe { xew_evaluate(roll.as_ptr(), roll.len(), a, b, c, d, aux, boys.as_ptr(), boys.len()) }
+}
+
+#[rustfmt::skip]
+pub fn jk(n: usize, i: &[f64], d: &[f64], j: &mut [f64], k: &mut [f64]) -> u8 {
+    unsafe {
+        xew_jk(n, i.as_ptr(), i.len(), d.as_ptr(), d.len(), j.as_mut_ptr(), j.len(), k.as_mut_ptr(), k.len())
+    }
+}

@@ -1,0 +1,80 @@
+//! The thirteen refusals, by document 01's numbers and words.
+use core::fmt;
+
+/// Why a call refused. Nothing that was lent has changed then.
+#[derive(Clone, Copy, Debug, PartialEq, Eq)]
+pub enum Refusal {
+    Kind,
+    OrderSum,
+    UnusedOrder,
+    TooManyTerms,
+    StartBeyondEnd,
+    NoRoom,
+    /// The place in the roll of the number that is missing, cut or wrong, or of the first byte too many.
+    BadRoll {
+        place: usize,
+    },
+    InputNotFinite,
+    Exponent,
+    BoysCount,
+    ResultNotFinite,
+    MatrixSize,
+    ComponentNumber,
+}
+
+impl Refusal {
+    /// Document 01's number.
+    pub const fn number(self) -> u8 {
+        self.both().0
+    }
+
+    /// Document 01's words.
+    pub const fn words(self) -> &'static str {
+        self.both().1
+    }
+
+    const fn both(self) -> (u8, &'static str) {
+        match self {
+            Refusal::Kind => (1, "kind above 4"),
+            Refusal::OrderSum => (2, "an order sum the kind uses, or a shell's order, above 4"),
+            Refusal::UnusedOrder => (3, "one of the twelve orders unused by the kind is not 0"),
+            Refusal::TooManyTerms => (4, "more than 65,535 complete histories"),
+            Refusal::StartBeyondEnd => (5, "start place beyond the buffer's end"),
+            Refusal::NoRoom => (6, "the whole output doesn't fit from the start place"),
+            Refusal::BadRoll { .. } => (7, "roll breaks a rule; place says where"),
+            Refusal::InputNotFinite => (8, "a used input float is not finite"),
+            Refusal::Exponent => (9, "a used exponent is 0 or less"),
+            Refusal::BoysCount => (10, "Boys numbers are not exactly L+1 (kinds 2, 4) or 0 (others)"),
+            Refusal::ResultNotFinite => (11, "a geometry number, table entry or result is not finite"),
+            Refusal::MatrixSize => (12, "matrix size out of range, or a slice length wrong for it"),
+            Refusal::ComponentNumber => (13, "component number not below the count"),
+        }
+    }
+
+    /// The refusal of an answer: none for 0.
+    pub(crate) fn of(number: u8, place: usize) -> Option<Refusal> {
+        Some(match number {
+            0 => return None,
+            1 => Refusal::Kind,
+            2 => Refusal::OrderSum,
+            3 => Refusal::UnusedOrder,
+            4 => Refusal::TooManyTerms,
+            5 => Refusal::StartBeyondEnd,
+            6 => Refusal::NoRoom,
+            7 => Refusal::BadRoll { place },
+            8 => Refusal::InputNotFinite,
+            9 => Refusal::Exponent,
+            10 => Refusal::BoysCount,
+            11 => Refusal::ResultNotFinite,
+            12 => Refusal::MatrixSize,
+            13 => Refusal::ComponentNumber,
+            _ => panic!("libxewumbal.a is not of this binding's version: refusal {number}"),
+        })
+    }
+}
+
+impl fmt::Display for Refusal {
+    fn fmt(&self, out: &mut fmt::Formatter) -> fmt::Result {
+        out.pad(self.words())
+    }
+}

@@ -1,0 +1,174 @@
+//! The binding's answers are document 01's.
+use xewumbal::*;
+
+const HEADER: &str = include_str!("../../../include/xewumbal.h");
+
+/// Document 01's roll of overlap Ax1 Bx1, whose terms are [0,1] and [7].
+const ROLL: [u8; 17] = [0, 1, 0, 0, 1, 0, 0, 2, 1, 0, 2, 0, 1, 1, 0, 1, 7];
+const ROLL_ORDERS: [u8; ORDERS] = [1, 0, 0, 1, 0, 0, 0, 0, 0, 0, 0, 0];
+
+const UNIT: Centre = Centre { x: 0.0, y: 0.0, z: 0.0, exponent: 1.0 };
+const UNTOUCHED: u8 = 0xa5;
+
+fn one_at(places: &[usize]) -> [u8; ORDERS] {
+    let mut orders = [0; ORDERS];
+    places.iter().for_each(|&place| orders[place] = 1);
+    orders
+}
+
+/// The terms of a roll, each as scale, Boys order and prefactors.
+fn terms(roll: &[u8]) -> Vec<(u32, u8, Vec<u8>)> {
+    let mut cursor = match check(roll) {
+        Opened::Roll { cursor, .. } => cursor,
+        refused => panic!("{refused:?}"),
+    };
+    let mut found = vec![];
+    loop {
+        match cursor.next(roll) {
+            Step::Term { term, next } => {
+                found.push((term.scale, term.boys, term.prefactors().to_vec()));
+                cursor = next;
+            }
+            Step::End => return found,
+            Step::Refused(refusal) => panic!("{refusal:?}"),
+        }
+    }
+}
+
+fn expanded(kind: u8, orders: [u8; ORDERS]) -> Vec<u8> {
+    let mut room = vec![0; 1 << 20];
+    match expand(kind, &orders, &mut room, 0) {
+        Expanded::Roll { length, .. } => room[..length].to_vec(),
+        refused => panic!("{refused:?}"),
+    }
+}
+
+#[test]
+fn the_roll_stands_where_it_was_asked_for() {
+    let mut room = [UNTOUCHED; 20];
+    assert_eq!(expand(OVERLAP, &ROLL_ORDERS, &mut room, 2), Expanded::Roll { length: 17, terms: 2 });
+    assert_eq!(room[..2], [UNTOUCHED; 2]);
+    assert_eq!(room[2..19], ROLL);
+    assert_eq!(room[19], UNTOUCHED);
+}
+
+#[test]
+fn terms_of_the_printed_cases() {
+    assert_eq!(terms(&ROLL), [(1, 0, vec![0, 1]), (1, 0, vec![7])]);
+    let three = expanded(OVERLAP, [3, 0, 0, 0, 0, 0, 0, 0, 0, 0, 0, 0]);
+    assert_eq!(terms(&three), [(1, 0, vec![0, 0, 0]), (1, 0, vec![0, 6]), (2, 0, vec![6, 0])]);
+    assert_eq!(terms(&expanded(KINETIC, one_at(&[0]))), [(1, 0, vec![0]), (1, 0, vec![8, 0])]);
+    assert_eq!(terms(&expanded(NUCLEAR, one_at(&[0]))), [(1, 0, vec![0]), (1, 1, vec![6])]);
+    assert_eq!(terms(&expanded(MOMENT, one_at(&[0, 6]))), [(1, 0, vec![0, 6]), (1, 0, vec![11])]);
+    let coulomb = [(1, 0, vec![0, 2]), (1, 1, vec![0, 5]), (1, 1, vec![4, 2]), (1, 2, vec![4, 5]), (1, 1, vec![22])];
+    assert_eq!(terms(&expanded(COULOMB, one_at(&[0, 6]))), coulomb);
+}
+
+#[test]
+fn open_and_check() {
+    let cursor = Cursor { place: 8, left: 2, kind: 0, l: 2 };
+    assert_eq!(check(&ROLL), Opened::Roll { cursor, orders: ROLL_ORDERS });
+    assert_eq!(open(&ROLL), check(&ROLL));
+    assert_eq!(open(&ROLL[..16]), open(&ROLL));
+    assert_eq!(check(&ROLL[..16]), Opened::Refused(Refusal::BadRoll { place: 16 }));
+    assert_eq!(check(&[0x80, 0]), Opened::Refused(Refusal::BadRoll { place: 0 }));
+}
+
+#[test]
+fn a_cursor_that_was_made_up() {
+    let made_up = |place, left, kind| Cursor { place, left, kind, l: 2 }.next(&ROLL);
+    assert_eq!(made_up(18, 1, OVERLAP), Step::Refused(Refusal::BadRoll { place: 18 }));
+    assert_eq!(made_up(16, 0, OVERLAP), Step::Refused(Refusal::BadRoll { place: 16 }));
+    assert_eq!(made_up(3, 1, 5), Step::Refused(Refusal::BadRoll { place: 3 }));
+    assert_eq!(made_up(17, 0, OVERLAP), Step::End);
+}
+
+#[test]
+fn shells() {
+    let mut room = [UNTOUCHED; 19];
+    assert_eq!(shell_list(2, &mut room, 0), Listed::Triples { length: 18, triples: 6 });
+    assert_eq!(room[..18], [2, 0, 0, 1, 1, 0, 1, 0, 1, 0, 2, 0, 0, 1, 1, 0, 0, 2]);
+    assert_eq!(room[18], UNTOUCHED);
+    assert_eq!(shell2(1, 1, 1), Component::Orders([1, 0, 0, 0, 1, 0, 0, 0, 0, 0, 0, 0]));
+    assert_eq!(shell4(0, 1, 0, 1, 5), Component::Orders([0, 0, 0, 0, 1, 0, 0, 0, 0, 0, 0, 1]));
+    assert_eq!(shell4(4, 4, 4, 4, 50624), Component::Orders([0, 0, 4, 0, 0, 4, 0, 0, 4, 0, 0, 4]));
+}
+
+#[test]
+fn values() {
+    let none = Centre::default();
+    assert_eq!(evaluate(&ROLL, UNIT, UNIT, none, none, 1.0, &[]), Value::Is(0.25));
+    let mut entries = [0.0; TABLE];
+    (entries[6], entries[7]) = (0.25, 0.25);
+    assert_eq!(prefactors(OVERLAP, UNIT, UNIT, none, none), Table::Entries(entries));
+    let (mut j, mut k) = ([9.0], [9.0]);
+    assert_eq!(jk(1, &[0.5], &[3.0], &mut j, &mut k), Matrices::Written);
+    assert_eq!((j, k), ([1.5], [1.5]));
+}
+
+/// J is the sum of I(mu, nu, lambda, sigma) D(lambda, sigma), K that of I(mu, lambda, nu, sigma) D(lambda, sigma).
+#[test]
+fn j_and_k_are_not_exchanged() {
+    let mut i = [0.0; 16];
+    i[0b0011] = 1.0;
+    let d = [0.0, 0.0, 0.0, 2.0];
+    let (mut j, mut k) = ([9.0; 4], [9.0; 4]);
+    assert_eq!(jk(2, &i, &d, &mut j, &mut k), Matrices::Written);
+    assert_eq!((j, k), ([2.0, 0.0, 0.0, 0.0], [0.0; 4]));
+}
+
+macro_rules! refusal {
+    ($answer:ident, $call:expr) => {
+        match $call {
+            $answer::Refused(refusal) => refusal,
+            other => panic!("{other:?}"),
+        }
+    };
+}
+
+/// A call for each refusal.
+fn refusals() -> [(u8, Refusal); 13] {
+    let mut room = [UNTOUCHED; 10];
+    let mut request = |kind, orders, start| refusal!(Expanded, expand(kind, &orders, &mut room, start));
+    let sum = |roll, a, boys| refusal!(Value, evaluate(roll, a, UNIT, UNIT, UNIT, 1.0, boys));
+    let found = [
+        (1, request(5, [0; ORDERS], 0)),
+        (2, request(OVERLAP, [5, 0, 0, 0, 0, 0, 0, 0, 0, 0, 0, 0], 0)),
+        (3, request(OVERLAP, one_at(&[6]), 0)),
+        (4, request(COULOMB, [4, 0, 0, 4, 0, 0, 4, 0, 0, 4, 0, 0], 0)),
+        (5, request(OVERLAP, [0; ORDERS], 11)),
+        (6, request(OVERLAP, [0; ORDERS], 10)),
+        (7, sum(&ROLL[..16], UNIT, &[])),
+        (8, sum(&ROLL, Centre { x: f64::NAN, ..UNIT }, &[])),
+        (9, sum(&ROLL, Centre { exponent: -0.0, ..UNIT }, &[])),
+        (10, sum(&ROLL, UNIT, &[1.0])),
+        (11, sum(&ROLL, Centre { x: 1e155, ..UNIT }, &[])),
+        (12, refusal!(Matrices, jk(0, &[], &[], &mut [], &mut []))),
+        (13, refusal!(Component, shell2(0, 0, 1))),
+    ];
+    assert_eq!(room, [UNTOUCHED; 10]);
+    found
+}
+
+#[test]
+fn each_refusal_comes_up_with_the_words_of_the_header() {
+    for (number, refusal) in refusals() {
+        assert_eq!(refusal.number(), number);
+        assert!(HEADER.contains(&format!("\n *   {number:2}  {refusal}\n")), "{number} {refusal}");
+        assert_eq!(refusal.words(), refusal.to_string());
+    }
+    assert_eq!(refusals()[6].1, Refusal::BadRoll { place: 16 });
+}
+
+#[test]
+fn the_other_ways_to_refuse() {
+    let mut room = [UNTOUCHED; 18];
+    assert_eq!(shell_list(5, &mut room, 0), Listed::Refused(Refusal::OrderSum));
+    assert_eq!(shell_list(2, &mut room, 19), Listed::Refused(Refusal::StartBeyondEnd));
+    assert_eq!(shell_list(2, &mut room, 1), Listed::Refused(Refusal::NoRoom));
+    assert_eq!(room, [UNTOUCHED; 18]);
+    assert_eq!(prefactors(5, UNIT, UNIT, UNIT, UNIT), Table::Refused(Refusal::Kind));
+    assert_eq!(shell4(4, 4, 4, 4, 50625), Component::Refused(Refusal::ComponentNumber));
+    assert_eq!(open(&[]), Opened::Refused(Refusal::BadRoll { place: 0 }));
+    assert_eq!(expand(OVERLAP, &[0; ORDERS], &mut [], 0), Expanded::Refused(Refusal::NoRoom));
+}

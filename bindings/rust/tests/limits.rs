@@ -1,0 +1,103 @@
+//! Each limit by behaviour: the library takes it and refuses one more.
+use xewumbal::*;
+
+/// A number of a roll: seven bits a byte, lowest first.
+fn number(mut n: u32) -> Vec<u8> {
+    let mut bytes = vec![];
+    while n > 127 {
+        bytes.push((n & 127 | 128) as u8);
+        n >>= 7;
+    }
+    bytes.push(n as u8);
+    bytes
+}
+
+/// A roll of overlap s,s with a term count and terms of any bytes.
+fn roll(count: u32, terms: &[u8]) -> Vec<u8> {
+    [vec![0; 7], number(count), terms.to_vec()].concat()
+}
+
+fn expand_first(kind: u8, order: u8) -> Expanded {
+    let mut orders = [0; ORDERS];
+    orders[0] = order;
+    expand(kind, &orders, &mut [0; 1000], 0)
+}
+
+#[test]
+fn most_order() {
+    assert!(matches!(expand_first(OVERLAP, MOST_ORDER), Expanded::Roll { .. }));
+    assert_eq!(expand_first(OVERLAP, MOST_ORDER + 1), Expanded::Refused(Refusal::OrderSum));
+    assert!(matches!(shell_list(MOST_ORDER, &mut [0; 100], 0), Listed::Triples { .. }));
+    assert_eq!(shell_list(MOST_ORDER + 1, &mut [0; 100], 0), Listed::Refused(Refusal::OrderSum));
+}
+
+#[test]
+fn kinds() {
+    assert!(matches!(expand_first(KINDS - 1, 0), Expanded::Roll { .. }));
+    assert_eq!(expand_first(KINDS, 0), Expanded::Refused(Refusal::Kind));
+}
+
+#[test]
+fn most_size() {
+    for n in [MOST_SIZE, MOST_SIZE + 1] {
+        let (i, d, mut j, mut k) = (vec![1.0; n * n * n * n], vec![1.0; n * n], vec![0.0; n * n], vec![0.0; n * n]);
+        let answer = jk(n, &i, &d, &mut j, &mut k);
+        if n == MOST_SIZE {
+            assert_eq!(answer, Matrices::Written);
+            assert!(j.iter().chain(&k).all(|&x| x == (n * n) as f64));
+        } else {
+            assert_eq!(answer, Matrices::Refused(Refusal::MatrixSize));
+            assert!(j.iter().chain(&k).all(|&x| x == 0.0));
+        }
+    }
+}
+
+#[test]
+fn most_terms() {
+    let whole = |count: u32| roll(count, &[1, 0, 0].repeat(count as usize));
+    for judge in [open, check] {
+        assert!(matches!(judge(&whole(MOST_TERMS)), Opened::Roll { cursor, .. } if cursor.left == MOST_TERMS));
+        assert_eq!(judge(&whole(MOST_TERMS + 1)), Opened::Refused(Refusal::BadRoll { place: 7 }));
+    }
+}
+
+#[test]
+fn most_scale() {
+    let first = Cursor { place: 8, left: 1, kind: OVERLAP, l: 0 };
+    let term = |scale| roll(1, &[number(scale), vec![0, 0]].concat());
+    assert!(matches!(first.next(&term(MOST_SCALE)), Step::Term { term, .. } if term.scale == MOST_SCALE));
+    assert_eq!(first.next(&term(MOST_SCALE + 1)), Step::Refused(Refusal::BadRoll { place: 8 }));
+}
+
+#[test]
+fn prefactors_of_a_term() {
+    let orders = [4, 0, 0, 4, 0, 0, 4, 0, 0, 4, 0, 0];
+    for count in [PREFACTORS, PREFACTORS + 1] {
+        let listed: Vec<u8> = (1..=count as u8).collect();
+        let roll = [&[COULOMB], &orders[..], &[1, 1, 0, count as u8], &listed].concat();
+        let cursor = match open(&roll) {
+            Opened::Roll { cursor, .. } => cursor,
+            refused => panic!("{refused:?}"),
+        };
+        match cursor.next(&roll) {
+            Step::Term { term, .. } => assert_eq!((term.prefactors(), count), (&listed[..], PREFACTORS)),
+            answer => {
+                assert_eq!((answer, count), (Step::Refused(Refusal::BadRoll { place: 16 }), PREFACTORS + 1))
+            }
+        }
+    }
+}
+
+#[test]
+fn tables() {
+    let [a, b, c, d] = [1.0, 2.0, 4.0, 8.0].map(|x| Centre { x, y: x * x, z: -x, exponent: x + 0.5 });
+    for (kind, size) in [(0, 8), (1, 11), (2, 11), (3, 12), (KINDS - 1, TABLE)] {
+        match prefactors(kind, a, b, c, d) {
+            Table::Entries(entries) => {
+                assert!(entries[..size].iter().all(|&entry| entry != 0.0), "{entries:?}");
+                assert!(entries[size..].iter().all(|&entry| entry == 0.0), "{entries:?}");
+            }
+            refused => panic!("{refused:?}"),
+        }
+    }
+}
