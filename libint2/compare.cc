@@ -3,6 +3,7 @@
 // With the word wrong one exponent on our side is off by 1e-10 of itself; the bound has to show it.
 #include <libint2.hpp>
 
+#include <algorithm>
 #include <array>
 #include <cmath>
 #include <cstdio>
@@ -116,6 +117,7 @@ HostNumbers host_numbers(Kind kind, int l, const std::array<xew_centre, 4> &at, 
 // ---- Our side ----
 
 std::map<int, size_t> refusals; // how often each number came up
+uint32_t most_terms = 0;        // of a roll
 
 bool refused(uint8_t number) {
     if (number != 0) refusals[number]++;
@@ -139,6 +141,7 @@ std::vector<Component> components(Kind kind, const std::vector<int> &o) {
         std::memcpy(component.orders.data(), found.orders, 12);
         const xew_written written = xew_expand(kind, &found.orders, buffer.data(), buffer.size(), 0);
         if (!refused(written.refusal)) {
+            most_terms = std::max(most_terms, written.terms);
             component.roll.assign(buffer.begin(), buffer.begin() + written.length);
             refused(xew_check(component.roll.data(), component.roll.size()).refusal);
         }
@@ -207,8 +210,8 @@ struct Row {
 };
 Row rows[5][9]; // by kind and L
 
-// A block: all components of a pair (and a nucleus) or of a quadruple. Where every shell (and the nucleus) is on one atom
-// and L is odd, every exact value is zero; the scale is then Schwarz's bound in place of the largest value.
+// A block: all components of a pair (and a nucleus) or of a quadruple. Where every shell (and the nucleus) is on one
+// atom and L is odd, every exact value is zero; the scale is then Schwarz's bound in place of the largest value.
 void compare(Kind kind, libint2::Engine &engine, const Shells &s, const Atom *nucleus,
              const std::vector<Component> &parts) {
     int l = 0;
@@ -286,8 +289,10 @@ int report() {
         for (int l = 0; l < 9; l++) {
             const Row &row = rows[kind][l];
             if (row.values == 0) continue;
-            std::printf("%-8s %2d %8zu %8zu %10zu %10.1e %10.1e %7zu\n", kind_names[kind], l, row.blocks,
-                        row.zero_blocks, row.values, row.most, row.zero_most, row.beyond);
+            char in_zero[16] = "-";
+            if (row.zero_blocks != 0) std::snprintf(in_zero, sizeof in_zero, "%.1e", row.zero_most);
+            std::printf("%-8s %2d %8zu %8zu %10zu %10.1e %10s %7zu\n", kind_names[kind], l, row.blocks,
+                        row.zero_blocks, row.values, row.most, in_zero, row.beyond);
             all.blocks += row.blocks + row.zero_blocks;
             all.zero_blocks += row.zero_blocks;
             if (kind == coulomb) quadruples += row.blocks + row.zero_blocks;
@@ -301,8 +306,9 @@ int report() {
     // 30 functions: 30 * 30 pairs, once for overlap, once for kinetic, three times for nuclear; 30^4 quadruples
     const size_t expected = 5 * 30 * 30 + 30 * 30 * 30 * 30;
     if (all.values != expected) std::printf("%zu values were expected\n", expected);
-    std::printf("%zu blocks of pairs, %zu of quadruples; %zu of them zero by symmetry; %zu refusals\n",
-                all.blocks - quadruples, quadruples, all.zero_blocks, refused_in_all);
+    std::printf("%zu blocks of pairs, %zu of quadruples; %zu of them zero by symmetry\n", all.blocks - quadruples,
+                quadruples, all.zero_blocks);
+    std::printf("%zu refusals; the largest roll has %u terms\n", refused_in_all, most_terms);
     std::printf("%zu of %zu values beyond the bound\n", all.beyond, all.values);
     return all.beyond == 0 && refused_in_all == 0 && all.values == expected ? 0 : 1;
 }
