@@ -37,9 +37,10 @@ static void accept(uint8_t refusal, size_t place)
     static const char *const words[] = {
         "", "kind above 4", "an order sum the kind uses, or a shell's order, above 4",
         "one of the twelve orders unused by the kind is not 0", "more than 65,535 complete histories",
-        "start place beyond the buffer's end", "the whole output doesn't fit from the start place",
-        "roll breaks a rule; place says where", "a used input float is not finite", "a used exponent is 0 or less",
-        "Boys numbers are not exactly L+1 (kinds 2, 4) or 0 (others)",
+        "start place beyond the buffer's end",
+        "the whole output doesn't fit from the start place, or the listing's input is over 65,536 bytes",
+        "roll breaks a rule below; carries the place", "a used input float is not finite",
+        "a used exponent is 0 or less", "Boys numbers are not exactly L+1 (kinds 2, 4) or 0 (others)",
         "a geometry number, table entry or result is not finite",
         "matrix size out of range, or a slice length wrong for it", "component number not below the count",
     };

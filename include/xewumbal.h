@@ -15,14 +15,16 @@
  *    3  one of the twelve orders unused by the kind is not 0
  *    4  more than 65,535 complete histories
  *    5  start place beyond the buffer's end
- *    6  the whole output doesn't fit from the start place
- *    7  roll breaks a rule; place says where
+ *    6  the whole output doesn't fit from the start place, or the listing's input is over 65,536 bytes
+ *    7  roll breaks a rule below; carries the place
  *    8  a used input float is not finite
  *    9  a used exponent is 0 or less
  *   10  Boys numbers are not exactly L+1 (kinds 2, 4) or 0 (others)
  *   11  a geometry number, table entry or result is not finite
  *   12  matrix size out of range, or a slice length wrong for it
  *   13  component number not below the count
+ *
+ * These are the words of docs/01-scope.md, which has the rules of a roll; the listing is not exported.
  *
  * Kinds: 0 overlap, 1 kinetic, 2 nuclear, 3 moment, 4 Coulomb. Orders stand by centre, x y z each: A, B; for kind 3
  * then the operator; for kind 4 then C, D. L is the sum of all orders. docs/01-scope.md defines terms and rolls.
@@ -69,13 +71,13 @@ typedef struct {
 
 /* The orders of a pair of shells (zeros after them) or of four, x y z each. */
 typedef struct {
-    uint8_t orders[12];
+    uint8_t orders[XEW_ORDERS];
     uint8_t refusal;
 } xew_component;
 
 /* A kind's prefactor table, 0.0 in the places left. */
 typedef struct {
-    double entries[23];
+    double entries[XEW_TABLE];
     uint8_t refusal;
 } xew_table;
 
@@ -91,7 +93,7 @@ typedef struct {
 typedef struct {
     xew_cursor cursor;
     size_t place;
-    uint8_t orders[12];
+    uint8_t orders[XEW_ORDERS];
     uint8_t refusal;
 } xew_opened;
 

@@ -40,8 +40,10 @@ impl Refusal {
             Refusal::UnusedOrder => (3, "one of the twelve orders unused by the kind is not 0"),
             Refusal::TooManyTerms => (4, "more than 65,535 complete histories"),
             Refusal::StartBeyondEnd => (5, "start place beyond the buffer's end"),
-            Refusal::NoRoom => (6, "the whole output doesn't fit from the start place"),
-            Refusal::BadRoll { .. } => (7, "roll breaks a rule; place says where"),
+            Refusal::NoRoom => {
+                (6, "the whole output doesn't fit from the start place, or the listing's input is over 65,536 bytes")
+            }
+            Refusal::BadRoll { .. } => (7, "roll breaks a rule below; carries the place"),
             Refusal::InputNotFinite => (8, "a used input float is not finite"),
             Refusal::Exponent => (9, "a used exponent is 0 or less"),
             Refusal::BoysCount => (10, "Boys numbers are not exactly L+1 (kinds 2, 4) or 0 (others)"),

@@ -6,7 +6,6 @@ pub mod Going
 pub mod Heading
 pub mod Inside
 pub mod Judging
-pub mod Lengths
 pub mod Only
 pub mod Stepping
 pub mod Steps

@@ -2,17 +2,11 @@
 use Prim.Native.Nat.{ℕ}
 use mathlib.Core.Path.{_≡_}
 use mathlib.Core.List.{List}
-use lib.ListN.{length}
 use Rattle.kind.proofs.Only.{only}
-use Rattle.term.specs.declared.Term.{Term as Held}
 use Rattle.roll.specs.declared.Cursor.{Cursor}
 use Rattle.roll.specs.declared.Step.{Step}
 use Rattle.roll.specs.declared.Opened.{Opened}
 use Rattle.roll.specs.Answers.{stepOf, openOf, checkOf}
-use Rattle.roll.specs.Bytes.{termBytes, seen}
-
-pub term-length-only : (t : Held) {a b : ℕ} → a ≡ length (termBytes (seen t)) → b ≡ length (termBytes (seen t)) → a ≡ b
-term-length-only t = only
 
 pub next-only : (c : Cursor) (s : List ℕ) {a b : Step} → a ≡ stepOf c s → b ≡ stepOf c s → a ≡ b
 next-only c s = only
