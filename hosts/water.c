@@ -5,7 +5,6 @@
 #include <stdio.h>
 #include <stdlib.h>
 #include "xewumbal.h"
-
 #define PI 3.14159265358979323846
 enum { OVERLAP, KINETIC, NUCLEAR, MOMENT, COULOMB };
 enum { ATOMS = 3, FUNCTIONS = 7, PRIMITIVES = 3, MOST_L = 4, LEAST_VALUES = 12 };
