@@ -1,11 +1,8 @@
 //! The picture: time of a call against the number of terms, for both sides, as SVG.
 
+use crate::measure::Row;
 use crate::ours::{self, ROOM};
 use crate::requests::{self, Request};
-use crate::table::{measure, Times};
-use std::time::Duration;
-
-const TIME: Duration = Duration::from_millis(40);
 
 const OURS: &str = "#1f5fa8";
 const RUST: &str = "#c0501a";
@@ -15,7 +12,7 @@ const TOP: f64 = 70.0;
 const WIDTH: f64 = 360.0;
 const HEIGHT: f64 = 360.0;
 const MOST_TERMS: i32 = 5;
-const TIMES: (i32, i32) = (1, 8);
+const TIMES: (i32, i32) = (1, 9);
 
 /// Requests along x by kind, and the largest, so that each has `step` times the terms of the one before.
 fn chosen(kinds: &[u8], step: f64) -> Vec<Request> {
@@ -25,7 +22,7 @@ fn chosen(kinds: &[u8], step: f64) -> Vec<Request> {
     for &kind in kinds {
         candidates.extend((0..625u16).map(|n| {
             let x = [n / 125, n / 25 % 5, n / 5 % 5, n % 5].map(|order| order as u8);
-            Request::along_x("point", kind, x)
+            Request::along_x("", kind, x)
         }));
     }
     for request in candidates.into_iter().filter(|r| kinds.contains(&r.kind)) {
@@ -100,7 +97,7 @@ fn axes(left: f64, title: &str) -> String {
     for power in TIMES.0..=TIMES.1 {
         let at = y(10f64.powi(power));
         let number = ["1", "10", "100"][power as usize % 3];
-        let unit = ["ns", "µs", "ms"][power as usize / 3];
+        let unit = ["ns", "µs", "ms", "s"][power as usize / 3];
         svg += &line(left, at, left + WIDTH, at);
         svg += &text(left - 8.0, at + 4.0, "end", &format!("{} {}", number, unit));
     }
@@ -118,25 +115,25 @@ fn legend() -> String {
     svg
 }
 
-fn points(rows: &[(Request, Times)], left: f64, times: fn(&Times) -> [f64; 2]) -> String {
+fn points(rows: &[Row], left: f64, times: fn(&Row) -> [f64; 2]) -> String {
     let mut svg = String::new();
-    for (request, row) in rows {
+    for row in rows {
         let [theirs, ours] = times(row);
-        let at = x(left, f64::from(row.terms));
-        svg += &square(at, y(theirs), request.kind == 4);
-        svg += &circle(at, y(ours), request.kind == 4);
+        let at = x(left, row.terms);
+        svg += &square(at, y(theirs), row.request.kind == 4);
+        svg += &circle(at, y(ours), row.request.kind == 4);
     }
     svg
 }
 
-pub fn print() -> Result<(), String> {
+/// The requests whose points the picture shows.
+pub fn requests() -> Vec<Request> {
     let mut requests = chosen(&[4], 1.5);
     requests.extend(chosen(&[0, 1, 2, 3], 1.7));
-    let mut rows = Vec::new();
-    for request in requests {
-        let times = measure(&request, TIME)?;
-        rows.push((request, times));
-    }
+    requests
+}
+
+pub fn print(rows: &[Row]) {
     println!("<svg xmlns='http://www.w3.org/2000/svg' viewBox='0 0 920 490' font-family='sans-serif' font-size='13'>");
     println!("<title>Time of a call against the number of terms</title>");
     println!("<rect width='920' height='490' fill='white'/>");
@@ -146,8 +143,7 @@ pub fn print() -> Result<(), String> {
         "{}",
         axes(530.0, "evaluation of a stored roll, time of a call")
     );
-    print!("{}", points(&rows, 80.0, |row| row.expansion));
-    print!("{}", points(&rows, 530.0, |row| row.evaluation));
+    print!("{}", points(rows, 80.0, |row| row.expansion));
+    print!("{}", points(rows, 530.0, |row| row.evaluation));
     println!("</svg>");
-    Ok(())
 }

@@ -2,6 +2,7 @@
 
 use crate::ours::Centre;
 use crate::rust_side;
+use std::convert::TryFrom;
 
 #[derive(Clone)]
 pub struct Request {
@@ -27,6 +28,22 @@ impl Request {
         Request::new(name, kind, orders)
     }
 
+    /// As `line` writes it.
+    pub fn of_line(line: &str) -> Option<Request> {
+        let numbers: Vec<u8> = line.split(' ').map_while(|n| n.parse().ok()).collect();
+        let (kind, orders) = numbers.split_first()?;
+        let orders = <[u8; 12]>::try_from(orders).ok()?;
+        let mut named = measured().into_iter().chain(refused());
+        let known = named.find(|r| r.kind == *kind && r.orders == orders);
+        Some(known.unwrap_or_else(|| Request::new("", *kind, orders)))
+    }
+
+    /// The kind and the twelve orders.
+    pub fn line(&self) -> String {
+        let numbers: Vec<String> = self.orders.iter().map(u8::to_string).collect();
+        format!("{} {}", self.kind, numbers.join(" "))
+    }
+
     /// The kind and the orders that are not 0.
     pub fn words(&self) -> String {
         let mut words = KINDS[self.kind as usize].to_string();
@@ -44,18 +61,25 @@ impl Request {
 
     /// The name, with the request where the name does not say it.
     pub fn title(&self) -> String {
+        if KINDS.contains(&self.name.as_str()) {
+            return self.words();
+        }
         format!("{}: {}", self.name, self.words())
     }
 }
 
-/// The requests of the table. Within the cap, the largest is one of the twelve with the most terms, and the longest has the
-/// most bytes.
+/// One of the twelve requests with the most terms within the cap, 65,534.
+pub fn largest() -> Request {
+    Request::new("largest", 4, [3, 0, 0, 1, 1, 1, 2, 1, 0, 2, 0, 0])
+}
+
+/// The requests of the table. The longest has the most bytes within the cap.
 pub fn measured() -> Vec<Request> {
     vec![
         Request::along_x("s,s,s,s", 4, [0; 4]),
         Request::along_x("p,p,p,p", 4, [1; 4]),
         Request::along_x("d,d,d,d", 4, [2; 4]),
-        Request::new("largest", 4, [3, 0, 0, 1, 1, 1, 2, 1, 0, 2, 0, 0]),
+        largest(),
         Request::new("longest", 4, [0, 0, 1, 1, 3, 0, 1, 1, 1, 4, 0, 0]),
         Request::along_x("nuclear", 2, [4, 4, 0, 0]),
         Request::along_x("overlap", 0, [4, 4, 0, 0]),
@@ -67,7 +91,7 @@ pub fn measured() -> Vec<Request> {
 /// Requests over the cap: one with 65,536 histories, and the one with the most, 72,581,848.
 pub fn refused() -> Vec<Request> {
     vec![
-        Request::new("just over", 4, [0, 0, 2, 0, 3, 0, 0, 2, 0, 0, 3, 1]),
+        Request::new("just-over", 4, [0, 0, 2, 0, 3, 0, 0, 2, 0, 0, 3, 1]),
         Request::along_x("most", 4, [4; 4]),
     ]
 }

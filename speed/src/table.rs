@@ -1,18 +1,12 @@
-//! The table: ratios of both sides from one run, beside the goals.
+//! The table: ratios of both sides, beside the goals.
 
-use crate::ours::{self, ROOM};
-use crate::requests::{self, Numbers, Request};
-use crate::timing::{in_turn, Call};
-use crate::{rust_side, same};
-use std::time::Duration;
-
-const TIME: Duration = Duration::from_millis(250);
+use crate::measure::Row;
 
 /// The least ratios that are asked for.
 pub struct Goals {
-    pub with_boys: f64,
-    pub without_boys: f64,
-    pub evaluation: f64,
+    with_boys: f64,
+    without_boys: f64,
+    evaluation: f64,
 }
 
 /// The most times that a refusal may take of the largest request that is accepted.
@@ -30,53 +24,6 @@ pub const EMULATED: Goals = Goals {
     evaluation: 50.0,
 };
 
-/// Nanoseconds of a call of each side for one request.
-pub struct Times {
-    pub terms: u32,
-    pub bytes: usize,
-    pub expansion: [f64; 2],
-    pub evaluation: [f64; 2],
-    pub check: f64,
-    pub copy: f64,
-}
-
-/// Measures a request whose roll and value are the same on both sides.
-pub fn measure(request: &Request, time: Duration) -> Result<Times, String> {
-    let roll = ours::roll(request);
-    let with = Numbers::of(request);
-    let terms = same::terms(request, &roll)?;
-    same::value(request, &roll, &with)?;
-    let mut out = vec![0; ROOM];
-    let mut copied = vec![0; roll.len()];
-    let expansion = in_turn(
-        [
-            Call::new(|| rust_side::terms(request).len() as u64),
-            Call::new(|| u64::from(ours::expand(request, &mut out).terms)),
-        ],
-        time,
-    );
-    let [theirs, ours, check, copy] = in_turn(
-        [
-            Call::new(|| rust_side::value(request, &with).to_bits()),
-            Call::new(|| ours::evaluate(&roll, &with).value.to_bits()),
-            Call::new(|| u64::from(ours::check(&roll).cursor.left)),
-            Call::new(|| {
-                copied.copy_from_slice(&roll);
-                u64::from(copied[copied.len() - 1])
-            }),
-        ],
-        time,
-    );
-    Ok(Times {
-        terms,
-        bytes: roll.len(),
-        expansion,
-        evaluation: [theirs, ours],
-        check,
-        copy,
-    })
-}
-
 fn met(is: bool) -> &'static str {
     if is {
         "yes"
@@ -85,22 +32,25 @@ fn met(is: bool) -> &'static str {
     }
 }
 
-fn print_expansion(rows: &[(Request, Times)], goals: &Goals) {
-    println!("\n| expansion | terms | Rust, ns a term | ours, ns a term | ratio | goal | met |");
-    println!("|---|---|---|---|---|---|---|");
-    for (request, times) in rows {
-        let terms = f64::from(times.terms);
-        let [theirs, ours] = times.expansion;
-        let goal = match request.kind {
+fn heading(columns: &str) {
+    println!("\n| {} |", columns);
+    println!("{}|", "|---".repeat(columns.split(" | ").count()));
+}
+
+fn print_expansion(rows: &[&Row], goals: &Goals) {
+    heading("expansion | terms | Rust, ns a term | ours, ns a term | ratio | goal | met");
+    for row in rows {
+        let [theirs, ours] = row.expansion;
+        let goal = match row.request.kind {
             2 | 4 => goals.with_boys,
             _ => goals.without_boys,
         };
         println!(
             "| {} | {} | {:.1} | {:.1} | {:.1} | {} | {} |",
-            request.title(),
-            times.terms,
-            theirs / terms,
-            ours / terms,
+            row.request.title(),
+            row.terms,
+            theirs / row.terms,
+            ours / row.terms,
             theirs / ours,
             goal,
             met(theirs / ours >= goal)
@@ -108,19 +58,17 @@ fn print_expansion(rows: &[(Request, Times)], goals: &Goals) {
     }
 }
 
-fn print_evaluation(rows: &[(Request, Times)], goals: &Goals) {
-    println!("\n| evaluation | terms | get_, ns a term | ours, ns a term | of that xew_check | ratio | goal | met |");
-    println!("|---|---|---|---|---|---|---|---|");
-    for (request, times) in rows {
-        let terms = f64::from(times.terms);
-        let [theirs, ours] = times.evaluation;
+fn print_evaluation(rows: &[&Row], goals: &Goals) {
+    heading("evaluation | terms | get_, ns a term | ours, ns a term | xew_check alone | ratio | goal | met");
+    for row in rows {
+        let [theirs, ours] = row.evaluation;
         println!(
             "| {} | {} | {:.1} | {:.1} | {:.1} | {:.1} | {} | {} |",
-            request.title(),
-            times.terms,
-            theirs / terms,
-            ours / terms,
-            times.check / terms,
+            row.request.title(),
+            row.terms,
+            theirs / row.terms,
+            ours / row.terms,
+            row.check / row.terms,
             theirs / ours,
             goals.evaluation,
             met(theirs / ours >= goals.evaluation)
@@ -129,55 +77,43 @@ fn print_evaluation(rows: &[(Request, Times)], goals: &Goals) {
 }
 
 /// Bytes in a nanosecond are gigabytes in a second.
-fn print_bytes(rows: &[(Request, Times)]) {
-    println!("\n| bytes | roll, bytes | written, MB a second | copied, MB a second |");
-    println!("|---|---|---|---|");
-    for (request, times) in rows {
-        let bytes = times.bytes as f64 * 1000.0;
+fn print_bytes(rows: &[&Row]) {
+    heading("bytes | roll, bytes | written, MB a second | copied, MB a second");
+    for row in rows {
         println!(
             "| {} | {} | {:.0} | {:.0} |",
-            request.title(),
-            times.bytes,
-            bytes / times.expansion[1],
-            bytes / times.copy
+            row.request.title(),
+            row.bytes,
+            1000.0 * row.bytes / row.expansion[1],
+            1000.0 * row.bytes / row.copy
         );
     }
 }
 
-fn print_refusals(largest: f64) -> Result<(), String> {
-    println!("\n| refusal 4 | ns a call | times the largest accepted | goal | met |");
-    println!("|---|---|---|---|---|");
-    for request in requests::refused() {
-        let mut out = vec![0; ROOM];
-        if ours::expand(&request, &mut out).refusal != 4 {
-            return Err(format!("{}: it is not refused", request.name));
-        }
-        let calls = [Call::new(|| {
-            u64::from(ours::expand(&request, &mut out).refusal)
-        })];
-        let [took] = in_turn(calls, TIME);
+fn print_refusals(rows: &[&Row], largest: f64) {
+    heading("refusal 4 | ns a call | times the largest accepted | goal | met");
+    for row in rows {
+        let took = row.expansion[1];
         println!(
             "| {} | {:.0} | {:.2} | {} | {} |",
-            request.title(),
+            row.request.title(),
             took,
             took / largest,
             REFUSAL,
             met(took / largest <= REFUSAL)
         );
     }
-    Ok(())
 }
 
-pub fn print(goals: &Goals) -> Result<(), String> {
-    let mut rows = Vec::new();
-    for request in requests::measured() {
-        let times = measure(&request, TIME)?;
-        rows.push((request, times));
-    }
-    print_expansion(&rows, goals);
-    print_evaluation(&rows, goals);
-    print_bytes(&rows);
-    let largest = rows.iter().max_by_key(|(_, times)| times.terms);
-    let (_, times) = largest.expect("there are rows");
-    print_refusals(times.expansion[1])
+pub fn print(rows: &[Row], goals: &Goals) {
+    let (accepted, refused): (Vec<&Row>, Vec<&Row>) = rows.iter().partition(|row| row.terms > 0.0);
+    print_expansion(&accepted, goals);
+    print_evaluation(&accepted, goals);
+    print_bytes(&accepted);
+    let most = accepted
+        .iter()
+        .fold(0.0, |most: f64, row| most.max(row.terms));
+    let largest = accepted.iter().find(|row| row.terms == most);
+    let time = largest.map_or(f64::NAN, |row| row.expansion[1]);
+    print_refusals(&refused, time);
 }
