@@ -128,8 +128,8 @@ fn points(rows: &[Row], left: f64, times: fn(&Row) -> [f64; 2]) -> String {
 
 /// The requests whose points the picture shows.
 pub fn requests() -> Vec<Request> {
-    let mut requests = chosen(&[4], 1.5);
-    requests.extend(chosen(&[0, 1, 2, 3], 1.7));
+    let mut requests = chosen(&[4], 1.2);
+    requests.extend(chosen(&[0, 1, 2, 3], 1.5));
     requests
 }
 
