@@ -29,7 +29,7 @@ fn rows() -> Result<Vec<Row>, String> {
         let line = line.map_err(|error| error.to_string())?;
         let row = Row::of_line(&line).ok_or(format!("not a line of `measure`: {}", line))?;
         match rows.last_mut() {
-            Some(last) if last.request.line() == row.request.line() => last.lower_to(&row),
+            Some(last) if last.request == row.request => last.lower_to(&row),
             _ => rows.push(row),
         }
     }

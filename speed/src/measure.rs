@@ -68,14 +68,15 @@ fn accepted(request: &Request, time: Duration) -> Result<[f64; 8], String> {
     ])
 }
 
-/// Measures a request and prints it with its numbers as a line. A request over the cap has 0 terms.
+/// Measures a request and prints it with its numbers as a line. One that has to be over the cap has 0 terms there.
 pub fn print(request: &Request, milliseconds: u64) -> Result<(), String> {
     let time = Duration::from_millis(milliseconds);
     let mut out = vec![0; ROOM];
-    let numbers = match ours::expand(request, &mut out).refusal {
-        0 => accepted(request, time)?,
-        4 => refused(request, time),
-        number => return Err(format!("{} is refused: {}", request.line(), number)),
+    let is_over = requests::refused().iter().any(|over| over == request);
+    let numbers = match (ours::expand(request, &mut out).refusal, is_over) {
+        (0, false) => accepted(request, time)?,
+        (4, true) => refused(request, time),
+        (number, _) => return Err(format!("{} has refusal {}", request.title(), number)),
     };
     let words: Vec<String> = numbers.iter().map(f64::to_string).collect();
     println!("{} {}", request.line(), words.join(" "));

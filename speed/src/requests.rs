@@ -4,7 +4,7 @@ use crate::ours::Centre;
 use crate::rust_side;
 use std::convert::TryFrom;
 
-#[derive(Clone)]
+#[derive(Clone, PartialEq)]
 pub struct Request {
     pub name: String,
     pub kind: u8,

@@ -19,12 +19,11 @@ fn is_same(step: &Step, term: &Term) -> bool {
 pub fn terms(request: &Request, roll: &[u8]) -> Result<u32, String> {
     let theirs = rust_side::terms(request);
     let opened = ours::check(roll);
-    if opened.refusal != 0 || opened.orders != request.orders || opened.cursor.kind != request.kind
-    {
-        return Err(format!(
-            "{}: the two sides differ in the roll's header",
-            request.name
-        ));
+    if opened.refusal != 0 {
+        return Err(format!("{}: xew_check refuses the roll", request.name));
+    }
+    if opened.orders != request.orders || opened.cursor.kind != request.kind {
+        return Err(format!("{}: the roll's header is another's", request.name));
     }
     if opened.cursor.left as usize != theirs.len() {
         return Err(format!(
@@ -54,7 +53,7 @@ pub fn terms(request: &Request, roll: &[u8]) -> Result<u32, String> {
 }
 
 /// The value from the roll, bit for bit the one of the get_ function.
-pub fn value(request: &Request, roll: &[u8], with: &Numbers) -> Result<f64, String> {
+pub fn value(request: &Request, roll: &[u8], with: &Numbers) -> Result<(), String> {
     let ours = ours::evaluate(roll, with);
     let theirs = rust_side::value(request, with);
     if ours.refusal != 0 || ours.value.to_bits() != theirs.to_bits() {
@@ -63,5 +62,5 @@ pub fn value(request: &Request, roll: &[u8], with: &Numbers) -> Result<f64, Stri
             request.name
         ));
     }
-    Ok(theirs)
+    Ok(())
 }
