@@ -1,0 +1,64 @@
+//! The library and the unchanged Rust side by side. ./bench calls it: `list` the requests, `measure` each in runs of its
+//! own, then the table or the picture from what was measured, on standard input.
+
+mod measure;
+mod one;
+mod ours;
+mod picture;
+mod requests;
+mod rust_side;
+mod same;
+mod table;
+mod timing;
+
+use measure::Row;
+use requests::Request;
+use std::io::{stdin, BufRead};
+use std::process::exit;
+
+fn list(requests: Vec<Request>) {
+    for request in requests {
+        println!("{}", request.line());
+    }
+}
+
+/// What was measured, the runs of one request together.
+fn rows() -> Result<Vec<Row>, String> {
+    let mut rows: Vec<Row> = Vec::new();
+    for line in stdin().lock().lines() {
+        let line = line.map_err(|error| error.to_string())?;
+        let row = Row::of_line(&line).ok_or(format!("not a line of `measure`: {}", line))?;
+        match rows.last_mut() {
+            Some(last) if last.request == row.request => last.lower_to(&row),
+            _ => rows.push(row),
+        }
+    }
+    Ok(rows)
+}
+
+fn run(words: &[&str]) -> Result<(), String> {
+    match words {
+        ["list", "picture"] => list(picture::requests()),
+        ["list", _] => list([requests::measured(), requests::refused()].concat()),
+        ["measure", time, request @ ..] => {
+            let time = time.parse().map_err(|_| "no number of milliseconds")?;
+            let request = Request::of_line(&request.join(" ")).ok_or("no request")?;
+            return measure::print(&request, time);
+        }
+        ["native"] => table::print(&rows()?, &table::NATIVE),
+        ["emulated"] => table::print(&rows()?, &table::EMULATED),
+        ["picture"] => picture::print(&rows()?),
+        ["one", name, call, count] => return one::run(name, call, count),
+        _ => return Err("./bench says how this is called".to_string()),
+    }
+    Ok(())
+}
+
+fn main() {
+    let args: Vec<String> = std::env::args().skip(1).collect();
+    let words: Vec<&str> = args.iter().map(String::as_str).collect();
+    if let Err(message) = run(&words) {
+        eprintln!("speed: {}", message);
+        exit(1);
+    }
+}

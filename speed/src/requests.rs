@@ -1,0 +1,128 @@
+//! What is measured, and the numbers that both sides get.
+
+use crate::ours::Centre;
+use crate::rust_side;
+use std::convert::TryFrom;
+
+#[derive(Clone, PartialEq)]
+pub struct Request {
+    pub name: String,
+    pub kind: u8,
+    pub orders: [u8; 12],
+}
+
+pub const KINDS: [&str; 5] = ["overlap", "kinetic", "nuclear", "moment", "Coulomb"];
+
+impl Request {
+    pub fn new(name: &str, kind: u8, orders: [u8; 12]) -> Request {
+        Request {
+            name: name.to_string(),
+            kind,
+            orders,
+        }
+    }
+
+    /// Orders along x alone.
+    pub fn along_x(name: &str, kind: u8, x: [u8; 4]) -> Request {
+        let orders = [x[0], 0, 0, x[1], 0, 0, x[2], 0, 0, x[3], 0, 0];
+        Request::new(name, kind, orders)
+    }
+
+    /// As `line` writes it.
+    pub fn of_line(line: &str) -> Option<Request> {
+        let numbers: Vec<u8> = line.split(' ').map_while(|n| n.parse().ok()).collect();
+        let (kind, orders) = numbers.split_first()?;
+        let orders = <[u8; 12]>::try_from(orders).ok()?;
+        let mut named = measured().into_iter().chain(refused());
+        let known = named.find(|r| r.kind == *kind && r.orders == orders);
+        Some(known.unwrap_or_else(|| Request::new("", *kind, orders)))
+    }
+
+    /// The kind and the twelve orders.
+    pub fn line(&self) -> String {
+        let numbers: Vec<String> = self.orders.iter().map(u8::to_string).collect();
+        format!("{} {}", self.kind, numbers.join(" "))
+    }
+
+    /// The kind and the orders that are not 0.
+    pub fn words(&self) -> String {
+        let mut words = KINDS[self.kind as usize].to_string();
+        for (i, order) in self.orders.iter().enumerate() {
+            let centre = match (self.kind, i / 3) {
+                (3, 2) => "o",
+                (_, n) => ["A", "B", "C", "D"][n],
+            };
+            if *order > 0 {
+                words += &format!(" {}{}{}", centre, ["x", "y", "z"][i % 3], order);
+            }
+        }
+        words
+    }
+
+    /// The name, with the request where the name does not say it.
+    pub fn title(&self) -> String {
+        if KINDS.contains(&self.name.as_str()) {
+            return self.words();
+        }
+        format!("{}: {}", self.name, self.words())
+    }
+}
+
+/// One of the twelve requests with the most terms within the cap, 65,534.
+pub fn largest() -> Request {
+    Request::new("largest", 4, [3, 0, 0, 1, 1, 1, 2, 1, 0, 2, 0, 0])
+}
+
+/// The requests of the table. The longest has the most bytes within the cap.
+pub fn measured() -> Vec<Request> {
+    vec![
+        Request::along_x("s,s,s,s", 4, [0; 4]),
+        Request::along_x("p,p,p,p", 4, [1; 4]),
+        Request::along_x("d,d,d,d", 4, [2; 4]),
+        largest(),
+        Request::new("longest", 4, [0, 0, 1, 1, 3, 0, 1, 1, 1, 4, 0, 0]),
+        Request::along_x("nuclear", 2, [4, 4, 0, 0]),
+        Request::along_x("overlap", 0, [4, 4, 0, 0]),
+        Request::along_x("kinetic", 1, [4, 4, 0, 0]),
+        Request::along_x("moment", 3, [4, 4, 4, 0]),
+    ]
+}
+
+/// Requests over the cap: one with 65,536 histories, and the one with the most, 72,581,848.
+pub fn refused() -> Vec<Request> {
+    vec![
+        Request::new("just-over", 4, [0, 0, 2, 0, 3, 0, 0, 2, 0, 0, 3, 1]),
+        Request::along_x("most", 4, [4; 4]),
+    ]
+}
+
+/// What a host gives beside a request.
+pub struct Numbers {
+    pub centres: [Centre; 4],
+    pub aux: f64,
+    pub boys: Vec<f64>,
+}
+
+impl Numbers {
+    pub fn of(request: &Request) -> Numbers {
+        let centre = |x, y, z, exponent| Centre { x, y, z, exponent };
+        let centres = [
+            centre(0.1, -0.2, 0.3, 1.1),
+            centre(0.7, 0.4, -0.5, 0.9),
+            centre(-0.6, 0.8, 0.2, 1.7),
+            centre(0.5, -0.9, 1.3, 0.6),
+        ];
+        let l: u8 = request.orders.iter().sum();
+        let count = match request.kind {
+            2 | 4 => usize::from(l) + 1,
+            _ => 0,
+        };
+        let numbers = Numbers {
+            centres,
+            aux: rust_side::aux(request.kind, &centres),
+            boys: (0..count).map(|n| 0.8 / (2 * n + 1) as f64).collect(),
+        };
+        boys::lend(&numbers.boys);
+        numbers
+    }
+}
