@@ -141,8 +141,10 @@ static void try_jk(void)
 static void play(void)
 {
     static uint8_t bytes[MOST_BYTES];
-    if (call.scene % 1000 == 1)
-        try_expand(largest_request(), largest_request()->length, 0);
+    if (call.scene % 500 == 1) {
+        const struct request *largest = largest_request();
+        try_expand(largest, largest->length, 0);
+    }
     struct slice roll = lend_copy(&roll_arena, "roll", bytes, any_roll(bytes), 1);
     xew_opened opened = try_open(roll), checked = try_check(roll);
     hold(checked.refusal || same_opened(opened, checked), "xew_open and xew_check disagree");

@@ -34,10 +34,11 @@ bool once_in(uint64_t times)
 #define ONE_OF(list) ((list)[below(sizeof(list) / sizeof *(list))])
 
 /* Requests whose rolls are known: small ones, longer ones, and the largest of each kind that has many terms. */
-enum { SMALL = 400, LONGER = 60, NAMED = 6, MOST_SMALL = 1500, MOST_LONGER = 45000 };
+enum { SMALL = 400, LONGER = 60, NAMED = 7, LARGEST = 2, MOST_SMALL = 1500, MOST_LONGER = 45000 };
 static struct request requests[SMALL + LONGER + NAMED];
 static const struct request named[NAMED] = {
-    { .kind = 4, .orders = { 0, 0, 3, 1, 1, 1, 0, 0, 2, 0, 1, 2 } }, /* 65,534 terms */
+    { .kind = 4, .orders = { 0, 0, 3, 1, 1, 1, 0, 0, 2, 0, 1, 2 } }, /* the most terms, 65,534 */
+    { .kind = 4, .orders = { 1, 0, 3, 0, 1, 0, 4, 0, 0, 1, 1, 1 } }, /* the longest roll, 850,272 bytes */
     { .kind = 0, .orders = { 4, 0, 0, 4, 0, 0 } },
     { .kind = 1, .orders = { 4, 0, 0, 4, 0, 0 } },
     { .kind = 2, .orders = { 4, 0, 0, 4, 0, 0 } },
@@ -102,7 +103,7 @@ void make_requests(void)
 
 const struct request *largest_request(void)
 {
-    return &requests[SMALL + LONGER];
+    return &requests[SMALL + LONGER + below(LARGEST)];
 }
 
 const struct request *known_request(void)
@@ -111,7 +112,7 @@ const struct request *known_request(void)
         return largest_request();
     if (once_in(60))
         return &requests[SMALL + below(LONGER)];
-    return once_in(20) ? &requests[SMALL + LONGER + 1 + below(NAMED - 1)] : &requests[below(SMALL)];
+    return once_in(20) ? &requests[SMALL + LONGER + LARGEST + below(NAMED - LARGEST)] : &requests[below(SMALL)];
 }
 
 void any_request(struct request *request)

@@ -39,7 +39,7 @@ static const struct {
 };
 
 uint64_t further_calls;
-static uint64_t answers[FUNCTIONS][14], found[3], largest_rolls, empties[EMPTIES];
+static uint64_t answers[FUNCTIONS][14], found[3], most_terms, most_bytes, empties[EMPTIES];
 
 void begin(enum function f, const char *labels, size_t words_count, const uint64_t *words)
 {
@@ -85,7 +85,8 @@ void count_found(uint8_t which)
 
 void count_roll(xew_written written)
 {
-    largest_rolls += written.terms == 65534;
+    most_terms += written.terms == 65534;
+    most_bytes += written.length == 850272;
 }
 
 void maybe_null(struct slice *slice, enum empty which)
@@ -122,8 +123,10 @@ bool report(void)
         const char *name = functions[f].name;
         printf("%s", name);
         show(name, "answered", answers[f][0]);
-        if (f == EXPAND)
-            show(name, "65,534 terms", largest_rolls);
+        if (f == EXPAND) {
+            show(name, "65,534 terms", most_terms);
+            show(name, "850,272 bytes", most_bytes);
+        }
         if (f == NEXT) {
             show(name, "term", found[1]);
             show(name, "end", found[2]);
