@@ -1,0 +1,209 @@
+/* calls ends|begins CALLS SEED [SCENE]: random calls of the exported functions on memory whose lent slices end at, or
+ * begin after, an unreadable page. Each call is made twice and held against expected.c and the header's promises.
+ * CALLS counts arguments drawn anew, not second calls nor steps through a roll. With SCENE, that scene alone. */
+#include "tally.h"
+#include <math.h>
+#include <stdio.h>
+#include <stdlib.h>
+#include <string.h>
+#include <unistd.h>
+
+struct arena roll_arena, orders_arena, out_arena, boys_arena, i_arena, d_arena, j_arena, k_arena;
+
+static void try_shell_list(void)
+{
+    uint8_t list[45] = { 0 }, order = (uint8_t)(once_in(8) ? bits() : below(6));
+    size_t need = expected_list(order, list);
+    size_t length = (size_t[]){ need, need, need + below(80), need ? need - 1 : 0, below(100), 0, 1 }[below(7)];
+    size_t start = any_start(length, need), room = start <= length ? length - start : 0;
+    xew_written expected = { need, (uint32_t)need / 3, 0 };
+    if (order > 4 || start > length || need > room)
+        expected = (xew_written){ 0, 0, order > 4 ? 2 : start > length ? 5 : 6 };
+    struct slice out = lend(&out_arena, "out", length, 1);
+    maybe_null(&out, LIST_OUT);
+    for (int again = 0; again < 2; again++) {
+        uint8_t byte = (uint8_t)bits();
+        fill(&out, byte);
+        BEGIN(SHELL_LIST, "order out_len start", order, length, start);
+        with_slice(&out);
+        xew_written w = xew_shell_list(order, out.lent, length, start);
+        count(SHELL_LIST, w.refusal, again);
+        hold(same_written(w, expected), "xew_shell_list: another answer than document 01's");
+        size_t from = w.refusal ? 0 : start;
+        hold(untouched(&out, byte, from, from + w.length), "xew_shell_list: a byte changed beside the list");
+        hold(!memcmp((uint8_t *)out.mine + from, list, w.length), "xew_shell_list: another list than document 01's");
+    }
+}
+
+static void try_component(enum function f)
+{
+    int shells = f == SHELL2 ? 2 : 4;
+    uint8_t m[4];
+    uint32_t all = 1;
+    for (int i = 0; i < 4; i++) {
+        m[i] = (uint8_t)(once_in(30) ? bits() : once_in(30) ? 5 : below(5));
+        all *= i < shells && m[i] < 5 ? (m[i] + 1u) * (m[i] + 2u) / 2 : 1;
+    }
+    uint32_t number = (uint32_t[]){ all, all - 1, all + 1, 0, (uint32_t)bits(), UINT32_MAX, (uint32_t)below(all),
+                                    (uint32_t)below(all) }[below(8)];
+    xew_component expected = expected_component(m, shells, number);
+    for (int again = 0; again < 2; again++) {
+        BEGIN(f, "a b c d number", m[0], m[1], m[2], m[3], number);
+        xew_component c = f == SHELL2 ? xew_shell2(m[0], m[1], number) : xew_shell4(m[0], m[1], m[2], m[3], number);
+        count(f, c.refusal, again);
+        hold(c.refusal == expected.refusal && !memcmp(c.orders, expected.orders, sizeof c.orders),
+             "a component: another answer than document 01's");
+    }
+}
+
+static void try_prefactors(void)
+{
+    xew_centre c[4];
+    any_centres(c);
+    uint8_t kind = (uint8_t)(once_in(20) ? bits() : below(6)), expected = expected_table(kind, c);
+    xew_table first = { 0 };
+    for (int again = 0; again < 2; again++) {
+        BEGIN(PREFACTORS, "kind", kind);
+        with_floats(&c[0].x, 16);
+        xew_table table = xew_prefactors(kind, c[0], c[1], c[2], c[3]);
+        count(PREFACTORS, table.refusal, again);
+        hold(table.refusal == expected || (!expected && table.refusal == 11), "xew_prefactors: another refusal");
+        for (int i = table.refusal ? 0 : table_size[kind]; i < XEW_TABLE; i++)
+            hold(table.entries[i] == 0 && !signbit(table.entries[i]), "xew_prefactors: a number beside the entries");
+        hold(all_finite(table.entries, XEW_TABLE), "xew_prefactors: an entry that is not finite");
+        hold(!again || (first.refusal == table.refusal && !memcmp(first.entries, table.entries, sizeof table.entries)),
+             "xew_prefactors: two answers");
+        first = table;
+    }
+}
+
+static bool mirrored(const uint64_t *matrix, size_t n)
+{
+    for (size_t row = 0; row < n; row++)
+        for (size_t column = 0; column < row; column++)
+            if (matrix[row * n + column] != matrix[column * n + row])
+                return false;
+    return true;
+}
+
+static void try_jk(void)
+{
+    static double floats[65537], matrix[257], first_j[256], first_k[256];
+    static const size_t wrong[] = { 0, 17, 18, 255, 65536, (size_t)1 << 32, (size_t)3 << 32, (size_t)1 << 62,
+                                    (size_t)1 << 63, SIZE_MAX };
+    size_t size = once_in(2000) ? 16 : once_in(40) ? 5 + below(6) : 1 + below(4), n = size;
+    if (once_in(15)) {
+        n = wrong[below(10)];
+        size = once_in(2) ? 0 : size; /* what n*n and n*n*n*n are modulo 2^64, mostly */
+    }
+    size_t lengths[4] = { size * size * size * size, size * size, size * size, size * size };
+    if (once_in(3)) {
+        size_t *one = &lengths[below(4)];
+        *one = (size_t[]){ 0, *one + 1, *one ? *one - 1 : 1, below(20) }[below(4)];
+    }
+    any_floats(floats, lengths[0]);
+    any_floats(matrix, lengths[1]);
+    struct slice i = lend_copy(&i_arena, "i", floats, lengths[0], 8);
+    struct slice d = lend_copy(&d_arena, "d", matrix, lengths[1], 8);
+    struct slice j = lend(&j_arena, "j", lengths[2], 8), k = lend(&k_arena, "k", lengths[3], 8);
+    uint8_t expected = expected_jk(n, floats, matrix, lengths), first = 0;
+    maybe_null(&i, JK_I);
+    maybe_null(&d, JK_D);
+    maybe_null(&j, JK_J);
+    maybe_null(&k, JK_K);
+    for (int again = 0; again < 2; again++) {
+        uint8_t byte = (uint8_t)bits();
+        fill(&j, byte);
+        fill(&k, byte);
+        BEGIN(JK, "n", n);
+        with_slice(&i);
+        with_slice(&d);
+        with_slice(&j);
+        with_slice(&k);
+        uint8_t refusal = xew_jk(n, i.lent, lengths[0], d.lent, lengths[1], j.lent, lengths[2], k.lent, lengths[3]);
+        count(JK, refusal, again);
+        hold(refusal == expected || (!expected && refusal == 11), "xew_jk: another refusal");
+        hold(!again || refusal == first, "xew_jk: two answers");
+        first = refusal;
+        hold(untouched(&j, byte, 0, refusal ? 0 : n * n) && untouched(&k, byte, 0, refusal ? 0 : n * n),
+             "xew_jk: a float changed beside a refusal or the result");
+        if (refusal)
+            continue;
+        hold(all_finite(j.mine, n * n) && all_finite(k.mine, n * n), "xew_jk: a result that is not finite");
+        hold(mirrored(j.mine, n) && mirrored(k.mine, n), "xew_jk: a result that is not mirrored");
+        hold(!again || (!memcmp(first_j, j.mine, n * n * 8) && !memcmp(first_k, k.mine, n * n * 8)),
+             "xew_jk: two results");
+        memcpy(first_j, j.mine, n * n * 8);
+        memcpy(first_k, k.mine, n * n * 8);
+    }
+}
+
+static void play(void)
+{
+    static uint8_t bytes[MOST_BYTES];
+    if (call.scene % 500 == 1) {
+        const struct request *largest = largest_request();
+        try_expand(largest, largest->length, 0);
+    }
+    struct slice roll = lend_copy(&roll_arena, "roll", bytes, any_roll(bytes), 1);
+    xew_opened opened = try_open(roll), checked = try_check(roll);
+    hold(checked.refusal || same_opened(opened, checked), "xew_open and xew_check disagree");
+    xew_cursor cursor = { below(roll.length + 1), 1, 0, 8 };
+    if (!opened.refusal)
+        cursor = step_through(roll, opened, checked);
+    try_next(roll, cursor);
+    for (int i = 0; i < 3; i++)
+        try_next(roll, any_cursor(cursor, roll.length));
+    try_evaluate(roll, checked);
+    try_evaluate(roll, checked);
+
+    const struct request *known = known_request();
+    size_t need = known->length;
+    size_t length = (size_t[]){ need, need, need + below(200), need - 1, below(need), 0, 1 }[below(7)];
+    try_expand(known, length, any_start(length, need));
+    struct request request;
+    any_request(&request);
+    length = once_in(100) ? MOST_BYTES : below(4000);
+    try_expand(&request, length, any_start(length, 100));
+
+    try_shell_list();
+    try_component(SHELL2);
+    try_component(SHELL4);
+    try_prefactors();
+    try_prefactors();
+    try_jk();
+}
+
+int main(int words, char **word)
+{
+    bool ends = words > 1 && !strcmp(word[1], "ends");
+    if ((words != 4 && words != 5) || (!ends && strcmp(word[1], "begins"))) {
+        fprintf(stderr, "usage: calls ends|begins CALLS SEED [SCENE]\n");
+        return 2;
+    }
+    static char again[1024];
+    snprintf(again, sizeof again, "%s %s %s %s", word[0], word[1], word[2], word[3]);
+    repeat = again;
+    pass = ends ? ENDS : BEGINS;
+    uint64_t calls = strtoull(word[2], NULL, 10), seed = strtoull(word[3], NULL, 10);
+    make_arena(&roll_arena, MOST_BYTES, false);
+    make_arena(&orders_arena, XEW_ORDERS, false);
+    make_arena(&out_arena, MOST_BYTES, true);
+    make_arena(&boys_arena, 48 * 8, false);
+    make_arena(&i_arena, 65537 * 8, false);
+    make_arena(&d_arena, 257 * 8, false);
+    make_arena(&j_arena, 257 * 8, true);
+    make_arena(&k_arena, 257 * 8, true);
+    catch_faults();
+    alarm(10);
+    seed_random(seed, 0);
+    make_requests();
+    if (words == 5)
+        call.scene = strtoull(word[4], NULL, 10) - 1;
+    do {
+        alarm(10);
+        seed_random(seed, ++call.scene);
+        play();
+    } while (words == 4 && call.number < calls);
+    return words == 5 || report() ? 0 : 1;
+}

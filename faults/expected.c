@@ -1,0 +1,210 @@
+/* What a call must answer, by docs/01-scope.md alone: everything but the terms of an expansion, the floats of a result
+ * and whether they are finite. */
+#include "faults.h"
+#include <math.h>
+#include <string.h>
+
+const uint8_t orders_used[] = { 6, 6, 6, 9, 12 }, table_size[] = { 8, 11, 11, 12, 23 }, most_l[] = { 8, 8, 8, 12, 16 };
+/* The longest rolls of the unchanged Rust within the cap. */
+const size_t longest_roll[] = { 681, 5825, 41977, 28774, 850272 };
+
+uint8_t expected_request(uint8_t kind, const uint8_t *orders)
+{
+    if (kind > 4)
+        return 1;
+    for (int i = 0; i < orders_used[kind]; i += 3)
+        if (orders[i] + orders[i + 1] + orders[i + 2] > 4)
+            return 2;
+    for (int i = orders_used[kind]; i < XEW_ORDERS; i++)
+        if (orders[i] != 0)
+            return 3;
+    return 0;
+}
+
+size_t expected_list(uint8_t order, uint8_t *out)
+{
+    size_t at = 0;
+    if (order > 4)
+        return 0;
+    for (int x = order; x >= 0; x--)
+        for (int y = order - x; y >= 0; y--) {
+            out[at++] = (uint8_t)x;
+            out[at++] = (uint8_t)y;
+            out[at++] = (uint8_t)(order - x - y);
+        }
+    return at;
+}
+
+xew_component expected_component(const uint8_t *shells, int count, uint32_t number)
+{
+    xew_component answer = { { 0 }, 0 };
+    uint8_t list[45];
+    for (int i = 0; i < count; i++)
+        if (shells[i] > 4)
+            answer.refusal = 2;
+    for (int i = count - 1; i >= 0 && !answer.refusal; i--) {
+        uint32_t triples = (uint32_t)expected_list(shells[i], list) / 3;
+        memcpy(answer.orders + 3 * i, list + 3 * (number % triples), 3);
+        number /= triples;
+    }
+    if (!answer.refusal && number > 0)
+        answer = (xew_component){ { 0 }, 13 };
+    return answer;
+}
+
+/* Reads a number and moves on; stays where it is and answers false if there is none from least to most. */
+static bool number(const uint8_t *roll, size_t length, size_t *at, uint64_t least, uint64_t most, uint64_t *value)
+{
+    uint64_t sum = 0;
+    for (size_t i = 0; i < 5 && i < length - *at; i++) {
+        uint8_t byte = roll[*at + i];
+        sum += (uint64_t)(byte % 128) << 7 * i;
+        if (byte >= 128)
+            continue;
+        if ((byte == 0 && i > 0) || sum >= (uint64_t)1 << 32 || sum < least || sum > most)
+            return false;
+        *at += i + 1;
+        *value = sum;
+        return true;
+    }
+    return false;
+}
+
+xew_opened expected_open(const uint8_t *roll, size_t length)
+{
+    xew_opened opened = { 0 }, refused = { 0 };
+    size_t at = 0;
+    uint64_t value, room = 0;
+    refused.refusal = 7;
+    bool good = number(roll, length, &at, 0, 4, &value);
+    if (good)
+        opened.cursor.kind = (uint8_t)value;
+    for (int i = 0; good && i < orders_used[opened.cursor.kind]; i++) {
+        room = i % 3 ? room : 4;
+        good = number(roll, length, &at, 0, room, &value);
+        if (good) {
+            opened.orders[i] = (uint8_t)value;
+            opened.cursor.l = (uint8_t)(opened.cursor.l + value);
+            room -= value;
+        }
+    }
+    if (good && number(roll, length, &at, 1, XEW_MOST_TERMS, &value)) {
+        opened.cursor.left = (uint32_t)value;
+        opened.cursor.place = at;
+        return opened;
+    }
+    refused.place = at;
+    return refused;
+}
+
+xew_step expected_next(xew_cursor cursor, const uint8_t *roll, size_t length)
+{
+    xew_step step = { 0 }, refused = { 0 };
+    size_t at = cursor.place;
+    uint64_t value;
+    refused.refusal = 7;
+    refused.place = at;
+    if (cursor.kind > 4 || cursor.l > most_l[cursor.kind] || at > length || (cursor.left == 0 && at < length))
+        return refused;
+    if (cursor.left == 0) {
+        step.found = 2;
+        return step;
+    }
+    bool has_boys = cursor.kind == 2 || cursor.kind == 4;
+    bool good = number(roll, length, &at, 1, XEW_MOST_SCALE, &value);
+    if (good) {
+        step.scale = (uint32_t)value;
+        good = number(roll, length, &at, 0, has_boys ? cursor.l : 0, &value);
+    }
+    if (good) {
+        step.boys = (uint8_t)value;
+        good = number(roll, length, &at, 0, (uint64_t)cursor.l + (cursor.kind == 1), &value);
+    }
+    if (good)
+        step.count = (uint8_t)value;
+    for (int i = 0; good && i < step.count; i++) {
+        good = number(roll, length, &at, 0, table_size[cursor.kind] - 1u, &value);
+        if (good)
+            step.prefactors[i] = (uint8_t)value;
+    }
+    refused.place = at;
+    if (!good)
+        return refused;
+    step.found = 1;
+    step.next = cursor;
+    step.next.place = at;
+    step.next.left--;
+    return step;
+}
+
+xew_opened expected_check(const uint8_t *roll, size_t length)
+{
+    xew_opened opened = expected_open(roll, length);
+    if (opened.refusal)
+        return opened;
+    xew_step step = { .next = opened.cursor, .found = 1 };
+    while (step.found == 1)
+        step = expected_next(step.next, roll, length);
+    if (step.found == 2)
+        return opened;
+    opened = (xew_opened){ 0 };
+    opened.place = step.place;
+    opened.refusal = step.refusal;
+    return opened;
+}
+
+bool all_finite(const double *floats, size_t count)
+{
+    for (size_t i = 0; i < count; i++)
+        if (!isfinite(floats[i]))
+            return false;
+    return true;
+}
+
+static bool centres_finite(uint8_t kind, const xew_centre *centres)
+{
+    size_t used = kind == 4 ? 4 : 2;
+    for (size_t i = 0; i < used; i++)
+        if (!all_finite((double[]){ centres[i].x, centres[i].y, centres[i].z, centres[i].exponent }, 4))
+            return false;
+    return (kind != 2 && kind != 3) || all_finite((double[]){ centres[2].x, centres[2].y, centres[2].z }, 3);
+}
+
+static bool exponents_positive(uint8_t kind, const xew_centre *centres)
+{
+    for (int i = 0; i < (kind == 4 ? 4 : 2); i++)
+        if (!(centres[i].exponent > 0))
+            return false;
+    return true;
+}
+
+uint8_t expected_table(uint8_t kind, const xew_centre *centres)
+{
+    if (kind > 4)
+        return 1;
+    if (!centres_finite(kind, centres))
+        return 8;
+    return exponents_positive(kind, centres) ? 0 : 9;
+}
+
+uint8_t expected_value(xew_opened checked, const xew_centre *centres, double aux, const double *boys,
+                       size_t boys_length)
+{
+    uint8_t kind = checked.cursor.kind;
+    if (checked.refusal)
+        return 7;
+    if (!centres_finite(kind, centres) || !isfinite(aux) || !all_finite(boys, boys_length))
+        return 8;
+    if (!exponents_positive(kind, centres))
+        return 9;
+    return boys_length == (kind == 2 || kind == 4 ? checked.cursor.l + 1u : 0) ? 0 : 10;
+}
+
+uint8_t expected_jk(size_t n, const double *i, const double *d, const size_t lengths[4])
+{
+    if (n < 1 || n > XEW_MOST_SIZE || lengths[0] != n * n * n * n)
+        return 12;
+    if (lengths[1] != n * n || lengths[2] != n * n || lengths[3] != n * n)
+        return 12;
+    return all_finite(i, lengths[0]) && all_finite(d, lengths[1]) ? 0 : 8;
+}

@@ -1,0 +1,87 @@
+/* What the files of faults/ share. */
+#ifndef FAULTS_H
+#define FAULTS_H
+
+#include "../include/xewumbal.h"
+#include <stdbool.h>
+
+/* memory.c: memory between unreadable pages. The library sees a mapping of its own, which is read-only unless it is
+ * lent for writing; this program writes the same pages by another mapping. */
+enum pass { ENDS, BEGINS };
+extern enum pass pass; /* where a lent slice touches an unreadable page */
+
+struct arena {
+    uint8_t *lent, *mine;
+    size_t size;
+};
+
+struct slice {
+    const char *name;
+    void *lent, *mine;
+    size_t length, width; /* elements, and the bytes of one */
+    size_t before, after; /* bytes beside the slice that are watched too */
+};
+
+void make_arena(struct arena *arena, size_t size, bool writable);
+struct slice lend(const struct arena *arena, const char *name, size_t length, size_t width);
+struct slice lend_copy(const struct arena *arena, const char *name, const void *from, size_t length, size_t width);
+void fill(const struct slice *slice, uint8_t byte);
+/* Whether all bytes beside from .. to are still what fill left. */
+bool untouched(const struct slice *slice, uint8_t byte, size_t from, size_t to);
+
+/* memory.c: the call that is being made, so that it can be told and repeated. */
+struct call {
+    const char *name, *labels;
+    uint64_t number, scene, words[8];
+    struct slice slices[4];
+    double floats[17];
+    size_t slice_count, float_count;
+};
+extern struct call call;
+extern const char *repeat; /* the words of a run, but for the scene */
+_Noreturn void fail(const char *what);
+void catch_faults(void);
+
+/* inputs.c: chance. */
+void seed_random(uint64_t seed, uint64_t scene);
+uint64_t bits(void);
+uint64_t below(uint64_t most);
+bool once_in(uint64_t times);
+
+/* inputs.c: requests and their rolls, and other bytes. */
+struct request {
+    uint8_t kind, orders[XEW_ORDERS];
+    uint32_t terms;
+    size_t length;
+    const uint8_t *roll;
+};
+#define MOST_BYTES 1048576
+void make_requests(void);
+const struct request *known_request(void);
+const struct request *largest_request(void);
+void any_request(struct request *request);
+size_t any_roll(uint8_t *out); /* at most MOST_BYTES */
+size_t any_start(size_t length, size_t need);
+xew_cursor any_cursor(xew_cursor cursor, size_t length);
+
+/* inputs.c: floats. */
+double any_float(void);
+void any_floats(double *out, size_t count);
+void any_centres(xew_centre centres[4]);
+
+/* expected.c: what a call must answer, by docs/01-scope.md alone. */
+extern const uint8_t orders_used[XEW_KINDS], table_size[XEW_KINDS], most_l[XEW_KINDS];
+extern const size_t longest_roll[XEW_KINDS];
+uint8_t expected_request(uint8_t kind, const uint8_t *orders);
+size_t expected_list(uint8_t order, uint8_t *out); /* its bytes; 0 where there is none */
+xew_component expected_component(const uint8_t *shells, int count, uint32_t number);
+xew_opened expected_open(const uint8_t *roll, size_t length);
+xew_opened expected_check(const uint8_t *roll, size_t length);
+xew_step expected_next(xew_cursor cursor, const uint8_t *roll, size_t length);
+uint8_t expected_table(uint8_t kind, const xew_centre *centres);                  /* 0: or 11 */
+uint8_t expected_value(xew_opened checked, const xew_centre *centres, double aux, /* 0: or 11 */
+                       const double *boys, size_t boys_length);
+uint8_t expected_jk(size_t n, const double *i, const double *d, const size_t lengths[4]); /* 0: or 11 */
+bool all_finite(const double *floats, size_t count);
+
+#endif

@@ -1,0 +1,307 @@
+/* Random requests, rolls, cursors and floats: ordinary, at a limit and wrong. */
+#include "faults.h"
+#include <float.h>
+#include <math.h>
+#include <stdlib.h>
+#include <string.h>
+
+static uint64_t state;
+
+uint64_t bits(void) /* splitmix64 */
+{
+    uint64_t z = state += 0x9e3779b97f4a7c15;
+    z = (z ^ z >> 30) * 0xbf58476d1ce4e5b9;
+    z = (z ^ z >> 27) * 0x94d049bb133111eb;
+    return z ^ z >> 31;
+}
+
+void seed_random(uint64_t seed, uint64_t scene)
+{
+    state = seed;
+    state = bits() ^ scene * 0xd1342543de82ef95;
+}
+
+uint64_t below(uint64_t most)
+{
+    return bits() % most;
+}
+
+bool once_in(uint64_t times)
+{
+    return below(times) == 0;
+}
+
+#define ONE_OF(list) ((list)[below(sizeof(list) / sizeof *(list))])
+
+/* Requests whose rolls are known: small ones, longer ones, and the largest of each kind that has many terms. */
+enum { SMALL = 400, LONGER = 60, NAMED = 7, LARGEST = 2, MOST_SMALL = 1500, MOST_LONGER = 45000 };
+static struct request requests[SMALL + LONGER + NAMED];
+static const struct request named[NAMED] = {
+    { .kind = 4, .orders = { 0, 0, 3, 1, 1, 1, 0, 0, 2, 0, 1, 2 } }, /* the most terms, 65,534 */
+    { .kind = 4, .orders = { 1, 0, 3, 0, 1, 0, 4, 0, 0, 1, 1, 1 } }, /* the longest roll, 850,272 bytes */
+    { .kind = 0, .orders = { 4, 0, 0, 4, 0, 0 } },
+    { .kind = 1, .orders = { 4, 0, 0, 4, 0, 0 } },
+    { .kind = 2, .orders = { 4, 0, 0, 4, 0, 0 } },
+    { .kind = 3, .orders = { 4, 0, 0, 4, 0, 0, 4, 0, 0 } },
+    { .kind = 4, .orders = { 1, 0, 0, 1, 0, 0, 1, 0, 0, 1, 0, 0 } },
+};
+
+static void centre_orders(uint8_t *orders, uint64_t most)
+{
+    uint64_t left = below(most + 1), axis = below(3);
+    memset(orders, 0, 3);
+    orders[axis] = (uint8_t)left;
+    if (once_in(3))
+        return;
+    orders[axis] = (uint8_t)below(left + 1);
+    orders[(axis + 1) % 3] = (uint8_t)(left - orders[axis]);
+}
+
+static void legal_request(struct request *request, uint64_t most)
+{
+    memset(request, 0, sizeof *request);
+    request->kind = (uint8_t)below(5);
+    for (int i = 0; i < orders_used[request->kind]; i += 3)
+        centre_orders(request->orders + i, request->kind == 4 ? most : 4);
+}
+
+/* Expands a request for the list; false where its roll is not wanted. */
+static bool keep(struct request *request, size_t most)
+{
+    static uint8_t out[MOST_BYTES];
+    xew_written written = xew_expand(request->kind, &request->orders, out, sizeof out, 0);
+    if (written.refusal || written.length > most)
+        return false;
+    uint8_t *roll = malloc(written.length);
+    if (!roll)
+        abort();
+    memcpy(roll, out, written.length);
+    request->terms = written.terms;
+    request->length = written.length;
+    request->roll = roll;
+    return true;
+}
+
+void make_requests(void)
+{
+    struct request *next = requests;
+    call.name = "xew_expand";
+    call.labels = "";
+    for (int tries = 0; next < requests + SMALL + LONGER; tries++) {
+        bool small = next < requests + SMALL;
+        legal_request(next, small ? 1 + below(2) : 3);
+        next += keep(next, small ? MOST_SMALL : MOST_LONGER);
+        if (tries == 20000)
+            fail("xew_expand: too many refusals of legal requests");
+    }
+    for (int i = 0; i < NAMED; i++) {
+        *next = named[i];
+        if (!keep(next++, MOST_BYTES))
+            fail("xew_expand: a request within the cap is refused");
+    }
+}
+
+const struct request *largest_request(void)
+{
+    return &requests[SMALL + LONGER + below(LARGEST)];
+}
+
+const struct request *known_request(void)
+{
+    if (once_in(2000))
+        return largest_request();
+    if (once_in(60))
+        return &requests[SMALL + below(LONGER)];
+    return once_in(20) ? &requests[SMALL + LONGER + LARGEST + below(NAMED - LARGEST)] : &requests[below(SMALL)];
+}
+
+void any_request(struct request *request)
+{
+    legal_request(request, once_in(100) ? 4 : 1 + below(2));
+    if (once_in(200)) {
+        *request = named[0];
+        for (int i = 0; i < XEW_ORDERS; i++)
+            request->orders[i] = i % 3 ? 0 : 4; /* Coulomb x4,x4,x4,x4 */
+    }
+    if (once_in(12))
+        request->orders[below(XEW_ORDERS)] = (uint8_t[]){ 1, 2, 4, 5, 9, 127, 128, 255 }[below(8)];
+    if (once_in(40))
+        for (int i = 0; i < XEW_ORDERS; i++)
+            request->orders[i] = (uint8_t)bits();
+    if (once_in(30))
+        request->kind = (uint8_t)(once_in(2) ? 5 : bits());
+}
+
+size_t any_start(size_t length, size_t need)
+{
+    switch (below(8)) {
+    case 0: return length;
+    case 1: return length + 1;
+    case 2: return below(length + 3);
+    case 3: return need <= length ? length - need : 0;
+    case 4: return need < length ? length - need + 1 : 1;
+    case 5: return (size_t[]){ SIZE_MAX, SIZE_MAX - 1, SIZE_MAX - need, (size_t)1 << 63, (size_t)1 << 32 }[below(5)];
+    default: return 0;
+    }
+}
+
+static size_t put(uint8_t *out, uint64_t number)
+{
+    size_t at = 0;
+    for (; number >= 128; number /= 128)
+        out[at++] = (uint8_t)(128 + number % 128);
+    out[at++] = (uint8_t)number;
+    return at;
+}
+
+/* A legal roll that no expansion gives, with numbers at and beyond their limits now and then. */
+static size_t made_up(uint8_t *out)
+{
+    static const uint32_t scales[] = { 1, 2, 127, 128, 16383, 16384, 65535, 65536, 65537, 0 };
+    struct request request;
+    legal_request(&request, 4);
+    uint8_t kind = request.kind;
+    uint64_t l = 0, count = below(once_in(20) ? 300 : 8);
+    bool good = !once_in(4), has_boys = kind == 2 || kind == 4;
+    size_t at = put(out, kind);
+    count += good && count == 0;
+    for (int i = 0; i < orders_used[kind]; i++) {
+        at += put(out + at, request.orders[i]);
+        l += request.orders[i];
+    }
+    at += put(out + at, count);
+    for (uint64_t term = 0; term < count; term++) {
+        uint64_t odd = !good && once_in(8), most = l + (kind == 1);
+        uint64_t factors = once_in(3) ? most + odd : below(most + 1);
+        at += put(out + at, good ? scales[below(8)] : ONE_OF(scales));
+        at += put(out + at, has_boys ? below(l + 1 + odd) : odd);
+        at += put(out + at, factors);
+        for (uint64_t i = 0; i < factors; i++)
+            at += put(out + at, below(table_size[kind] + odd));
+    }
+    return at;
+}
+
+static size_t noise(uint8_t *out)
+{
+    size_t length = below(once_in(10) ? 4000 : 40);
+    bool low = once_in(2);
+    for (size_t i = 0; i < length; i++)
+        out[i] = (uint8_t)(low ? below(6) : bits());
+    return length;
+}
+
+static size_t mutated(uint8_t *out, size_t length)
+{
+    static const uint8_t bytes[] = { 0, 1, 4, 5, 8, 22, 23, 127, 128, 129, 255 };
+    size_t at = length ? below(once_in(2) && length > 30 ? 30 : length) : 0;
+    size_t more = 1 + below(5);
+    switch (length ? below(8) : 5) {
+    case 0: out[at] ^= (uint8_t)(1 << below(8)); break;
+    case 1: out[at] = ONE_OF(bytes); break;
+    case 2: return at;
+    case 3: return length - 1;
+    case 4: /* a byte less */
+        memmove(out + at, out + at + 1, length - at - 1);
+        return length - 1;
+    case 5: /* bytes too many */
+        for (size_t i = 0; i < more; i++)
+            out[length + i] = ONE_OF(bytes);
+        return length + more;
+    case 6: /* a byte more */
+        memmove(out + at + 1, out + at, length - at);
+        out[at] = ONE_OF(bytes);
+        return length + 1;
+    default: /* a number that is longer than it need be, or too large */
+        memmove(out + at + more, out + at, length - at);
+        memset(out + at, 128, more);
+        out[at] = (uint8_t)(128 + out[at + more] % 128);
+        out[at + more] = once_in(2) ? 0 : 127;
+        return length + more;
+    }
+    return length;
+}
+
+size_t any_roll(uint8_t *out)
+{
+    size_t length = below(8);
+    switch (length) {
+    case 0: return made_up(out);
+    case 1: return noise(out);
+    case 2: return once_in(4) ? 0 : mutated(out, made_up(out));
+    }
+    const struct request *known = known_request();
+    memcpy(out, known->roll, known->length);
+    length = known->length;
+    if (once_in(2))
+        return length;
+    for (uint64_t times = 1 + below(3); times > 0; times--)
+        length = mutated(out, length);
+    return length;
+}
+
+xew_cursor any_cursor(xew_cursor cursor, size_t length)
+{
+    static const uint8_t ls[] = { 0, 1, 7, 8, 9, 11, 12, 13, 15, 16, 17, 128, 255 };
+    static const uint32_t lefts[] = { 0, 1, 2, 65535, 65536, UINT32_MAX };
+    const size_t places[] = { length, length + 1, length + 2, SIZE_MAX, SIZE_MAX - 1, (size_t)1 << 63,
+                              (size_t)1 << 32 };
+    if (once_in(3))
+        cursor.kind = (uint8_t)(once_in(4) ? bits() : below(6));
+    if (once_in(3))
+        cursor.l = once_in(4) ? (uint8_t)bits() : ONE_OF(ls);
+    if (once_in(3))
+        cursor.left = once_in(4) ? (uint32_t)bits() : ONE_OF(lefts);
+    if (once_in(2))
+        cursor.place = once_in(2) ? below(length + 1) : length > 20 && once_in(2) ? length - below(20) : ONE_OF(places);
+    return cursor;
+}
+
+double any_float(void)
+{
+    static const double odd[] = { 0.0, -0.0, 1.0, -1.0, INFINITY, -INFINITY, NAN, -NAN, DBL_MAX, -DBL_MAX, DBL_MIN,
+                                  DBL_TRUE_MIN, -DBL_TRUE_MIN, DBL_EPSILON, 1e154, 1e-154, 1e200, -1e-200 };
+    uint64_t b = bits();
+    double value;
+    if (once_in(2))
+        return ONE_OF(odd);
+    if (once_in(4))
+        b &= 0x800fffffffffffff; /* subnormal */
+    if (once_in(8))
+        b |= 0x7ff0000000000000; /* infinite or no number */
+    memcpy(&value, &b, sizeof value);
+    return value;
+}
+
+static double calm_float(void)
+{
+    return (double)(int64_t)bits() * 0x1p-62;
+}
+
+static double finite_float(void)
+{
+    return ldexp(calm_float(), (int)below(2100) - 1075);
+}
+
+void any_floats(double *out, size_t count)
+{
+    uint64_t taste = below(10);
+    for (size_t i = 0; i < count; i++)
+        out[i] = taste == 0 ? any_float() : taste < 3 ? finite_float() : calm_float();
+    if (taste < 5 && count > 0 && once_in(2))
+        out[below(count)] = any_float();
+    for (size_t i = 0; taste == 1 && i < count; i++)
+        if (!isfinite(out[i]))
+            out[i] = DBL_MAX;
+}
+
+void any_centres(xew_centre centres[4])
+{
+    double floats[16];
+    any_floats(floats, 16);
+    bool positive = !once_in(8);
+    for (int i = 0; i < 4; i++) {
+        const double *f = floats + 4 * i;
+        centres[i] = (xew_centre){ f[0], f[1], f[2], positive ? fabs(f[3]) : f[3] };
+    }
+}

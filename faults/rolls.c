@@ -1,0 +1,186 @@
+/* Calls on rolls. Each is made twice and held against expected.c and the header's promises. */
+#include "tally.h"
+#include <math.h>
+#include <string.h>
+
+static bool same_cursor(xew_cursor a, xew_cursor b)
+{
+    return a.place == b.place && a.left == b.left && a.kind == b.kind && a.l == b.l;
+}
+
+bool same_opened(xew_opened a, xew_opened b)
+{
+    return same_cursor(a.cursor, b.cursor) && a.place == b.place && a.refusal == b.refusal
+        && memcmp(a.orders, b.orders, sizeof a.orders) == 0;
+}
+
+static bool same_step(xew_step a, xew_step b)
+{
+    return same_cursor(a.next, b.next) && a.place == b.place && a.scale == b.scale && a.boys == b.boys
+        && a.count == b.count && a.found == b.found && a.refusal == b.refusal
+        && memcmp(a.prefactors, b.prefactors, sizeof a.prefactors) == 0;
+}
+
+xew_opened try_open(struct slice roll)
+{
+    xew_opened expected = expected_open(roll.mine, roll.length);
+    maybe_null(&roll, OPEN_ROLL);
+    for (int again = 0; again < 2; again++) {
+        BEGIN(OPEN, "roll_len", roll.length);
+        with_slice(&roll);
+        xew_opened opened = xew_open(roll.lent, roll.length);
+        count(OPEN, opened.refusal, again);
+        hold(same_opened(opened, expected), "xew_open: another answer than document 01's");
+    }
+    return expected;
+}
+
+xew_opened try_check(struct slice roll)
+{
+    xew_opened expected = expected_check(roll.mine, roll.length);
+    maybe_null(&roll, CHECK_ROLL);
+    for (int again = 0; again < 2; again++) {
+        BEGIN(CHECK, "roll_len", roll.length);
+        with_slice(&roll);
+        xew_opened checked = xew_check(roll.lent, roll.length);
+        count(CHECK, checked.refusal, again);
+        hold(same_opened(checked, expected), "xew_check: another answer than document 01's");
+    }
+    return expected;
+}
+
+static xew_step step(struct slice *roll, xew_cursor cursor)
+{
+    BEGIN(NEXT, "place left kind l roll_len", cursor.place, cursor.left, cursor.kind, cursor.l, roll->length);
+    with_slice(roll);
+    return xew_next(cursor, roll->lent, roll->length);
+}
+
+void try_next(struct slice roll, xew_cursor cursor)
+{
+    xew_step expected = expected_next(cursor, roll.mine, roll.length);
+    maybe_null(&roll, NEXT_ROLL);
+    for (int again = 0; again < 2; again++) {
+        xew_step answer = step(&roll, cursor);
+        count(NEXT, answer.refusal, again);
+        hold(same_step(answer, expected), "xew_next: another answer than document 01's");
+    }
+    count_found(expected.found);
+}
+
+/* Steps from the first term to the last: as many as the header says and then the end, or the place that check tells.
+ * Answers a cursor from the way, or the first. */
+xew_cursor step_through(struct slice roll, xew_opened opened, xew_opened checked)
+{
+    xew_step answer = { .next = opened.cursor, .found = 1 };
+    xew_cursor on_the_way = opened.cursor;
+    uint32_t terms = 0, stop = (uint32_t)below((uint64_t)opened.cursor.left + 1);
+    for (;; terms++) {
+        if (terms == stop)
+            on_the_way = answer.next;
+        answer = step(&roll, answer.next);
+        further_calls++;
+        if (answer.found != 1)
+            break;
+        hold(terms < opened.cursor.left, "more terms than the header says");
+    }
+    if (checked.refusal)
+        hold(answer.found == 0 && answer.refusal == 7 && answer.place == checked.place, "steps and check disagree");
+    else
+        hold(answer.found == 2 && answer.refusal == 0 && terms == opened.cursor.left, "the steps do not reach the end");
+    return on_the_way;
+}
+
+void try_evaluate(struct slice roll, xew_opened checked)
+{
+    struct {
+        xew_centre centres[4];
+        double aux;
+    } lent;
+    double numbers[48];
+    const xew_centre *c = lent.centres;
+    any_centres(lent.centres);
+    any_floats(&lent.aux, 1);
+    size_t right = checked.cursor.kind == 2 || checked.cursor.kind == 4 ? checked.cursor.l + 1u : 0, length = right;
+    if (once_in(5))
+        length = (size_t[]){ 0, right + 1, right ? right - 1 : 1, below(40) }[below(4)];
+    any_floats(numbers, length);
+    struct slice boys = lend_copy(&boys_arena, "boys", numbers, length, sizeof(double));
+    uint8_t expected = expected_value(checked, c, lent.aux, numbers, length);
+    xew_value first = { 0 };
+    maybe_null(&roll, EVALUATE_ROLL);
+    maybe_null(&boys, EVALUATE_BOYS);
+    for (int again = 0; again < 2; again++) {
+        BEGIN(EVALUATE, "roll_len boys_len", roll.length, length);
+        with_slice(&roll);
+        with_slice(&boys);
+        with_floats(&lent.centres[0].x, 17);
+        xew_value value = xew_evaluate(roll.lent, roll.length, c[0], c[1], c[2], c[3], lent.aux, boys.lent, length);
+        count(EVALUATE, value.refusal, again);
+        hold(value.refusal == expected || (!expected && value.refusal == 11), "xew_evaluate: another refusal");
+        hold(value.place == checked.place, "xew_evaluate: a place that is not check's");
+        hold(value.refusal ? value.value == 0 : isfinite(value.value), "xew_evaluate: its value");
+        hold(value.value != 0 || !signbit(value.value), "xew_evaluate: -0.0, which no sum from +0.0 is");
+        if (again)
+            hold(!memcmp(&first.value, &value.value, sizeof(double)) && first.refusal == value.refusal,
+                 "xew_evaluate: two answers");
+        first = value;
+    }
+}
+
+void try_expand(const struct request *request, size_t length, size_t start)
+{
+    static uint8_t first_roll[MOST_BYTES];
+    struct slice orders = lend_copy(&orders_arena, "orders", request->orders, XEW_ORDERS, 1);
+    struct slice out = lend(&out_arena, "out", length, 1);
+    uint8_t kind = request->kind, expected = expected_request(kind, request->orders);
+    size_t room = start <= length ? length - start : 0;
+    int l = 0;
+    for (int i = 0; i < XEW_ORDERS; i++)
+        l += request->orders[i];
+    if (!expected && start > length)
+        expected = 5;
+    if (!expected && kind == 4 && l > 12)
+        expected = 4;
+    if (!expected && request->roll && request->length > room)
+        expected = 6;
+    xew_written first = { 0 };
+    maybe_null(&out, EXPAND_OUT);
+    for (int again = 0; again < 2; again++) {
+        uint8_t byte = (uint8_t)bits();
+        fill(&out, byte);
+        BEGIN(EXPAND, "kind out_len start", kind, length, start);
+        with_slice(&orders);
+        with_slice(&out);
+        xew_written w = xew_expand(kind, orders.lent, out.lent, length, start);
+        count(EXPAND, w.refusal, again);
+        if (expected || request->roll)
+            hold(w.refusal == expected, "xew_expand: another refusal");
+        hold(w.refusal != 4 || (kind == 4 && l > 10), "xew_expand: 4 of a request within the cap");
+        hold(w.refusal != 6 || room < longest_roll[kind], "xew_expand: 6 where there is room");
+        hold(!again || same_written(first, w), "xew_expand: two answers");
+        first = w;
+        if (w.refusal) {
+            hold(w.length == 0 && w.terms == 0, "xew_expand: a number beside a refusal");
+            hold(untouched(&out, byte, 0, 0), "xew_expand: a byte changed beside a refusal");
+            continue;
+        }
+        hold(w.length <= room, "xew_expand: a length beyond the buffer");
+        hold(untouched(&out, byte, start, start + w.length), "xew_expand: a byte changed beside the roll");
+        const uint8_t *roll = (uint8_t *)out.mine + start;
+        hold(!again || memcmp(first_roll, roll, w.length) == 0, "xew_expand: two rolls");
+        memcpy(first_roll, roll, w.length);
+        if (request->roll)
+            hold(w.length == request->length && w.terms == request->terms && !memcmp(roll, request->roll, w.length),
+                 "xew_expand: another roll than before");
+    }
+    if (first.refusal)
+        return;
+    count_roll(first);
+    struct slice roll = lend_copy(&roll_arena, "roll", first_roll, first.length, 1);
+    xew_opened checked = try_check(roll);
+    hold(!checked.refusal && checked.cursor.kind == kind && checked.cursor.l == l && checked.cursor.left == first.terms
+             && !memcmp(checked.orders, request->orders, XEW_ORDERS), "xew_expand: its roll does not read back");
+    step_through(roll, checked, checked);
+}
+

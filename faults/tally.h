@@ -1,0 +1,41 @@
+/* What the calls of this folder share: which function is called, and how often it gave which answer. */
+#ifndef TALLY_H
+#define TALLY_H
+
+#include "faults.h"
+
+enum function { EXPAND, SHELL_LIST, SHELL2, SHELL4, OPEN, CHECK, NEXT, PREFACTORS, EVALUATE, JK, FUNCTIONS };
+
+/* Slices that may be of length 0 and null. */
+enum empty {
+    EXPAND_OUT, LIST_OUT, OPEN_ROLL, CHECK_ROLL, NEXT_ROLL, EVALUATE_ROLL, EVALUATE_BOYS, JK_I, JK_D, JK_J, JK_K,
+    EMPTIES
+};
+
+extern struct arena roll_arena, orders_arena, out_arena, boys_arena, i_arena, d_arena, j_arena, k_arena;
+extern uint64_t further_calls; /* second calls with the same arguments, and steps through a roll */
+
+/* tally.c */
+void begin(enum function f, const char *labels, size_t count, const uint64_t *words);
+#define BEGIN(f, labels, ...) \
+    begin(f, labels, sizeof((uint64_t[]){ __VA_ARGS__ }) / sizeof(uint64_t), (uint64_t[]){ __VA_ARGS__ })
+void with_slice(const struct slice *slice);
+void with_floats(const double *floats, size_t count);
+void hold(bool good, const char *what);
+void count(enum function f, uint8_t refusal, int again); /* again: 1 for the second call with the same arguments */
+void count_found(uint8_t found);
+void count_roll(xew_written written);
+void maybe_null(struct slice *slice, enum empty which); /* where the length is 0, half of the time */
+bool same_written(xew_written a, xew_written b);
+bool report(void); /* false where something that should come up did not */
+
+/* rolls.c: calls on rolls, each made twice */
+bool same_opened(xew_opened a, xew_opened b);
+xew_opened try_open(struct slice roll);
+xew_opened try_check(struct slice roll);
+void try_next(struct slice roll, xew_cursor cursor);
+xew_cursor step_through(struct slice roll, xew_opened opened, xew_opened checked);
+void try_evaluate(struct slice roll, xew_opened checked);
+void try_expand(const struct request *request, size_t length, size_t start);
+
+#endif

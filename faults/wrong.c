@@ -1,0 +1,101 @@
+/* Stand-ins that are wrong on purpose, before the library's functions (ld --wrap), so that faults/run self can show
+ * that each is caught. WRONG in the environment names the one. */
+#include "../include/xewumbal.h"
+#include <stdlib.h>
+#include <string.h>
+
+static const char *name;
+
+__attribute__((constructor)) static void choose(void)
+{
+    name = getenv("WRONG");
+}
+
+static int is(const char *wrong)
+{
+    return name && !strcmp(name, wrong);
+}
+
+static volatile uint8_t seen;
+static volatile int largest = 0x7fffffff;
+
+xew_opened __real_xew_check(const uint8_t *roll, size_t roll_len);
+xew_opened __wrap_xew_check(const uint8_t *roll, size_t roll_len)
+{
+    if (is("reads-past-the-end") && roll)
+        seen = roll[roll_len];
+    if (is("reads-before-the-beginning") && roll)
+        seen = roll[-1];
+    if (is("reads-an-empty-slice") && roll_len == 0)
+        seen = *(const volatile uint8_t *)roll;
+    if (is("writes-what-is-lent-for-reading") && roll_len > 0)
+        *(volatile uint8_t *)roll = *roll;
+    if (is("does-not-end"))
+        while (largest)
+            ;
+    if (is("undefined"))
+        largest = largest + 1;
+    if (is("beyond-an-array")) {
+        volatile uint8_t few[8] = { 0 };
+        seen = few[largest & 15];
+    }
+    xew_opened opened = __real_xew_check(roll, roll_len);
+    if (is("leaves-a-number-beside-a-refusal") && opened.refusal)
+        opened.cursor.l = 1;
+    if (is("takes-a-byte-too-many") && opened.refusal && opened.place + 1 == roll_len)
+        opened = xew_open(roll, roll_len);
+    return opened;
+}
+
+xew_written __real_xew_expand(uint8_t kind, const uint8_t (*orders)[12], uint8_t *out, size_t out_len, size_t start);
+xew_written __wrap_xew_expand(uint8_t kind, const uint8_t (*orders)[12], uint8_t *out, size_t out_len, size_t start)
+{
+    static int calls; /* the first ones make the requests whose rolls are known */
+    if (is("refuses-where-there-is-room") && ++calls > 5000 && out_len >= 1048576 && start == 0)
+        out_len = 0;
+    xew_written written = __real_xew_expand(kind, orders, out, out_len, start);
+    if (is("writes-beside-a-refusal") && written.refusal && out_len > 0)
+        out[out_len - 1] ^= 1;
+    if (is("writes-beyond-the-output") && !written.refusal && start + written.length < out_len)
+        out[start + written.length] ^= 1;
+    if (is("writes-before-the-start") && !written.refusal && start > 0)
+        out[start - 1] ^= 1;
+    if (is("refuses-by-a-number-not-listed") && written.refusal == 6)
+        written.refusal = 13;
+    if (is("counts-a-term-too-many") && !written.refusal)
+        written.terms++;
+    if (is("refuses-everything"))
+        written = (xew_written){ 0, 0, 4 };
+    return written;
+}
+
+xew_value __real_xew_evaluate(const uint8_t *roll, size_t roll_len, xew_centre a, xew_centre b, xew_centre c,
+                              xew_centre d, double aux, const double *boys, size_t boys_len);
+xew_value __wrap_xew_evaluate(const uint8_t *roll, size_t roll_len, xew_centre a, xew_centre b, xew_centre c,
+                              xew_centre d, double aux, const double *boys, size_t boys_len)
+{
+    static int calls;
+    if (is("reads-a-float-too-many") && boys)
+        seen = boys[boys_len] > 0;
+    xew_value value = __real_xew_evaluate(roll, roll_len, a, b, c, d, aux, boys, boys_len);
+    if (is("remembers") && ++calls % 1000 == 0 && !value.refusal)
+        value.value += 1;
+    if (is("another-place") && value.refusal == 7)
+        value.place++;
+    if (is("forgets-the-boys-count") && value.refusal == 10)
+        value.refusal = 0;
+    return value;
+}
+
+uint8_t __real_xew_jk(size_t n, const double *i, size_t i_len, const double *d, size_t d_len, double *j, size_t j_len,
+                      double *k, size_t k_len);
+uint8_t __wrap_xew_jk(size_t n, const double *i, size_t i_len, const double *d, size_t d_len, double *j, size_t j_len,
+                      double *k, size_t k_len)
+{
+    uint8_t refusal = __real_xew_jk(n, i, i_len, d, d_len, j, j_len, k, k_len);
+    if (is("writes-j-beside-a-refusal") && refusal && j_len > 0)
+        j[0] = -j[0];
+    if (is("does-not-mirror-k") && !refusal && n > 1)
+        k[1] += 1;
+    return refusal;
+}
