@@ -1,23 +1,26 @@
 -- Going over terms says what reading them says: a law for each way out, and that both are one.
-use Prim.Native.Nat.{ℕ, zero, suc, _+_, _-_, _≤_, _<_}
+use Prim.Native.Nat.{ℕ, zero, suc, zero-le, _+_, _-_, _≤_, _<_}
 use mathlib.Core.Path.{_≡_, refl, sym, ap, _∙_}
-use mathlib.Core.Bool.{Bool, true, false, cond}
+use mathlib.Core.Bool.{Bool, true, false, true≢false, cond}
 use mathlib.Core.List.{List, [], _∷_}
 use native.Mathlib.Omega.{arith}
-use native.Mathlib.Nat.{not-suc-le-zero}
-use borrow.Author.Tests.{eq-eqb, ne-eqb}
+use native.Mathlib.Nat.{not-suc-le-zero, le-refl}
+use borrow.Author.Tests.{eq-eqb, ne-eqb, eqb-true, eqb-false}
 use lib.Dec.{eqb}
-use lib.ListN.{length}
+use lib.ListN.{length, getD}
 use Rattle.kind.specs.Limits.{mostScale}
 use Rattle.kind.specs.Kinds.{tableOf, mostPrefactors}
 use Rattle.kind.specs.declared.Kind.{Kind}
 use Rattle.term.specs.Terms.{Term}
+use Rattle.number.specs.Numbers.{readAt}
+use Rattle.number.proofs.Reading.{read-one}
 use Rattle.roll.specs.declared.Field.{Field}
 use Rattle.roll.specs.declared.Field.the-variants as field
 use Rattle.roll.specs.declared.Opened.{Opened}
 use Rattle.roll.specs.Reading.{Reading, got, refused, onward, andThen, before, withinAt, prefactorsAt, mostBoys, countAt, boysAt, termAt, termsAt}
 use Rattle.roll.specs.Answers.{refusedOpened, judged}
-use Rattle.roll.specs.Over.{over, overThen, countOver, boysOver, termOver, endOver, termsOver, judgedOver}
+use Rattle.roll.specs.Over.{SmallBytes, Plain, over, overThen, countOver, boysOver, termOver, endOver, termsOver, judgedOver}
+use Rattle.roll.proofs.Fields.{within-is}
 
 -- ---- both are one
 
@@ -84,17 +87,17 @@ pub record Passing (s : List ℕ) (at count table place left : ℕ) : Type 0 whe
 pub passing-first : (s : List ℕ) (at count table : ℕ) → Passing s at count table at count
 passing-first s at count table = record { same = refl }
 
+drop-first : (p : ℕ) (r : Reading (List ℕ)) → over (before (p ∷ []) r) ≡ over r
+drop-first p (got ps next) = refl
+drop-first p (refused r place) = refl
+
 passing-turn : (s : List ℕ) (table place left : ℕ) (x : Field) → 0 < left → x ≡ withinAt s place 0 (table - 1) → over (prefactorsAt left table s place) ≡ overThen x (λ n next. over (prefactorsAt (left - 1) table s next))
 unfolding prefactorsAt
 passing-turn s table place zero x some is = absurd (not-suc-le-zero some)
 passing-turn s table place (suc left) x some is = let less : suc left - 1 ≡ left = omega arith in rw (less, ← is) (by x)
   where
-    drop-one : (p : ℕ) (r : Reading (List ℕ)) → over (before (p ∷ []) r) ≡ over r
-    drop-one p (got ps next) = refl
-    drop-one p (refused r place) = refl
-
     by : (x : Field) → over (onward x (λ p next. before (p ∷ []) (prefactorsAt left table s next))) ≡ overThen x (λ n next. over (prefactorsAt left table s next))
-    by (field.Is p next) = drop-one p (prefactorsAt left table s next)
+    by (field.Is p next) = drop-first p (prefactorsAt left table s next)
     by (field.Refused r wrong) = refl
 
 pub passing-more : (s : List ℕ) (at count table place left last : ℕ) (x : Field) (n next : ℕ) → Passing s at count table place left → 0 < left → last ≡ table - 1 → x ≡ withinAt s place 0 last → x ≡ field.Is n next → Passing s at count table next (left - 1)
@@ -111,6 +114,57 @@ passing-none s table place left none = rw none
 
 pub passing-done : (s : List ℕ) (at count table place left : ℕ) → Passing s at count table place left → left ≤ 0 → field.Is 0 place ≡ over (prefactorsAt count table s at)
 passing-done s at count table place left p none = passing-none s table place left (omega arith) ∙ p .same
+
+-- ---- prefactors of one byte each
+
+plain-turn : (s : List ℕ) (at last b : ℕ) → at < length s → b ≡ getD s at 0 → b ≤ last → last < 128 → withinAt s at 0 last ≡ field.Is b (at + 1)
+plain-turn s at last b inside byte small limit = sym (within-is s at 0 last (readAt s at) b (at + 1) refl (sym (read-one s at b inside byte (omega arith))) (zero-le) small)
+
+plain-all : (count table : ℕ) (s : List ℕ) (at : ℕ) → Plain s at count (table - 1) → over (prefactorsAt count table s at) ≡ field.Is 0 (at + count)
+unfolding prefactorsAt
+plain-all zero table s at p = let same : at + 0 ≡ at = omega arith in rw same
+plain-all (suc count) table s at p =
+    let room = p .inside in
+    let here : at < length s = omega arith in
+    let small : getD s at 0 ≤ table - 1 = p .small .each at (omega arith) (omega arith) in
+    let turn = plain-turn s at (table - 1) (getD s at 0) here refl small (p .one-byte) in
+    let rest : Plain s (at + 1) count (table - 1) = record { one-byte = p .one-byte; inside = omega arith; small = record { each = λ i low high. p .small .each i (omega arith) (omega arith) } } in
+    let end : at + 1 + count ≡ at + suc count = omega arith in
+    rw turn (drop-first (getD s at 0) (prefactorsAt count table s (at + 1)) ∙ plain-all count table s (at + 1) rest ∙ ap (field.Is 0) end)
+
+pub plain-went : (s : List ℕ) (at count table last : ℕ) (t : Bool) (y : Field) → last ≡ table - 1 → (t ≡ true → Plain s at count last) → t ≡ true → y ≡ field.Is 0 (at + count) → y ≡ over (prefactorsAt count table s at)
+plain-went s at count table last t y size is e answer = answer ∙ sym (plain-all count table s at (rw size at (is e)))
+
+pub plain-room : (s : List ℕ) (at count last : ℕ) (t : Bool) → (t ≡ true → Plain s at count last) → t ≡ true → at + count ≤ length s
+plain-room s at count last t is e = is e .inside
+
+pub not-plain : (s : List ℕ) (at count last : ℕ) → false ≡ true → Plain s at count last
+not-plain s at count last e = absurd (true≢false (sym e))
+
+pub plain-is : (s : List ℕ) (at count last : ℕ) (t : Bool) → last ≤ 127 → at ≤ length s → count ≤ length s - at → (t ≡ true → SmallBytes s at (at + count) last) → t ≡ true → Plain s at count last
+plain-is s at count last t limit here room small e = record { one-byte = omega arith; inside = omega arith; small = small e }
+
+-- the loop over bytes
+pub record Looking (s : List ℕ) (at end last place : ℕ) : Type 0 where
+  pub from : at ≤ place
+  pub small : SmallBytes s at place last
+
+pub looking-first : (s : List ℕ) (at end last : ℕ) → Looking s at end last at
+looking-first s at end last = record { from = le-refl at; small = record { each = λ i low high. absurd (omega arith) } }
+
+pub looking-more : (s : List ℕ) (at end last place b : ℕ) → Looking s at end last place → b ≡ getD s place 0 → b ≤ last → Looking s at end last (place + 1)
+looking-more s at end last place b l byte small =
+    record { from = omega (arith, l .from); small = record { each = λ i low high. by i low high (eqb i place) refl } }
+  where
+    by : (i : ℕ) → at ≤ i → i < place + 1 → (v : Bool) → eqb i place ≡ v → getD s i 0 ≤ last
+    by i low high true e = let same : i ≡ place = eqb-true i place e in rw same (rw byte at small)
+    by i low high false e = let other = eqb-false i place e in l .small .each i low (omega arith)
+
+pub looking-not : (s : List ℕ) (at end last : ℕ) → false ≡ true → SmallBytes s at end last
+looking-not s at end last e = absurd (true≢false (sym e))
+
+pub looking-done : (s : List ℕ) (at end last place : ℕ) → Looking s at end last place → end ≤ place → true ≡ true → SmallBytes s at end last
+looking-done s at end last place l done e = record { each = λ i low high. l .small .each i low (omega arith) }
 
 -- ---- a term
 

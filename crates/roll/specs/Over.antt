@@ -1,15 +1,25 @@
 -- Terms that are gone over and not kept: the readings of a roll with the limits that a kind and L set, and no term made.
-use Prim.Native.Nat.{ℕ, zero, suc}
+use Prim.Native.Nat.{ℕ, zero, suc, _+_, _≤_, _<_}
 use mathlib.Core.Bool.{cond}
 use mathlib.Core.List.{List}
 use lib.Dec.{eqb}
-use lib.ListN.{length}
+use lib.ListN.{length, getD}
 use Rattle.kind.specs.Limits.{mostScale}
 use Rattle.roll.specs.declared.Field.{Field}
 use Rattle.roll.specs.declared.Field.the-variants as field
 use Rattle.roll.specs.declared.Opened.{Opened}
 use Rattle.roll.specs.Reading.{Reading, got, refused, withinAt, prefactorsAt}
 use Rattle.roll.specs.Answers.{refusedOpened}
+
+-- the bytes from one place to another are at most `last`
+pub record SmallBytes (s : List ℕ) (at end last : ℕ) : Type 0 where
+  pub each : (i : ℕ) → at ≤ i → i < end → getD s i 0 ≤ last
+
+-- so many numbers of one byte each
+pub record Plain (s : List ℕ) (at count last : ℕ) : Type 0 where
+  pub one-byte : last < 128
+  pub inside : at + count ≤ length s
+  pub small : SmallBytes s at (at + count) last
 
 -- the place after what was read, or the refusal
 abbrev pub over : {A : Type 0} → Reading A → Field

@@ -1,14 +1,72 @@
 // Terms that are gone over and not kept: a number after the other, each within its limits.
 ghost use mathlib.Core.Path.{_≡_};
-ghost use Prim.Native.Nat.{_≤_};
+ghost use Prim.Native.Nat.{_+_, _≤_};
+ghost use mathlib.Core.Bool.{true};
+ghost use lib.ListN.{length};
 ghost use Rattle.roll.specs.Reading.{prefactorsAt};
-ghost use Rattle.roll.specs.Over.{over, countOver, boysOver, termOver, endOver, termsOver};
+ghost use Rattle.roll.specs.Over.{SmallBytes, Plain, over, countOver, boysOver, termOver, endOver, termsOver};
 use crate::Field;
 use crate::within;
 use kind::Kind;
 
-// Goes over so many prefactors, each below the table size.
+fn wide(byte: u8) -> u32
+    ensures { λ r. ⌜ r ≡ byte ⌝ }
+{
+    byte as u32
+}
+
+// Whether the bytes from one place to another are all at most `last`.
+fn all_small(roll: &[u8], at: usize, end: usize, last: u32) -> bool
+    requires { ⌜ end ≤ length (now roll) ⌝ }
+    ensures { λ r. ⌜ (r ≡ true → SmallBytes (now (roll .entry)) at end last) ⌝ }
+{
+    let mut place = at;
+    while place < end {
+        if last < wide(roll[place]) {
+            return false;
+        }
+        place += 1;
+    }
+    true
+}
+
+// Whether so many prefactors stand here, one byte each, all within the limit.
+fn is_plain(roll: &[u8], at: usize, count: u32, last: u32) -> bool
+    ensures { λ r. ⌜ (r ≡ true → Plain (now (roll .entry)) at count last) ⌝ }
+{
+    if 127 < last {
+        return false;
+    }
+    if roll.len() < at {
+        return false;
+    }
+    if roll.len() - at < count as usize {
+        return false;
+    }
+    all_small(roll, at, at + count as usize, last)
+}
+
+// Goes over so many prefactors, each below the table size. Most are one byte each.
 fn prefactors_over(roll: &[u8], at: usize, count: u32, table: u32) -> Field
+    requires { ⌜ 1 ≤ table ⌝ }
+    ensures { λ r. ⌜ r ≡ over (prefactorsAt count table (now (roll .entry)) at) ⌝ }
+{
+    if is_plain(roll, at, count, table - 1) {
+        return plain_over(roll, at, count);
+    }
+    each_over(roll, at, count, table)
+}
+
+// The place after so many bytes that stand in the roll.
+fn plain_over(roll: &[u8], at: usize, count: u32) -> Field
+    requires { ⌜ at + count ≤ length (now roll) ⌝ }
+    ensures { λ r. ⌜ r ≡ Field.Is 0 (at + count) ⌝ }
+{
+    Field::Is(0, at + count as usize)
+}
+
+// The same, a number after the other.
+fn each_over(roll: &[u8], at: usize, count: u32, table: u32) -> Field
     requires { ⌜ 1 ≤ table ⌝ }
     ensures { λ r. ⌜ r ≡ over (prefactorsAt count table (now (roll .entry)) at) ⌝ }
 {
