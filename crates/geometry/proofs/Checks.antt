@@ -1,8 +1,8 @@
 -- The prefactor table that is handed out: one law for each way out of the checks.
 use Prim.Native.Nat.{ℕ}
-use mathlib.Core.Path.{_≡_, ap}
-use mathlib.Core.Bool.{Bool, true, false, not}
-use mathlib.Core.List.{List}
+use mathlib.Core.Path.{_≡_, sym, ap, _∙_}
+use mathlib.Core.Bool.{Bool, true, false, not, _&&_}
+use mathlib.Core.List.{List, _++_}
 use borrow.Author.Tests.{not-true, not-false}
 use lib.Ieee.{Float}
 use Rattle.kind.specs.declared.Kind.{Kind}
@@ -14,8 +14,10 @@ use Rattle.geometry.specs.declared.Centre.{Centre}
 use Rattle.geometry.specs.declared.Table.{Table}
 use Rattle.geometry.specs.declared.Found.the-variants.{Given}
 use Rattle.geometry.specs.Tables.{prefac}
-use Rattle.geometry.specs.Floats.{inPlaces}
-use Rattle.geometry.specs.Checks.{usedFinite, exponentsAboveZero, geometryFinite, unless, refused, checked, ofNamed, prefactorsOf}
+use Rattle.geometry.specs.Geometry.{numbers}
+use Rattle.geometry.specs.Floats.{inPlaces, allFinite}
+use Rattle.geometry.specs.Checks.{usedFinite, exponentsAboveZero, finiteWith, geometryFinite, unless, refused, checked, ofNamed, prefactorsOf}
+use Rattle.geometry.proofs.Laws.{finite-both, finite-places}
 
 module _ (k : Kind) (a b c d : Centre) where
   pub refused-float : (s : Bool) (r : Table) → s ≡ usedFinite k a b c d → not s ≡ true → r ≡ refused 8 → r ≡ checked k a b c d
@@ -26,13 +28,25 @@ module _ (k : Kind) (a b c d : Centre) where
   unfolding checked unless
   refused-exponent s t r e p f q g = rw (← e, not-false s p, ← f, not-true t q) g
 
-  pub refused-geometry : (s t u : Bool) (r : Table) → s ≡ usedFinite k a b c d → not s ≡ false → t ≡ exponentsAboveZero k a b c d → not t ≡ false → u ≡ geometryFinite k a b c d → not u ≡ true → r ≡ refused 11 → r ≡ checked k a b c d
-  unfolding checked unless
-  refused-geometry s t u r e p f q g o h = rw (← e, not-false s p, ← f, not-false t q, ← g, not-true u o) h
+  -- the zeros in the places left change nothing
+  pub finite-table : (xs : List Float) (u : Bool) → xs ≡ inPlaces tablePlaces (prefac k a b c d) → u ≡ finiteWith k a b c d xs → u ≡ geometryFinite k a b c d
+  unfolding geometryFinite finiteWith
+  finite-table xs u e f =
+      let own = numbers k a b c d in
+      let table = prefac k a b c d in
+      f
+      ∙ ap (λ (ys : List Float). allFinite (own ++ ys)) e
+      ∙ finite-both own (inPlaces tablePlaces table)
+      ∙ ap (λ (v : Bool). allFinite own && v) (finite-places tablePlaces table)
+      ∙ sym (finite-both own table)
 
-  pub passed : (s t u : Bool) (xs : List Float) → s ≡ usedFinite k a b c d → not s ≡ false → t ≡ exponentsAboveZero k a b c d → not t ≡ false → u ≡ geometryFinite k a b c d → not u ≡ false → xs ≡ inPlaces tablePlaces (prefac k a b c d) → record { found = Given; entries = xs } ≡ checked k a b c d
+  pub refused-geometry : (s t u : Bool) (xs : List Float) (r : Table) → s ≡ usedFinite k a b c d → not s ≡ false → t ≡ exponentsAboveZero k a b c d → not t ≡ false → xs ≡ inPlaces tablePlaces (prefac k a b c d) → u ≡ finiteWith k a b c d xs → not u ≡ true → r ≡ refused 11 → r ≡ checked k a b c d
   unfolding checked unless
-  passed s t u xs e p f q g o h = rw (← e, not-false s p, ← f, not-false t q, ← g, not-false u o) (ap (λ (ys : List Float). record { found = Given; entries = ys }) h)
+  refused-geometry s t u xs r e p f q i g o h = let j = finite-table xs u i g in rw (← e, not-false s p, ← f, not-false t q, ← j, not-true u o) h
+
+  pub passed : (s t u : Bool) (xs : List Float) → s ≡ usedFinite k a b c d → not s ≡ false → t ≡ exponentsAboveZero k a b c d → not t ≡ false → xs ≡ inPlaces tablePlaces (prefac k a b c d) → u ≡ finiteWith k a b c d xs → not u ≡ false → record { found = Given; entries = xs } ≡ checked k a b c d
+  unfolding checked unless
+  passed s t u xs e p f q h g o = let j = finite-table xs u h g in rw (← e, not-false s p, ← f, not-false t q, ← j, not-false u o) (ap (λ (ys : List Float). record { found = Given; entries = ys }) h)
 
   pub named : (kind : ℕ) (n : Named) (r : Table) → n ≡ kindOf kind → n ≡ Is k → r ≡ checked k a b c d → r ≡ prefactorsOf kind a b c d
   unfolding prefactorsOf ofNamed

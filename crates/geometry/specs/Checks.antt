@@ -50,8 +50,11 @@ unfoldable pub exponentsAboveZero : Kind → Centre → Centre → Centre → Ce
 exponentsAboveZero k a b c d = allAboveZero (exponents k a b c d)
 
 -- 11 unless every geometry number and every table entry is finite
+unfoldable pub finiteWith : Kind → Centre → Centre → Centre → Centre → List Float → Bool
+finiteWith k a b c d entries = allFinite (numbers k a b c d ++ entries)
+
 unfoldable pub geometryFinite : Kind → Centre → Centre → Centre → Centre → Bool
-geometryFinite k a b c d = allFinite (numbers k a b c d ++ prefac k a b c d)
+geometryFinite k a b c d = finiteWith k a b c d (prefac k a b c d)
 
 -- the number that 01 gives each case; 0 is success
 abbrev pub numberOf : Found → ℕ

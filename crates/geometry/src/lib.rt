@@ -6,7 +6,7 @@ ghost use Rattle.kind.specs.Limits.{tablePlaces};
 ghost use Rattle.geometry.specs.Floats.{aboveZero, allFinite, allAboveZero, inPlaces};
 ghost use Rattle.geometry.specs.Geometry.{pointOf, biCenter, r12Squared, rpOf};
 ghost use Rattle.geometry.specs.Tables.{prefac};
-ghost use Rattle.geometry.specs.Checks.{place, whole, usedFinite, exponentsAboveZero, geometryFinite, refused, checked, prefactorsOf};
+ghost use Rattle.geometry.specs.Checks.{place, whole, usedFinite, exponentsAboveZero, finiteWith, refused, checked, prefactorsOf};
 use kind::Kind;
 use kind::Named;
 
@@ -211,14 +211,20 @@ pub fn exponents_above_zero(kind: Kind, a: Centre, b: Centre, c: Centre, d: Cent
     }
 }
 
-// Check 11, as far as it goes without a sum: every geometry number and every table entry is finite.
-pub fn geometry_finite(kind: Kind, a: Centre, b: Centre, c: Centre, d: Centre) -> bool
-    ensures { λ r. ⌜ r ≡ geometryFinite kind a b c d ⌝ }
+// Check 11, as far as it goes without a sum: every geometry number and every entry of the table is finite.
+pub fn geometry_finite(
+    kind: Kind,
+    a: Centre,
+    b: Centre,
+    c: Centre,
+    d: Centre,
+    entries: &[f64],
+) -> bool
+    ensures { λ r. ⌜ r ≡ finiteWith kind a b c d (now (entries .entry)) ⌝ }
 {
     let numbers = numbers::geometry_numbers(kind, a, b, c, d);
     if all_finite(&numbers) {
-        let entries = prefac(kind, a, b, c, d);
-        return all_finite(&entries);
+        return all_finite(entries);
     }
     false
 }
@@ -242,12 +248,13 @@ fn checked(kind: Kind, a: Centre, b: Centre, c: Centre, d: Centre) -> Table
     if !exponents_above_zero(kind, a, b, c, d) {
         return refused(9);
     }
-    if !geometry_finite(kind, a, b, c, d) {
+    let entries = prefac(kind, a, b, c, d);
+    if !geometry_finite(kind, a, b, c, d, &entries) {
         return refused(11);
     }
     Table {
         found: Found::Given,
-        entries: prefac(kind, a, b, c, d),
+        entries,
     }
 }
 

@@ -15,7 +15,8 @@ use Rattle.term.specs.Terms.{Term}
 use Rattle.geometry.specs.declared.Centre.{Centre}
 use Rattle.geometry.specs.Floats.{allFinite, inPlaces}
 use Rattle.geometry.specs.Tables.{prefac}
-use Rattle.geometry.specs.Checks.{usedFinite, exponentsAboveZero, geometryFinite}
+use Rattle.geometry.specs.Checks.{usedFinite, exponentsAboveZero, finiteWith, geometryFinite}
+use Rattle.geometry.proofs.Checks.{finite-table}
 use Rattle.integrals.specs.declared.Value.{Value}
 use Rattle.integrals.specs.declared.Value.the-variants.{Is, Refused}
 use Rattle.integrals.specs.Sums.{kineticStart, totalOf, integralOf}
@@ -51,9 +52,12 @@ module _ (k : Kind) (a b c d : Centre) (aux : Float) (boys : List Float) where
   inputs-used s e p = rw (← e, p)
 
   module _ (l : ℕ) (ts : List Term) where
-    pub integral-is : (table : List Float) (kinetic x : Float) → table ≡ inPlaces tablePlaces (prefac k a b c d) → kinetic ≡ kineticStart a b → x ≡ totalOf k l kinetic table aux boys ts → x ≡ integralOf k l a b c d aux boys ts
+    pub started : (table : List Float) (kinetic x : Float) → kinetic ≡ kineticStart a b → x ≡ totalOf k l kinetic table aux boys ts → x ≡ totalOf k l (kineticStart a b) table aux boys ts
+    started table kinetic x f g = rw (← f) g
+
+    integral-is : (table : List Float) (x : Float) → table ≡ inPlaces tablePlaces (prefac k a b c d) → x ≡ totalOf k l (kineticStart a b) table aux boys ts → x ≡ integralOf k l a b c d aux boys ts
     unfolding integralOf
-    integral-is table kinetic x e f g = rw (← e, ← f) g
+    integral-is table x e g = rw (← e) g
 
     module _ (s : Bool) (e : s ≡ inputsFinite k a b c d aux boys) where
       pub refused-float : not s ≡ true → Refused 8 0 ≡ valueOf k l a b c d aux boys ts
@@ -70,11 +74,14 @@ module _ (k : Kind) (a b c d : Centre) (aux : Float) (boys : List Float) where
           unfolding valueOf unless
           refused-count o = rw (← e, not-false s p, ← f, not-false t q, ← g, not-true u o)
 
-          module _ (v : Bool) (o : not u ≡ false) (h : v ≡ geometryFinite k a b c d) where
+          module _ (v : Bool) (table : List Float) (o : not u ≡ false) (is : table ≡ inPlaces tablePlaces (prefac k a b c d)) (all : v ≡ finiteWith k a b c d table) where
+            h : v ≡ geometryFinite k a b c d
+            h = finite-table k a b c d table v is all
+
             pub refused-geometry : not v ≡ true → Refused 11 0 ≡ valueOf k l a b c d aux boys ts
             unfolding valueOf unless
             refused-geometry w = rw (← e, not-false s p, ← f, not-false t q, ← g, not-false u o, ← h, not-true v w)
 
-            pub passed : (x : Float) (r : Value) → not v ≡ false → x ≡ integralOf k l a b c d aux boys ts → r ≡ resultOf x → r ≡ valueOf k l a b c d aux boys ts
+            pub passed : (x : Float) (r : Value) → not v ≡ false → x ≡ totalOf k l (kineticStart a b) table aux boys ts → r ≡ resultOf x → r ≡ valueOf k l a b c d aux boys ts
             unfolding valueOf unless
-            passed x r w y z = rw (← e, not-false s p, ← f, not-false t q, ← g, not-false u o, ← h, not-false v w, ← y) z
+            passed x r w y z = rw (← e, not-false s p, ← f, not-false t q, ← g, not-false u o, ← h, not-false v w, ← integral-is table x is y) z

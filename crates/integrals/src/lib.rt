@@ -1,6 +1,6 @@
 // The five integrals over a roll: the checks in their order, then the sum.
 ghost use mathlib.Core.Path.{_≡_};
-ghost use Rattle.integrals.specs.Sums.{kineticStart, integralOf};
+ghost use Rattle.integrals.specs.Sums.{kineticStart, totalOf};
 ghost use Rattle.integrals.specs.Values.{inputsFinite, boysCounted, resultOf, valueOf};
 ghost use Rattle.integrals.specs.Stored.{ofCursor, termsAt};
 ghost use Rattle.integrals.specs.Evaluation.{evaluateOf};
@@ -36,19 +36,17 @@ fn integral(
     l: u8,
     a: Centre,
     b: Centre,
-    c: Centre,
-    d: Centre,
+    table: &[f64],
     aux: f64,
     boys: &[f64],
     roll: &[u8],
     start: usize,
     terms: u32,
 ) -> f64
-    ensures { λ r. ⌜ r ≡ integralOf kind l a b c d aux (now (boys .entry)) (termsAt (now (roll .entry)) terms start) ⌝ }
+    ensures { λ r. ⌜ r ≡ totalOf kind l (kineticStart a b) (now (table .entry)) aux (now (boys .entry)) (termsAt (now (roll .entry)) terms start) ⌝ }
 {
-    let table = geometry::prefac(kind, a, b, c, d);
     let kinetic = kinetic_of(a, b);
-    sums::total(kind, l, kinetic, &table, aux, boys, roll, start, terms)
+    sums::total(kind, l, kinetic, table, aux, boys, roll, start, terms)
 }
 
 // Check 8: every float that is used is finite.
@@ -116,10 +114,11 @@ fn judged(
     if !boys_counted(kind, l, boys.len()) {
         return Value::Refused(10, 0);
     }
-    if !geometry::geometry_finite(kind, a, b, c, d) {
+    let table = geometry::prefac(kind, a, b, c, d);
+    if !geometry::geometry_finite(kind, a, b, c, d, &table) {
         return Value::Refused(11, 0);
     }
-    result(integral(kind, l, a, b, c, d, aux, boys, roll, start, terms))
+    result(integral(kind, l, a, b, &table, aux, boys, roll, start, terms))
 }
 
 // The terms of a roll that was judged, from its cursor on.

@@ -22,6 +22,12 @@ refused-requires-2 c κs = search needs
 returns-2 : tie.Need-returns-2
 returns-2 c = search refused-exponent
 
+prefac-requires : tie.Need-prefac-requires
+prefac-requires c κs = search needs
+
+slice-aggregate-geometry-finite : tie.Need-slice-aggregate-geometry-finite
+slice-aggregate-geometry-finite c = search needs
+
 geometry-finite-requires : tie.Need-geometry-finite-requires
 geometry-finite-requires c κs = search needs
 
@@ -30,9 +36,6 @@ refused-requires-3 c κs = search needs
 
 returns-3 : tie.Need-returns-3
 returns-3 c = search refused-geometry
-
-prefac-requires : tie.Need-prefac-requires
-prefac-requires c κs = search needs
 
 returns-4 : tie.Need-returns-4
 returns-4 c = search passed
@@ -47,8 +50,9 @@ checked-spec =
     exponents-above-zero-requires
     refused-requires-2
     returns-2
+    prefac-requires
+    slice-aggregate-geometry-finite
     geometry-finite-requires
     refused-requires-3
     returns-3
-    prefac-requires
     returns-4)

@@ -1,5 +1,5 @@
--- `geometry_finite` meets its contract: the zeros in the places left change nothing. Assumes nothing.
-use Rattle.geometry.specs.Checks.{geometryFinite}
+-- `geometry_finite` meets its contract: the numbers, then the entries. Assumes nothing.
+use Rattle.geometry.specs.Checks.{finiteWith}
 use Rattle.geometry.proofs.Laws.{finite-parts, finite-first, finite-held}
 use borrow.Author.Needs.{needs}
 use Rattle.geometry.proofs.geometry_finite.Statement.{statement}
@@ -14,21 +14,15 @@ slice-aggregate-all-finite c = search needs
 all-finite-requires : tie.Need-all-finite-requires
 all-finite-requires c κs = search needs
 
-prefac-requires : tie.Need-prefac-requires
-prefac-requires c κs = search needs
-
-slice-aggregate-all-finite-2 : tie.Need-slice-aggregate-all-finite-2
-slice-aggregate-all-finite-2 c = search needs
-
 all-finite-requires-2 : tie.Need-all-finite-requires-2
 all-finite-requires-2 c κs = search needs
 
 returns : tie.Need-returns
-unfolding geometryFinite
+unfolding finiteWith
 returns c = search (finite-parts, finite-held)
 
 returns-2 : tie.Need-returns-2
-unfolding geometryFinite
+unfolding finiteWith
 returns-2 c = search (finite-first, finite-held)
 
 pub geometry-finite-spec : {M : Type 1} → statement M
@@ -38,8 +32,6 @@ geometry-finite-spec =
     geometry-numbers-requires
     slice-aggregate-all-finite
     all-finite-requires
-    prefac-requires
-    slice-aggregate-all-finite-2
     all-finite-requires-2
     returns
     returns-2)

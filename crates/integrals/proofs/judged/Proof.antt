@@ -22,11 +22,20 @@ boys-counted-requires c κs = search needs
 returns-3 : tie.Need-returns-3
 returns-3 c = search refused-count
 
+prefac-requires : tie.Need-prefac-requires
+prefac-requires c κs = search needs
+
+slice-aggregate-geometry-finite : tie.Need-slice-aggregate-geometry-finite
+slice-aggregate-geometry-finite c = search needs
+
 geometry-finite-requires : tie.Need-geometry-finite-requires
 geometry-finite-requires c κs = search needs
 
 returns-4 : tie.Need-returns-4
 returns-4 c = search refused-geometry
+
+slice-aggregate-integral : tie.Need-slice-aggregate-integral
+slice-aggregate-integral c = search needs
 
 integral-requires : tie.Need-integral-requires
 integral-requires c κs = search needs
@@ -47,8 +56,11 @@ judged-spec =
     returns-2
     boys-counted-requires
     returns-3
+    prefac-requires
+    slice-aggregate-geometry-finite
     geometry-finite-requires
     returns-4
+    slice-aggregate-integral
     integral-requires
     result-requires
     returns-5)
