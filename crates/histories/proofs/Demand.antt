@@ -8,6 +8,7 @@ use mathlib.Core.List.List·Memᴰ.{List·Memᴰ·head, List·Memᴰ·tail}
 use native.Mathlib.Omega.{arith}
 use borrow.Author.Tests.{eq-eqb, ne-eqb}
 use lib.Dec.{eqb}
+use lib.ListN.{length, length-map}
 use Rattle.term.specs.Terms.{Term}
 use Rattle.steps.specs.declared.Centre.{Centre}
 use Rattle.steps.specs.declared.Axis.{Axis}
@@ -89,3 +90,7 @@ expansion-is-replay =
     each s (n ∷ ns) f =
         ap₂ _++_ (f n (List·Memᴰ·head refl)) (each s ns (λ (m : Next) (i : List·Memᴰ m ns). f m (List·Memᴰ·tail i)))
         ∙ sym (map-append (replay s) (after n (histories (n .state))) (over (λ (m : Next). after m (histories (m .state))) ns))
+
+-- So refusal 4, which counts terms, counts histories.
+pub as-many : (s : State) → length (expand s) ≡ length (histories s)
+as-many s = ap length (expansion-is-replay s) ∙ length-map (histories s) (replay s)
