@@ -47,3 +47,12 @@ listingOut roll out start = cond (ltb mostListed (length roll)) out (readOut (ro
 pub record ListingTold (roll before : List ℕ) (start : ℕ) (r : Listed) (after : List ℕ) : Type 0 where
   pub answer : r ≡ listingAt roll before start
   pub out : after ≡ listingOut roll before start
+
+-- the number that 01 gives each case, 0 for success, and its place
+abbrev pub numberOf : Listed → ℕ
+numberOf (listed.Text n) = 0
+numberOf (listed.Refused n place) = n
+
+abbrev pub placeOf : Listed → ℕ
+placeOf (listed.Text n) = 0
+placeOf (listed.Refused n place) = place
