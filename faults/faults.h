@@ -45,7 +45,7 @@ void catch_faults(void);
 /* inputs.c: chance. */
 void seed_random(uint64_t seed, uint64_t scene);
 uint64_t bits(void);
-uint64_t below(uint64_t most);
+uint64_t below(uint64_t limit);
 bool once_in(uint64_t times);
 
 /* inputs.c: requests and their rolls, and other bytes. */
@@ -71,7 +71,7 @@ void any_centres(xew_centre centres[4]);
 
 /* expected.c: what a call must answer, by docs/01-scope.md alone. */
 extern const uint8_t orders_used[XEW_KINDS], table_size[XEW_KINDS], most_l[XEW_KINDS];
-extern const size_t longest_roll[XEW_KINDS];
+extern const size_t longest_roll[XEW_KINDS]; /* by the unchanged Rust */
 uint8_t expected_request(uint8_t kind, const uint8_t *orders);
 size_t expected_list(uint8_t order, uint8_t *out); /* its bytes; 0 where there is none */
 xew_component expected_component(const uint8_t *shells, int count, uint32_t number);

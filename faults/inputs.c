@@ -21,9 +21,9 @@ void seed_random(uint64_t seed, uint64_t scene)
     state = bits() ^ scene * 0xd1342543de82ef95;
 }
 
-uint64_t below(uint64_t most)
+uint64_t below(uint64_t limit)
 {
-    return bits() % most;
+    return bits() % limit;
 }
 
 bool once_in(uint64_t times)

@@ -166,7 +166,7 @@ def show(kind, functions, value):
 
 
 print("// The integrals of water in STO-3G, coefficients as published: kind, two or four functions, value.")
-print("// Made by expected.py with 45 decimal digits: McMurchie and Davidson's method, nothing of the library.")
+print(f"// Made by expected.py with {getcontext().prec} decimal digits: McMurchie and Davidson's method, nothing of the library.")
 two = list(combinations_with_replacement(range(len(BASIS)), 2))
 for pair in two:
     show(0, pair, one_electron(*pair, kinetic=False))

@@ -16,6 +16,11 @@ use requests::Request;
 use std::io::{stdin, BufRead};
 use std::process::exit;
 
+/// As include/xewumbal.h has them; the structs in ours.rs take them.
+const ORDERS: usize = 12;
+const PREFACTORS: usize = 16;
+const TABLE: usize = 23;
+
 fn list(requests: Vec<Request>) {
     for request in requests {
         println!("{}", request.line());

@@ -55,11 +55,11 @@ fn accepted(request: &Request, time: Duration) -> Result<[f64; 8], String> {
         ],
         time,
     );
-    let [terms2, expand] = expansion;
+    let [apply, expand] = expansion;
     Ok([
         f64::from(terms),
         roll.len() as f64,
-        terms2,
+        apply,
         expand,
         get,
         evaluate,
@@ -101,13 +101,13 @@ impl Row {
             return None;
         }
         let numbers: Vec<f64> = words[13..].iter().map_while(|n| n.parse().ok()).collect();
-        let [terms, bytes, terms2, expand, get, evaluate, check, copy]: [f64; 8] =
+        let [terms, bytes, apply, expand, get, evaluate, check, copy]: [f64; 8] =
             numbers.try_into().ok()?;
         Some(Row {
             request: Request::of_line(&words[..13].join(" "))?,
             terms,
             bytes,
-            expansion: [terms2, expand],
+            expansion: [apply, expand],
             evaluation: [get, evaluate],
             check,
             copy,

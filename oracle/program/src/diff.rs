@@ -17,7 +17,7 @@ impl Lines {
         Ok(Lines(BufReader::with_capacity(1 << 16, File::open(path)?)))
     }
 
-    /// The next line without its line feed; None at the end.
+    /// The next line without its line feed; false at the end.
     fn next(&mut self, line: &mut Vec<u8>) -> io::Result<bool> {
         line.clear();
         if self.0.read_until(b'\n', line)? == 0 {

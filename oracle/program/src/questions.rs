@@ -59,7 +59,8 @@ pub fn write_all(kind: &str, count: u64, seed: u64, out: &mut dyn Write) -> io::
 
 /// `expand` with one kind of integral only.
 fn fixed_kind(kind: &str) -> Option<u8> {
-    kind.strip_prefix("expand-kind-")?.parse().ok()
+    let kind = kind.strip_prefix("expand-kind-")?.parse().ok()?;
+    Some(kind).filter(|&kind| kind <= 4)
 }
 
 /// The last lines but one of a run stand at a limit of the language and one beyond it.
@@ -103,7 +104,7 @@ fn about_roll(random: &mut Random, kind: &str, roll: &[u8]) -> Vec<u8> {
 }
 
 /// Every request of a kind that is within the limits.
-pub fn write_every_request(kind: u8, out: &mut dyn Write) -> io::Result<u64> {
+pub fn write_every_request(kind: u8, out: &mut dyn Write) -> io::Result<()> {
     let triples: Vec<Vec<u8>> = (0..=4)
         .flat_map(|m| {
             let list = rust_side::shell_list(m);
@@ -122,8 +123,7 @@ pub fn write_every_request(kind: u8, out: &mut dyn Write) -> io::Result<u64> {
         out.write_all(&numbers("expand", kind.into(), &orders))?;
         out.write_all(b"\n")?;
     }
-    out.flush()?;
-    Ok(count as u64)
+    out.flush()
 }
 
 fn numbers(word: &str, first: u64, rest: &[u8]) -> Vec<u8> {

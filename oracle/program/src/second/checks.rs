@@ -1,0 +1,173 @@
+//! The checks of each call but the roll's, in the order in which they refuse.
+
+use super::limits::{orders_used, LARGEST_MATRIX, MOST_TERMS, ORDER_SUM};
+use super::refusal::{refusal, Refusal};
+use super::roll::Header;
+use super::steps::count_histories;
+use crate::parse::{Centre, Lengths};
+
+// Shells
+
+/// Shell list: 2, 5, 6.
+pub fn check_shell(m: u8, buffer: usize, start: u64) -> Result<(), Refusal> {
+    if u32::from(m) > ORDER_SUM {
+        return Err(refusal(2));
+    }
+    let m = usize::from(m);
+    fits(3 * (m + 1) * (m + 2) / 2, buffer, start)
+}
+
+/// Component by number: 2, 13.
+pub fn check_component(shells: &[u8], number: u32) -> Result<(), Refusal> {
+    if shells.iter().any(|&m| u32::from(m) > ORDER_SUM) {
+        return Err(refusal(2));
+    }
+    let count: u32 = shells
+        .iter()
+        .map(|&m| (u32::from(m) + 1) * (u32::from(m) + 2) / 2)
+        .product();
+    if number >= count {
+        return Err(refusal(13));
+    }
+    Ok(())
+}
+
+fn fits(length: usize, buffer: usize, start: u64) -> Result<(), Refusal> {
+    if start > buffer as u64 {
+        return Err(refusal(5));
+    }
+    if length > buffer - start as usize {
+        return Err(refusal(6));
+    }
+    Ok(())
+}
+
+// Expansion
+
+/// Expansion: 1, 2, 3, 5, 4 here; 6 once the roll's length is known.
+pub fn check_request(
+    kind: u8,
+    orders: &[u8; 12],
+    buffer: usize,
+    start: u64,
+) -> Result<(), Refusal> {
+    if kind > 4 {
+        return Err(refusal(1));
+    }
+    let (used, unused) = orders.split_at(orders_used(kind));
+    let sum = |centre: &[u8]| centre.iter().map(|&o| u32::from(o)).sum::<u32>();
+    if used.chunks(3).any(|centre| sum(centre) > ORDER_SUM) {
+        return Err(refusal(2));
+    }
+    if unused.iter().any(|&o| o != 0) {
+        return Err(refusal(3));
+    }
+    if start > buffer as u64 {
+        return Err(refusal(5));
+    }
+    if count_histories(kind, orders) > MOST_TERMS {
+        return Err(refusal(4));
+    }
+    Ok(())
+}
+
+/// 6: the whole roll doesn't fit from the start place on.
+pub fn check_room(length: usize, buffer: usize, start: u64) -> Result<(), Refusal> {
+    fits(length, buffer, start)
+}
+
+// Evaluation, table, J and K
+
+/// How many centres give their exponent, and how many their coordinates.
+fn centres_used(kind: u8) -> (usize, usize) {
+    match kind {
+        0 | 1 => (2, 2),
+        2 | 3 => (2, 3),
+        _ => (4, 4),
+    }
+}
+
+/// 8: a used input float is not finite.
+fn check_finite(kind: u8, centres: &[Centre; 4], others: &[f64]) -> Result<(), Refusal> {
+    let (exponents, coordinates) = centres_used(kind);
+    let finite = centres[..exponents].iter().all(|c| c.z.is_finite())
+        && centres[..coordinates]
+            .iter()
+            .all(|c| c.r.iter().all(|x| x.is_finite()))
+        && others.iter().all(|x| x.is_finite());
+    if finite {
+        Ok(())
+    } else {
+        Err(refusal(8))
+    }
+}
+
+/// 9: a used exponent is 0 or less.
+fn check_exponents(kind: u8, centres: &[Centre; 4]) -> Result<(), Refusal> {
+    let (exponents, _) = centres_used(kind);
+    if centres[..exponents].iter().any(|c| c.z <= 0.0) {
+        return Err(refusal(9));
+    }
+    Ok(())
+}
+
+/// Evaluation after 7: 8, 9, 10. 11 is for geometry, table and result.
+pub fn check_evaluation(
+    header: &Header,
+    centres: &[Centre; 4],
+    aux: f64,
+    boys: &[f64],
+) -> Result<(), Refusal> {
+    check_finite(header.kind, centres, &[aux])?;
+    if boys.iter().any(|f| !f.is_finite()) {
+        return Err(refusal(8));
+    }
+    check_exponents(header.kind, centres)?;
+    let asked = match header.kind {
+        2 | 4 => usize::from(header.l) + 1,
+        _ => 0,
+    };
+    if boys.len() != asked {
+        return Err(refusal(10));
+    }
+    Ok(())
+}
+
+/// Prefactor table: 1, 8, 9. 11 is for geometry and table.
+pub fn check_table(kind: u8, centres: &[Centre; 4]) -> Result<(), Refusal> {
+    if kind > 4 {
+        return Err(refusal(1));
+    }
+    check_finite(kind, centres, &[])?;
+    check_exponents(kind, centres)
+}
+
+/// 11: something worked out is not finite.
+pub fn check_results(lists: &[&[f64]]) -> Result<(), Refusal> {
+    if lists.iter().all(|list| list.iter().all(|x| x.is_finite())) {
+        Ok(())
+    } else {
+        Err(refusal(11))
+    }
+}
+
+/// J and K: 12, 8; 11 is for the results.
+pub fn check_matrices(n: u64, lengths: &Lengths, i: &[f64], d: &[f64]) -> Result<(), Refusal> {
+    if !(1..=LARGEST_MATRIX).contains(&n) {
+        return Err(refusal(12));
+    }
+    let n = n as usize;
+    let right = Lengths {
+        i: n * n * n * n,
+        d: n * n,
+        j: n * n,
+        k: n * n,
+    };
+    if *lengths != right {
+        return Err(refusal(12));
+    }
+    if i.iter().chain(d).any(|x| !x.is_finite()) {
+        return Err(refusal(8));
+    }
+    Ok(())
+}

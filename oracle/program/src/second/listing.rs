@@ -1,0 +1,26 @@
+//! The listing of a roll.
+
+use super::limits::{orders_used, LONGEST_LISTED};
+use super::refusal::{refusal, Refusal};
+use super::roll::check;
+
+/// The listing of a roll, each line with its line feed.
+pub fn listing(roll: &[u8]) -> Result<String, Refusal> {
+    if roll.len() > LONGEST_LISTED {
+        return Err(refusal(6));
+    }
+    let (header, terms) = check(roll)?;
+    let mut text = format!("kind {} orders", header.kind);
+    for order in &header.orders[..orders_used(header.kind)] {
+        text += &format!(" {}", order);
+    }
+    text += &format!(" terms {}\n", header.count);
+    for (at, term) in terms.iter().enumerate() {
+        text += &format!("{} {} {}:", at + 1, term.scale, term.boys);
+        for prefactor in &term.prefactors {
+            text += &format!(" {}", prefactor);
+        }
+        text.push('\n');
+    }
+    Ok(text)
+}

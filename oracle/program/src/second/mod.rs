@@ -1,0 +1,23 @@
+//! A second, independent reading of document 01, in plain Rust.
+//!
+//! Everything that os86.rs, shell.rs and basis.rs do not know stands here: limits and
+//! refusals, the roll and its reader, the cursor, the listing, the capped count of histories
+//! and the checks of an evaluation. Nothing here calls the unchanged Rust. The step rules and
+//! the geometry are here too, so that the two can be held against each other.
+
+mod checks;
+mod geometry;
+mod limits;
+mod listing;
+mod refusal;
+mod roll;
+mod steps;
+
+pub use checks::{check_component, check_evaluation, check_matrices, check_request};
+pub use checks::{check_results, check_room, check_shell, check_table};
+pub use geometry::geometry_and_table;
+pub use limits::{orders_used, table_size, MOST_TERMS};
+pub use listing::listing;
+pub use refusal::{refusal, Refusal};
+pub use roll::{check, next, open, write_number, write_roll, Header, Step};
+pub use steps::{count_histories, terms, Term};

@@ -1,0 +1,172 @@
+//! The roll: its writer, its reader and the cursor.
+
+use super::limits::{most_boys, most_l, most_prefactors, orders_used, table_size};
+use super::limits::{MOST_SCALE, MOST_TERMS, ORDER_SUM};
+use super::refusal::{fault, Refusal};
+use super::steps::Term;
+use crate::parse::Cursor;
+
+/// A number in groups of seven bits, lowest first.
+pub fn write_number(out: &mut Vec<u8>, mut number: u32) {
+    while number >= 128 {
+        out.push(number as u8 | 128);
+        number >>= 7;
+    }
+    out.push(number as u8);
+}
+
+fn write_term(out: &mut Vec<u8>, term: &Term) {
+    write_number(out, term.scale);
+    write_number(out, term.boys.into());
+    write_number(out, term.prefactors.len() as u32);
+    for &prefactor in &term.prefactors {
+        write_number(out, prefactor.into());
+    }
+}
+
+pub fn write_roll(kind: u8, orders: &[u8; 12], terms: &[Term]) -> Vec<u8> {
+    let mut out = Vec::new();
+    write_number(&mut out, kind.into());
+    for &order in &orders[..orders_used(kind)] {
+        write_number(&mut out, order.into());
+    }
+    write_number(&mut out, terms.len() as u32);
+    for term in terms {
+        write_term(&mut out, term);
+    }
+    out
+}
+
+/// Reads numbers one after another; the place of a fault is where the number begins.
+struct Reader<'a> {
+    roll: &'a [u8],
+    place: usize,
+}
+
+impl<'a> Reader<'a> {
+    /// A number from `least` to `most`.
+    fn number(&mut self, least: u32, most: u32) -> Result<u32, Refusal> {
+        match read_number(&self.roll[self.place..]) {
+            Some((number, length)) if (least..=most).contains(&number) => {
+                self.place += length;
+                Ok(number)
+            }
+            _ => Err(fault(self.place)),
+        }
+    }
+
+    fn term(&mut self, kind: u8, l: u32) -> Result<Term, Refusal> {
+        let scale = self.number(1, MOST_SCALE)?;
+        let boys = self.number(0, most_boys(kind, l))? as u8;
+        let count = self.number(0, most_prefactors(kind, l))?;
+        let mut prefactors = Vec::new();
+        for _ in 0..count {
+            prefactors.push(self.number(0, table_size(kind) as u32 - 1)? as u8);
+        }
+        Ok(Term {
+            scale,
+            boys,
+            prefactors,
+        })
+    }
+}
+
+/// The number at the beginning and its length; None where the bytes end before it does,
+/// where it is not the shortest form or where it is 2^32 and above.
+fn read_number(bytes: &[u8]) -> Option<(u32, usize)> {
+    let mut number = 0;
+    for (at, &byte) in bytes.iter().enumerate() {
+        if at == 4 && byte > 15 {
+            return None;
+        }
+        number |= u32::from(byte & 127) << (7 * at);
+        if byte < 128 {
+            if at > 0 && byte == 0 {
+                return None;
+            }
+            return Some((number, at + 1));
+        }
+    }
+    None
+}
+
+/// What a header says, and the place after it.
+#[derive(Clone, Debug, PartialEq)]
+pub struct Header {
+    pub kind: u8,
+    pub orders: [u8; 12],
+    pub l: u8,
+    pub count: u32,
+    pub place: usize,
+}
+
+/// The header alone.
+pub fn open(roll: &[u8]) -> Result<Header, Refusal> {
+    let mut reader = Reader { roll, place: 0 };
+    let kind = reader.number(0, 4)? as u8;
+    let mut orders = [0; 12];
+    for at in 0..orders_used(kind) {
+        let first_of_centre = at - at % 3;
+        let sum: u8 = orders[first_of_centre..at].iter().sum();
+        orders[at] = reader.number(0, ORDER_SUM - u32::from(sum))? as u8;
+    }
+    let count = reader.number(1, MOST_TERMS)?;
+    Ok(Header {
+        kind,
+        orders,
+        l: orders.iter().sum(),
+        count,
+        place: reader.place,
+    })
+}
+
+/// The whole roll judged.
+pub fn check(roll: &[u8]) -> Result<(Header, Vec<Term>), Refusal> {
+    let header = open(roll)?;
+    let mut reader = Reader {
+        roll,
+        place: header.place,
+    };
+    let mut terms = Vec::new();
+    for _ in 0..header.count {
+        terms.push(reader.term(header.kind, header.l.into())?);
+    }
+    if reader.place < roll.len() {
+        return Err(fault(reader.place));
+    }
+    Ok((header, terms))
+}
+
+/// What a step of the cursor answers.
+#[derive(Clone, Debug, PartialEq)]
+pub enum Step {
+    Term(Term, Cursor),
+    End,
+}
+
+pub fn next(cursor: Cursor, roll: &[u8]) -> Result<Step, Refusal> {
+    let forged =
+        cursor.kind > 4 || cursor.l > most_l(cursor.kind) || cursor.place > roll.len() as u64;
+    if forged {
+        return Err(Refusal {
+            number: 7,
+            place: cursor.place,
+        });
+    }
+    let place = cursor.place as usize;
+    if cursor.left == 0 {
+        return if place < roll.len() {
+            Err(fault(place))
+        } else {
+            Ok(Step::End)
+        };
+    }
+    let mut reader = Reader { roll, place };
+    let term = reader.term(cursor.kind, cursor.l.into())?;
+    let after = Cursor {
+        left: cursor.left - 1,
+        place: reader.place as u64,
+        ..cursor
+    };
+    Ok(Step::Term(term, after))
+}
