@@ -1,10 +1,10 @@
 -- One order of a centre in a word; a number that no branch has takes nothing.
-use Prim.Native.Nat.{ℕ, _+_, _*_, _-_, _^_, _≤_, zero-le}
-use mathlib.Core.Path.{_≡_, refl, sym, ap, _∙_}
+use Prim.Native.Nat.{ℕ, _+_, _*_, _-_, _%_, _^_, _≤_, zero-le}
+use mathlib.Core.Path.{_≡_, refl, sym, ap, _∙_, subst}
 use mathlib.Core.List.{List}
-use native.Mathlib.Nat.{mul-comm}
+use native.Mathlib.Nat.{one-mul}
 use native.Mathlib.Omega.{arith}
-use lib.Pow.{pow-add}
+use lib.Pow.{pow-mono, shl-exact}
 use lib.ListN.{length, getD, List·getD-eq-default}
 use Rattle.kind.specs.declared.Kind.{Kind}
 use Rattle.steps.specs.declared.Centre.{Centre}
@@ -12,29 +12,24 @@ use Rattle.steps.specs.declared.Centre.the-variants.{A, B, C, D}
 use Rattle.steps.specs.declared.Axis.{Axis}
 use Rattle.steps.specs.declared.Move.{Move}
 use Rattle.kind.specs.declared.Kind.the-variants.{Overlap, Moment}
-use Rattle.steps.specs.Choice.{pick, centreNumber, axisNumber, operator, orderOf}
+use Rattle.steps.specs.Choice.{pick, place, operator, orderOf}
 use Rattle.steps.specs.Steps.{Branch, branches, moments, times, partner, other-c, other-d, overlap, kinetic, nuclear, moment, moment-on-operator, coulomb}
+use Rattle.steps.proofs.Packed.{sixteen-pow}
 use Rattle.steps.specs.Packed.{noBranch, moved, moveIn, fallWord, unit, multiplierWord}
 
 pub no-arm : (k : Kind) (c : Centre) (x : Axis) (bs : List Branch) (n : ℕ) (m : Move) → length bs ≤ n → m ≡ record { falls = 0; adds = 0; raises = 0; kind = k } → m ≡ moveIn k c x bs n
 unfolding moveIn fallWord
 no-arm k c x bs n m h e = e ∙ sym (ap (moved k c x) (List·getD-eq-default bs noBranch h))
 
-module _ (c : Centre) (x : Axis) (v : ℕ) (on-axis : v ≡ 16 ^ axisNumber x) where
-  unit-is : v * 16 ^ (3 * centreNumber c) ≡ unit c x
-  unit-is = rw (on-axis, pow-add 16 (3 * centreNumber c) (axisNumber x)) (mul-comm (16 ^ axisNumber x) (16 ^ (3 * centreNumber c)))
+module _ (k : ℕ) (c : Centre) (x : Axis) (e : k ≡ 4 * place c x) (below : k ≤ 44) where
+  shifted : 1 * 2 ^ k % 2 ^ 64 ≡ 2 ^ k
+  shifted = shl-exact {a = 1} 1 k 64 (omega arith) (omega arith) ∙ one-mul (2 ^ k)
 
-  pub unit-a : c ≡ A → v * 1 ≡ unit c x
-  unit-a e = (rw e) ∙ unit-is
+  pub unit-shifted : 1 * 2 ^ k % 2 ^ 64 ≡ unit c x
+  unit-shifted = shifted ∙ ap (λ (m : ℕ). 2 ^ m) e ∙ sixteen-pow (place c x)
 
-  pub unit-b : c ≡ B → v * 0x1000 ≡ unit c x
-  unit-b e = (rw e) ∙ unit-is
-
-  pub unit-c : c ≡ C → v * 0x100_0000 ≡ unit c x
-  unit-c e = (rw e) ∙ unit-is
-
-  pub unit-d : c ≡ D → v * 0x10_0000_0000 ≡ unit c x
-  unit-d e = (rw e) ∙ unit-is
+  pub unit-below : 1 * 2 ^ k % 2 ^ 64 ≤ 16 ^ 11
+  unit-below = subst (λ (m : ℕ). m ≤ 16 ^ 11) (sym shifted) (pow-mono below)
 
 -- an arm of a match on the branch's number: what falls and what is added are the branch's
 pub arm : (k : Kind) (c : Centre) (x : Axis) (bs : List Branch) (n i f p : ℕ) (m : Move) → n ≡ i → m ≡ record { falls = f; adds = p; raises = getD bs i noBranch .raises; kind = pick (getD bs i noBranch .as-overlap) Overlap k }

@@ -2,7 +2,7 @@
 use Prim.Native.Nat.{ℕ, zero, suc, _+_, _*_, _-_, _/_, _%_, _^_, _≤_, _<_, zero-le, suc-le-suc}
 use mathlib.Core.Path.{_≡_, refl, sym, ap, _∙_}
 use mathlib.Core.List.{List, [], _∷_}
-use native.Mathlib.Nat.{div-one, div-div-eq-div-mul, div-eq-of-lt, pow-suc, mul-comm}
+use native.Mathlib.Nat.{div-one, div-div-eq-div-mul, div-eq-of-lt, pow-suc, mul-comm, mul-suc}
 use native.Mathlib.Omega.{arith}
 use lib.ListN.{length, getD, set}
 use lib.Pow.{pow-add}
@@ -48,6 +48,16 @@ order-is w c x =
     (div-div-eq-div-mul w (16 ^ (3 * centreNumber c)) (16 ^ axisNumber x) ∙ ap (λ (k : ℕ). w / k) (sym (pow-add 16 (3 * centreNumber c) (axisNumber x))))
     ∙ sym (nibble-at requestOrders (place c x) w (place-below c x))
 
+-- four bits an order
+pub sixteen-pow : (n : ℕ) → 2 ^ (4 * n) ≡ 16 ^ n
+sixteen-pow zero = refl
+sixteen-pow (suc n) = ap (λ (k : ℕ). 2 ^ k) (mul-suc 4 n) ∙ pow-add 2 (4 * n) 4 ∙ ap (λ (k : ℕ). k * 16) (sixteen-pow n) ∙ sym (pow-suc 16 n)
+
+pub order-shifted : (w k : ℕ) (c : Centre) (x : Axis) → k ≡ 4 * place c x → w / 2 ^ k % 16 ≡ orderOf (orders w) c x
+order-shifted w k c x e =
+    ap (λ (m : ℕ). w / m % 16) (ap (λ (m : ℕ). 2 ^ m) e ∙ sixteen-pow (place c x))
+    ∙ sym (nibble-at requestOrders (place c x) w (place-below c x))
+
 module _ (w rest : ℕ) (c : Centre) (starts : rest ≡ w / 16 ^ (3 * centreNumber c)) where
   along-x : rest % 16 ≡ orderOf (orders w) c X
   along-x = ap (λ (k : ℕ). k % 16) (sym (div-one rest)) ∙ rw starts (order-is w c X)
@@ -57,15 +67,6 @@ module _ (w rest : ℕ) (c : Centre) (starts : rest ≡ w / 16 ^ (3 * centreNumb
 
   along-z : rest / 256 % 16 ≡ orderOf (orders w) c Z
   along-z = rw starts (order-is w c Z)
-
-  pub order-x : (x : Axis) → x ≡ X → rest % 16 ≡ orderOf (orders w) c x
-  order-x x e = rw e along-x
-
-  pub order-y : (x : Axis) → x ≡ Y → rest / 16 % 16 ≡ orderOf (orders w) c x
-  order-y x e = rw e along-y
-
-  pub order-z : (x : Axis) → x ≡ Z → rest / 256 % 16 ≡ orderOf (orders w) c x
-  order-z x e = rw e along-z
 
   pub sum-is : rest % 16 + rest / 16 % 16 + rest / 256 % 16 ≡ sumOf (orders w) c
   sum-is = rw (along-x, along-y, along-z)

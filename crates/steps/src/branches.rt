@@ -7,31 +7,16 @@ ghost use Rattle.steps.specs.Steps.{branches, overlap, kinetic, nuclear,
 use crate::Axis;
 use crate::Centre;
 use crate::Move;
+use crate::choice::bits;
 use crate::choice::order;
 use kind::Kind;
-
-// One order on the axis of A.
-fn on_axis(axis: Axis) -> u64
-    ensures { λ r. ⌜ (r ≡ 16 ^ axisNumber axis) × (r ≤ 256) ⌝ }
-{
-    match axis {
-        Axis::X => 1,
-        Axis::Y => 16,
-        Axis::Z => 256,
-    }
-}
 
 // One order of a centre.
 fn unit(centre: Centre, axis: Axis) -> u64
     ensures { λ r. ⌜ (r ≡ unit centre axis) × (r ≤ 16 ^ 11) ⌝ }
 {
-    let x = on_axis(axis);
-    match centre {
-        Centre::A => x * 1,
-        Centre::B => x * 0x1000,
-        Centre::C => x * 0x100_0000,
-        Centre::D => x * 0x10_0000_0000,
-    }
+    let below = bits(centre, axis);
+    1 << below
 }
 
 // One order of a centre and one of its partner.

@@ -1,9 +1,9 @@
 // The centre and the axis that are lowered.
 ghost use mathlib.Core.Path.{_≡_};
 ghost use mathlib.Core.List.{[], _∷_};
-ghost use Prim.Native.Nat.{_*_, _/_, _^_, _<_};
+ghost use Prim.Native.Nat.{_*_, _/_, _^_, _≤_, _<_};
 ghost use Rattle.steps.specs.Packed.{orders};
-ghost use Rattle.steps.specs.Choice.{centreNumber, orderOf, sumOf, orBefore, smallest, noBest, onceExhausted, chosen, firstAxis};
+ghost use Rattle.steps.specs.Choice.{centreNumber, place, orderOf, sumOf, orBefore, smallest, noBest, onceExhausted, chosen, firstAxis};
 use crate::Axis;
 use crate::Best;
 use crate::Centre;
@@ -23,16 +23,19 @@ fn from(left: u64, centre: Centre) -> u64
     }
 }
 
+// The bits below an order of the word.
+pub(crate) fn bits(centre: Centre, axis: Axis) -> u64
+    ensures { λ r. ⌜ (r ≡ 4 * place centre axis) × (r ≤ 44) ⌝ }
+{
+    4 * (3 * centre.number() + axis.number())
+}
+
 // The order left on one axis of a centre.
 pub(crate) fn order(left: u64, centre: Centre, axis: Axis) -> u64
     ensures { λ r. ⌜ (r ≡ orderOf (orders left) centre axis) × (r < 16) ⌝ }
 {
-    let rest = from(left, centre);
-    match axis {
-        Axis::X => rest % 16,
-        Axis::Y => rest / 16 % 16,
-        Axis::Z => rest / 256 % 16,
-    }
+    let below = bits(centre, axis);
+    (left >> below) % 16
 }
 
 // The sum of the orders left on a centre.
