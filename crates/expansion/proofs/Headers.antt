@@ -1,7 +1,7 @@
 -- A request within the limits, and the roll that is written of it.
 use Prim.Native.Nat.{ℕ, zero, suc, _+_, _*_, _-_, _^_, _≤_, _<_}
 use mathlib.Core.Path.{_≡_, refl, sym, ap, ap₂, subst, subst₂, _∙_}
-use mathlib.Core.Bool.{Bool, true, false, cond, _||_}
+use mathlib.Core.Bool.{false, cond, _||_}
 use mathlib.Core.List.{List, [], _∷_, _++_, append-assoc}
 use native.Mathlib.Omega.{arith}
 use native.Mathlib.Numerals.{add-one}
@@ -13,6 +13,8 @@ use Rattle.kind.specs.declared.Kind.{Kind}
 use Rattle.kind.specs.declared.Kind.the-variants.{Overlap, Kinetic, Nuclear, Moment, Coulomb}
 use Rattle.kind.specs.Kinds.{numberOf, ordersOf}
 use Rattle.kind.specs.Limits.{mostOrder, mostOrders, mostTerms, requestOrders}
+use Rattle.kind.proofs.Lists.{sets-append}
+use Rattle.kind.proofs.Cases.{neither}
 use Rattle.term.specs.Terms.{Term}
 use Rattle.number.specs.Numbers.{bytesOf, lengthOf}
 use Rattle.number.proofs.Writing.{bytes-last}
@@ -28,14 +30,9 @@ use Rattle.expansion.specs.declared.Path.{Path}
 use Rattle.expansion.specs.View.{termAt, Emitted, NumberFits}
 use Rattle.expansion.specs.Walking.{viewOf, Good, termsBelow, Room, NodeMay}
 use Rattle.expansion.specs.Expanding.{above, tooHigh, unusedSet, termsOf, rollOf, Nibbles, Packed, emptyTerm, Within, headOf, HeadMay, RollMay}
-use Rattle.expansion.proofs.Emission.{sets-append}
 use Rattle.expansion.proofs.Requests.{three-total, none-after}
 
 -- ---- the orders of a request within the limits
-
-neither : (a b : Bool) → (a || b) ≡ false → (a ≡ false) × (b ≡ false)
-neither true b e = absurd (let z : _≡_ {A = ℕ} 0 1 = cc in omega arith)
-neither false b e = (refl, e)
 
 -- the order sums of all four centres, and the depth
 pub record Sums (k : Kind) (os : List ℕ) : Type 0 where

@@ -16,12 +16,12 @@ use Rattle.number.proofs.Writing.{length-last, length-more, length-some}
 use Rattle.term.specs.Terms.{Term}
 use Rattle.text.specs.Digits.{decimalOf}
 use Rattle.text.proofs.Digits.{places-short, places-long}
+use Rattle.text.proofs.Writing.{tested}
 use Rattle.roll.specs.Bytes.{numbersBytes, termBytes, termsBytes, rollBytes}
 use Rattle.roll.specs.Reading.{got, mostBoys, total, Roll, rollAt}
 use Rattle.roll.specs.Fits.{CentresFit, Below, TermFits, TermsFit, RollFits}
 use Rattle.roll.proofs.Written.{roll-read}
 use Rattle.listing.specs.Text.{blank, afterBlanks, kindText, headLine, termNumbers, termLine, termLines, listingText, placeText, refusalText}
-use Rattle.listing.proofs.Saying.{tested}
 
 -- ---- a number's decimal
 

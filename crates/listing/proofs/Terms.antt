@@ -10,6 +10,7 @@ use lib.ListN.{length, replicate, length-append}
 use lib.Seq.{take-append-seam}
 use Rattle.kind.specs.Limits.{mostOrders}
 use Rattle.kind.specs.declared.Named.{Named}
+use Rattle.kind.proofs.Cases.{clash}
 use Rattle.term.specs.declared.Term.{Term as Held}
 use Rattle.term.specs.Terms.{Term, held}
 use Rattle.text.specs.declared.Written.{Written}
@@ -23,7 +24,7 @@ use Rattle.roll.proofs.Inside.{term-inside}
 use Rattle.roll.proofs.Judging.{honest-step, terms-turn, terms-none}
 use Rattle.listing.specs.Text.{termLine, termLines}
 use Rattle.listing.specs.Saying.{Said, Kept, termsOf, leftAs, leftOf, Readable}
-use Rattle.listing.proofs.Saying.{Saying, clash, saying-all, saying-more, saying-done}
+use Rattle.listing.proofs.Saying.{Saying, saying-all, saying-more, saying-done}
 
 -- what is held of a term is seen as the term
 seen-held : (t : Term) → seen (held t) ≡ t

@@ -7,6 +7,7 @@ use native.Mathlib.Omega.{arith}
 use lib.ListN.{length, set, take, replicate, length-set, length-take, length-replicate}
 use lib.Seq.{take-suc-set, set-at, append-snoc, length-take-le}
 use Rattle.kind.specs.Limits.{mostOrders}
+use Rattle.kind.proofs.Cases.{clash}
 use Rattle.roll.specs.declared.Field.{Field}
 use Rattle.roll.specs.declared.Field.the-variants as field
 use Rattle.roll.specs.declared.ReadPrefactors.{ReadPrefactors}
@@ -103,9 +104,6 @@ filling-done s at count table values place i f done =
     held ∙ ap heldPrefactors got-all
 
 -- ---- as many as were asked for
-
-pub clash : _≡_ {A = ℕ} 0 1 → ⊥
-clash e = omega arith
 
 pub before-is : {A : Type 0} (x : A) (r : Reading (List A)) (ys : List A) (next : ℕ) → before (x ∷ []) r ≡ got ys next → (zs : List A) × (r ≡ got zs next) × (ys ≡ x ∷ zs)
 before-is x (got zs n) ys next e = (zs, cc, cc)
