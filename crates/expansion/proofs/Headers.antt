@@ -15,6 +15,7 @@ use Rattle.kind.specs.Kinds.{numberOf, ordersOf}
 use Rattle.kind.specs.Limits.{mostOrder, mostOrders, mostTerms, requestOrders}
 use Rattle.kind.proofs.Lists.{sets-append}
 use Rattle.kind.proofs.Cases.{neither}
+use Rattle.kind.proofs.Within.{orders-within, number-within}
 use Rattle.term.specs.Terms.{Term}
 use Rattle.number.specs.Numbers.{bytesOf, lengthOf}
 use Rattle.number.proofs.Writing.{bytes-last}
@@ -152,37 +153,23 @@ take-small (suc n) [] h i = h i
 take-small (suc n) (x ∷ l) h zero = h zero
 take-small (suc n) (x ∷ l) h (suc i) = take-small n l (λ (j : ℕ). h (suc j)) i
 
-pub few-orders : (k : Kind) → ordersOf k ≤ requestOrders
-few-orders Overlap = omega arith
-few-orders Kinetic = omega arith
-few-orders Nuclear = omega arith
-few-orders Moment = omega arith
-few-orders Coulomb = omega arith
-
 pub orders-add : (k : Kind) (n : ℕ) → n ≡ ordersOf k → 1 + n < 2 ^ 64
-orders-add k n e = let h = few-orders k in omega arith
+orders-add k n e = let h = orders-within k in omega arith
 
 pub kept-through : (out mid after : List ℕ) (i v : ℕ) → length after ≡ length mid → length mid ≡ length (set out i v) → length after ≡ length out
 kept-through out mid after i v e f = e ∙ f ∙ length-set out i v
-
-small-number : (k : Kind) → numberOf k < 128
-small-number Overlap = omega arith
-small-number Kinetic = omega arith
-small-number Nuclear = omega arith
-small-number Moment = omega arith
-small-number Coulomb = omega arith
 
 module _ (k : Kind) (os : List ℕ) (within : Within k os) where
   roll-bytes : rollOf k os ≡ headOf k os ++ termsBytes (termsOf k os)
   unfolding rollOf rollBytes headOf Small
   roll-bytes =
-      ap₂ _++_ (bytes-last (numberOf k) (small-number k))
+      ap₂ _++_ (bytes-last (numberOf k) (omega (arith, number-within k)))
       (ap (λ (l : List ℕ). l ++ (bytesOf (length (termsOf k os)) ++ termsBytes (termsOf k os)))
       (numbers-small (take (ordersOf k) os) (take-small (ordersOf k) os (λ (i : ℕ). let h = all-small k os within i in omega arith))))
       ∙ ap (λ (l : List ℕ). numberOf k ∷ l) (sym (append-assoc (take (ordersOf k) os) (bytesOf (length (termsOf k os))) (termsBytes (termsOf k os))))
 
   pub orders-long : length (take (ordersOf k) os) ≡ ordersOf k
-  orders-long = length-take (ordersOf k) os ∙ (let h = few-orders k in let l = within .twelve in omega arith)
+  orders-long = length-take (ordersOf k) os ∙ (let h = orders-within k in let l = within .twelve in omega arith)
 
   head-length : length (headOf k os) ≡ 1 + ordersOf k + lengthOf (length (termsOf k os))
   unfolding headOf lengthOf
@@ -200,7 +187,7 @@ module _ (k : Kind) (os : List ℕ) (terms : ℕ) (out : List ℕ) (may : HeadMa
 
   module _ (n : ℕ) (is : n ≡ ordersOf k) where
     pub orders-few : n ≤ requestOrders
-    orders-few = let h = few-orders k in omega arith
+    orders-few = let h = orders-within k in omega arith
 
     pub orders-room : (v : ℕ) → 1 + n ≤ length (set out 0 v)
     orders-room v = let r = may .room in let l = long in let s = length-set out 0 v in omega arith

@@ -27,7 +27,7 @@ use Rattle.roll.specs.Reading.{Roll, got, rollAt, mostBoys, total as rollTotal}
 use Rattle.roll.specs.Fits.{CentresFit, Below, TermFits, TermsFit, RollFits}
 use Rattle.roll.proofs.Back.{roll-back}
 use Rattle.expansion.specs.Expanding.{unusedSet, termsOf, rollOf, Within}
-use Rattle.expansion.proofs.Headers.{Sums, all-sums, all-small, orders-long, few-orders}
+use Rattle.expansion.proofs.Headers.{Sums, all-sums, all-small, orders-long}
 
 same-total : (l : List ℕ) → rollTotal l ≡ total l
 unfolding total rollTotal

@@ -6,26 +6,26 @@ use Rattle.kind.specs.declared.Kind.the-variants.{Overlap, Kinetic, Nucl
 use Rattle.kind.specs.Kinds.{numberOf, ordersOf, mostL, tableOf}
 use Rattle.kind.specs.Limits.{mostOrders, requestOrders, tablePlaces}
 
-pub kind-below : (k : Kind) → numberOf k ≤ numberOf Coulomb
-kind-below Overlap = omega arith
-kind-below Kinetic = omega arith
-kind-below Nuclear = omega arith
-kind-below Moment = omega arith
-kind-below Coulomb = omega arith
+pub number-within : (k : Kind) → numberOf k ≤ numberOf Coulomb
+number-within Overlap = omega arith
+number-within Kinetic = omega arith
+number-within Nuclear = omega arith
+number-within Moment = omega arith
+number-within Coulomb = omega arith
 
-pub few-orders : (k : Kind) → ordersOf k ≤ requestOrders
-few-orders Overlap = omega arith
-few-orders Kinetic = omega arith
-few-orders Nuclear = omega arith
-few-orders Moment = omega arith
-few-orders Coulomb = omega arith
+pub orders-within : (k : Kind) → ordersOf k ≤ requestOrders
+orders-within Overlap = omega arith
+orders-within Kinetic = omega arith
+orders-within Nuclear = omega arith
+orders-within Moment = omega arith
+orders-within Coulomb = omega arith
 
-pub small-l : (k : Kind) → mostL k ≤ mostOrders
-small-l Overlap = omega arith
-small-l Kinetic = omega arith
-small-l Nuclear = omega arith
-small-l Moment = omega arith
-small-l Coulomb = omega arith
+pub l-within : (k : Kind) → mostL k ≤ mostOrders
+l-within Overlap = omega arith
+l-within Kinetic = omega arith
+l-within Nuclear = omega arith
+l-within Moment = omega arith
+l-within Coulomb = omega arith
 
 pub some-entries : (k : Kind) → 1 ≤ tableOf k
 some-entries Overlap = omega arith
@@ -34,9 +34,9 @@ some-entries Nuclear = omega arith
 some-entries Moment = omega arith
 some-entries Coulomb = omega arith
 
-pub few-entries : (k : Kind) → tableOf k ≤ tablePlaces
-few-entries Overlap = omega arith
-few-entries Kinetic = omega arith
-few-entries Nuclear = omega arith
-few-entries Moment = omega arith
-few-entries Coulomb = omega arith
+pub table-within : (k : Kind) → tableOf k ≤ tablePlaces
+table-within Overlap = omega arith
+table-within Kinetic = omega arith
+table-within Nuclear = omega arith
+table-within Moment = omega arith
+table-within Coulomb = omega arith
