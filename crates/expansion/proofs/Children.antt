@@ -10,7 +10,7 @@ use native.Mathlib.Nat.{mul-le-mul}
 use lib.ListN.{length, getD}
 use Rattle.kind.specs.declared.Kind.{Kind}
 use Rattle.kind.specs.declared.Kind.the-variants.{Overlap}
-use Rattle.kind.specs.Limits.{mostOrders, mostScale}
+use Rattle.kind.specs.Limits.{mostL·any, mostScale}
 use Rattle.kind.proofs.Within.{table-within}
 use Rattle.term.specs.Terms.{Term}
 use Rattle.steps.specs.declared.Centre.{Centre}

@@ -12,7 +12,7 @@ use lib.Seq.{sets, length-sets, take-suc}
 use Rattle.kind.specs.declared.Kind.{Kind}
 use Rattle.kind.specs.declared.Kind.the-variants.{Overlap, Kinetic, Nuclear, Moment, Coulomb}
 use Rattle.kind.specs.Kinds.{numberOf, ordersOf}
-use Rattle.kind.specs.Limits.{mostOrder, mostOrders, mostTerms, requestOrders}
+use Rattle.kind.specs.Limits.{mostOrder, mostL·any, mostTerms, requestOrders}
 use Rattle.kind.proofs.Lists.{sets-append}
 use Rattle.kind.proofs.Cases.{neither}
 use Rattle.kind.proofs.Within.{orders-within, number-within}
@@ -41,7 +41,7 @@ pub record Sums (k : Kind) (os : List ℕ) : Type 0 where
   pub of-b : sumOf os B ≤ mostOrder
   pub of-c : sumOf os C ≤ mostOrder
   pub of-d : sumOf os D ≤ mostOrder
-  pub deep : stage k + total os ≤ mostOrders
+  pub deep : stage k + total os ≤ mostL·any
 
 module _ (os : List ℕ) (twelve : length os ≡ requestOrders) where
   all-total : total os ≡ sumOf os A + sumOf os B + sumOf os C + sumOf os D

@@ -4,7 +4,7 @@ use native.Mathlib.Omega.{arith}
 use Rattle.kind.specs.declared.Kind.{Kind}
 use Rattle.kind.specs.declared.Kind.the-variants.{Overlap, Kinetic, Nuclear, Moment, Coulomb}
 use Rattle.kind.specs.Kinds.{numberOf, ordersOf, mostL, tableOf}
-use Rattle.kind.specs.Limits.{mostOrders, requestOrders, tablePlaces}
+use Rattle.kind.specs.Limits.{mostL·any, requestOrders, tablePlaces}
 
 pub number-within : (k : Kind) → numberOf k ≤ numberOf Coulomb
 number-within Overlap = omega arith
@@ -20,7 +20,7 @@ orders-within Nuclear = omega arith
 orders-within Moment = omega arith
 orders-within Coulomb = omega arith
 
-pub l-within : (k : Kind) → mostL k ≤ mostOrders
+pub l-within : (k : Kind) → mostL k ≤ mostL·any
 l-within Overlap = omega arith
 l-within Kinetic = omega arith
 l-within Nuclear = omega arith
