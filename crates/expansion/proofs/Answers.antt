@@ -15,6 +15,7 @@ use Rattle.kind.specs.declared.Named.the-variants.{Is, Unknown}
 use Rattle.kind.specs.Kinds.{kindOf, ordersOf}
 use Rattle.kind.specs.Limits.{mostTerms, requestOrders}
 use Rattle.kind.proofs.Parts.{part-all, part-put}
+use Rattle.kind.proofs.Within.{orders-within}
 use Rattle.term.specs.Terms.{Term}
 use Rattle.number.specs.Numbers.{lengthOf}
 use Rattle.number.proofs.Writing.{length-few}
@@ -28,7 +29,7 @@ use Rattle.expansion.specs.View.{termAt, digits, prefactorsOf}
 use Rattle.expansion.specs.Walking.{termsBelow}
 use Rattle.expansion.specs.Measuring.{measured, Measures, MeasureMay, Small, termsIn, bytesIn}
 use Rattle.expansion.specs.Expanding.{tooHigh, unusedSet, termsOf, rollOf, kindTold, namedTold, namedOut, KindAnswered, ExpandTold, Nibbles, Packed, emptyTerm, Within, RollMay, RequestMay, SizedMay}
-use Rattle.expansion.proofs.Headers.{few-orders, within-nibbles, first-good, first-terms, roll-length}
+use Rattle.expansion.proofs.Headers.{within-nibbles, first-good, first-terms, roll-length}
 
 -- an answer that refuses leaves every byte as it was
 refused-with : (k : Kind) (os out : List ℕ) (begin n : ℕ) → kindTold k os out begin ≡ Refused n → KindAnswered k os out begin (Refused n) out
@@ -114,10 +115,10 @@ module _ (k : Kind) (os : List ℕ) (left terms bytes begin : ℕ) (out : List �
     long-is = let r = roll-length k os (may .request .within) in let a = ap lengthOf (may .count) in let b = may .long in omega arith
 
     pub header-fits : 1 + n + l < 2 ^ 64
-    header-fits = let h = few-orders k in let g = length-few terms in omega arith
+    header-fits = let h = orders-within k in let g = length-few terms in omega arith
 
     pub roll-fits : 1 + n + l + bytes < 2 ^ 64
-    roll-fits = let h = few-orders k in let g = length-few terms in let b = may .short in let t = may .few in omega arith
+    roll-fits = let h = orders-within k in let g = length-few terms in let b = may .short in let t = may .few in omega arith
 
     pub told-full : length out - begin < 1 + n + l + bytes → KindAnswered k os out begin (Refused 6) out
     unfolding kindTold

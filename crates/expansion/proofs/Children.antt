@@ -9,9 +9,9 @@ use native.Mathlib.Omega.{arith}
 use native.Mathlib.Nat.{mul-le-mul}
 use lib.ListN.{length, getD}
 use Rattle.kind.specs.declared.Kind.{Kind}
-use Rattle.kind.specs.declared.Kind.the-variants.{Overlap, Kinetic, Nuclear, Moment, Coulomb}
-use Rattle.kind.specs.Kinds.{tableOf}
-use Rattle.kind.specs.Limits.{mostOrders, mostScale}
+use Rattle.kind.specs.declared.Kind.the-variants.{Overlap}
+use Rattle.kind.specs.Limits.{mostL·any, mostScale}
+use Rattle.kind.proofs.Within.{table-within}
 use Rattle.term.specs.Terms.{Term}
 use Rattle.steps.specs.declared.Centre.{Centre}
 use Rattle.steps.specs.declared.Axis.{Axis}
@@ -37,13 +37,6 @@ getD-in : {A : Type 0} (l : List A) (i : ℕ) (d : A) → i < length l → List�
 getD-in [] i d h = absurd (omega arith)
 getD-in (y ∷ l) zero d h = List·Memᴰ·head refl
 getD-in (y ∷ l) (suc i) d h = List·Memᴰ·tail (getD-in l i d (omega arith))
-
-small-table : (k : Kind) → tableOf k ≤ 32
-small-table Overlap = omega arith
-small-table Kinetic = omega arith
-small-table Nuclear = omega arith
-small-table Moment = omega arith
-small-table Coulomb = omega arith
 
 few-fall : (f : Falls) → fallen f ≤ 2
 few-fall f = at f
@@ -112,7 +105,7 @@ module _ (k : Kind) (left : ℕ) (p : Path) (c : Centre) (x : Axis) (times′ nu
         let count = length-prefactors (p .count) (p .low) (p .high) in
         let boys = r .boys-most in
         let adds = fair .in-table in
-        let table = small-table (good .request) in
+        let table = table-within (good .request) in
         let raises = fair .raises-less in
         let few = few-fall (this .falls) in
         let a = adds-is in

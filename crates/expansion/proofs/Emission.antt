@@ -7,6 +7,7 @@ use native.Mathlib.Omega.{arith}
 use native.Mathlib.Numerals.{add-one}
 use lib.ListN.{length, set, length-append, length-set}
 use lib.Seq.{sets, length-sets}
+use Rattle.kind.proofs.Lists.{sets-append}
 use Rattle.number.specs.Numbers.{bytesOf, lengthOf, Wrote, writtenAt, outAfter}
 use Rattle.number.specs.declared.Written.{Written}
 use Rattle.number.specs.declared.Written.the-variants.{Next, NoRoom}
@@ -15,10 +16,6 @@ use Rattle.roll.specs.Bytes.{termBytes, numbersBytes}
 use Rattle.expansion.specs.declared.Path.{Path}
 use Rattle.expansion.specs.View.{digits, prefactorsOf, termAt, Emits, Emitted, NumberFits, RestFits}
 use Rattle.expansion.proofs.Digits.{length-prefactors, few, many, length-digits}
-
-pub sets-append : (l : List ℕ) (i : ℕ) (xs ys : List ℕ) → sets l i (xs ++ ys) ≡ sets (sets l i xs) (i + length xs) ys
-sets-append l i [] ys = ap (λ (k : ℕ). sets l k ys) (omega arith)
-sets-append l i (x ∷ xs) ys = sets-append (set l i x) (suc i) xs ys ∙ ap (λ (k : ℕ). sets (sets (set l i x) (suc i) xs) k ys) (omega arith)
 
 numbers-append : (xs ys : List ℕ) → numbersBytes (xs ++ ys) ≡ numbersBytes xs ++ numbersBytes ys
 unfolding numbersBytes

@@ -12,7 +12,7 @@ use lib.ListN.{length, getD, drop}
 use lib.Seq.{drop-cons}
 use Rattle.kind.specs.declared.Kind.{Kind}
 use Rattle.kind.specs.declared.Kind.the-variants.{Overlap, Kinetic, Nuclear, Moment, Coulomb}
-use Rattle.kind.specs.Limits.{mostOrders, mostTerms}
+use Rattle.kind.specs.Limits.{mostL·any, mostTerms}
 use Rattle.term.specs.Terms.{Term}
 use Rattle.number.specs.Numbers.{lengthOf}
 use Rattle.steps.specs.declared.Centre.{Centre}

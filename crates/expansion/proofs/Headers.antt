@@ -1,7 +1,7 @@
 -- A request within the limits, and the roll that is written of it.
 use Prim.Native.Nat.{ℕ, zero, suc, _+_, _*_, _-_, _^_, _≤_, _<_}
 use mathlib.Core.Path.{_≡_, refl, sym, ap, ap₂, subst, subst₂, _∙_}
-use mathlib.Core.Bool.{Bool, true, false, cond, _||_}
+use mathlib.Core.Bool.{false, cond, _||_}
 use mathlib.Core.List.{List, [], _∷_, _++_, append-assoc}
 use native.Mathlib.Omega.{arith}
 use native.Mathlib.Numerals.{add-one}
@@ -12,7 +12,10 @@ use lib.Seq.{sets, length-sets, take-suc}
 use Rattle.kind.specs.declared.Kind.{Kind}
 use Rattle.kind.specs.declared.Kind.the-variants.{Overlap, Kinetic, Nuclear, Moment, Coulomb}
 use Rattle.kind.specs.Kinds.{numberOf, ordersOf}
-use Rattle.kind.specs.Limits.{mostOrder, mostOrders, mostTerms, requestOrders}
+use Rattle.kind.specs.Limits.{mostOrder, mostL·any, mostTerms, requestOrders}
+use Rattle.kind.proofs.Lists.{sets-append}
+use Rattle.kind.proofs.Cases.{neither}
+use Rattle.kind.proofs.Within.{orders-within, number-within}
 use Rattle.term.specs.Terms.{Term}
 use Rattle.number.specs.Numbers.{bytesOf, lengthOf}
 use Rattle.number.proofs.Writing.{bytes-last}
@@ -28,14 +31,9 @@ use Rattle.expansion.specs.declared.Path.{Path}
 use Rattle.expansion.specs.View.{termAt, Emitted, NumberFits}
 use Rattle.expansion.specs.Walking.{viewOf, Good, termsBelow, Room, NodeMay}
 use Rattle.expansion.specs.Expanding.{above, tooHigh, unusedSet, termsOf, rollOf, Nibbles, Packed, emptyTerm, Within, headOf, HeadMay, RollMay}
-use Rattle.expansion.proofs.Emission.{sets-append}
 use Rattle.expansion.proofs.Requests.{three-total, none-after}
 
 -- ---- the orders of a request within the limits
-
-neither : (a b : Bool) → (a || b) ≡ false → (a ≡ false) × (b ≡ false)
-neither true b e = absurd (let z : _≡_ {A = ℕ} 0 1 = cc in omega arith)
-neither false b e = (refl, e)
 
 -- the order sums of all four centres, and the depth
 pub record Sums (k : Kind) (os : List ℕ) : Type 0 where
@@ -43,7 +41,7 @@ pub record Sums (k : Kind) (os : List ℕ) : Type 0 where
   pub of-b : sumOf os B ≤ mostOrder
   pub of-c : sumOf os C ≤ mostOrder
   pub of-d : sumOf os D ≤ mostOrder
-  pub deep : stage k + total os ≤ mostOrders
+  pub deep : stage k + total os ≤ mostL·any
 
 module _ (os : List ℕ) (twelve : length os ≡ requestOrders) where
   all-total : total os ≡ sumOf os A + sumOf os B + sumOf os C + sumOf os D
@@ -155,37 +153,23 @@ take-small (suc n) [] h i = h i
 take-small (suc n) (x ∷ l) h zero = h zero
 take-small (suc n) (x ∷ l) h (suc i) = take-small n l (λ (j : ℕ). h (suc j)) i
 
-pub few-orders : (k : Kind) → ordersOf k ≤ requestOrders
-few-orders Overlap = omega arith
-few-orders Kinetic = omega arith
-few-orders Nuclear = omega arith
-few-orders Moment = omega arith
-few-orders Coulomb = omega arith
-
 pub orders-add : (k : Kind) (n : ℕ) → n ≡ ordersOf k → 1 + n < 2 ^ 64
-orders-add k n e = let h = few-orders k in omega arith
+orders-add k n e = let h = orders-within k in omega arith
 
 pub kept-through : (out mid after : List ℕ) (i v : ℕ) → length after ≡ length mid → length mid ≡ length (set out i v) → length after ≡ length out
 kept-through out mid after i v e f = e ∙ f ∙ length-set out i v
-
-small-number : (k : Kind) → numberOf k < 128
-small-number Overlap = omega arith
-small-number Kinetic = omega arith
-small-number Nuclear = omega arith
-small-number Moment = omega arith
-small-number Coulomb = omega arith
 
 module _ (k : Kind) (os : List ℕ) (within : Within k os) where
   roll-bytes : rollOf k os ≡ headOf k os ++ termsBytes (termsOf k os)
   unfolding rollOf rollBytes headOf Small
   roll-bytes =
-      ap₂ _++_ (bytes-last (numberOf k) (small-number k))
+      ap₂ _++_ (bytes-last (numberOf k) (omega (arith, number-within k)))
       (ap (λ (l : List ℕ). l ++ (bytesOf (length (termsOf k os)) ++ termsBytes (termsOf k os)))
       (numbers-small (take (ordersOf k) os) (take-small (ordersOf k) os (λ (i : ℕ). let h = all-small k os within i in omega arith))))
       ∙ ap (λ (l : List ℕ). numberOf k ∷ l) (sym (append-assoc (take (ordersOf k) os) (bytesOf (length (termsOf k os))) (termsBytes (termsOf k os))))
 
   pub orders-long : length (take (ordersOf k) os) ≡ ordersOf k
-  orders-long = length-take (ordersOf k) os ∙ (let h = few-orders k in let l = within .twelve in omega arith)
+  orders-long = length-take (ordersOf k) os ∙ (let h = orders-within k in let l = within .twelve in omega arith)
 
   head-length : length (headOf k os) ≡ 1 + ordersOf k + lengthOf (length (termsOf k os))
   unfolding headOf lengthOf
@@ -203,7 +187,7 @@ module _ (k : Kind) (os : List ℕ) (terms : ℕ) (out : List ℕ) (may : HeadMa
 
   module _ (n : ℕ) (is : n ≡ ordersOf k) where
     pub orders-few : n ≤ requestOrders
-    orders-few = let h = few-orders k in omega arith
+    orders-few = let h = orders-within k in omega arith
 
     pub orders-room : (v : ℕ) → 1 + n ≤ length (set out 0 v)
     orders-room v = let r = may .room in let l = long in let s = length-set out 0 v in omega arith

@@ -13,7 +13,7 @@ use lib.Seq.{drop-cons, getD-drop}
 use Rattle.kind.specs.declared.Kind.{Kind}
 use Rattle.kind.specs.declared.Kind.the-variants.{Overlap, Kinetic, Nuclear, Moment, Coulomb}
 use Rattle.kind.specs.Kinds.{ordersOf, tableOf, mostPrefactors, usesBoys}
-use Rattle.kind.specs.Limits.{mostOrder, mostOrders, mostTerms, requestOrders}
+use Rattle.kind.specs.Limits.{mostOrder, mostL·any, mostTerms, requestOrders}
 use Rattle.term.specs.Terms.{Term}
 use Rattle.steps.specs.declared.Centre.the-variants.{A, B, C, D}
 use Rattle.steps.specs.Choice.{sumOf}
@@ -27,7 +27,7 @@ use Rattle.roll.specs.Reading.{Roll, got, rollAt, mostBoys, total as rollTotal}
 use Rattle.roll.specs.Fits.{CentresFit, Below, TermFits, TermsFit, RollFits}
 use Rattle.roll.proofs.Back.{roll-back}
 use Rattle.expansion.specs.Expanding.{unusedSet, termsOf, rollOf, Within}
-use Rattle.expansion.proofs.Headers.{Sums, all-sums, all-small, orders-long, few-orders}
+use Rattle.expansion.proofs.Headers.{Sums, all-sums, all-small, orders-long}
 
 same-total : (l : List ℕ) → rollTotal l ≡ total l
 unfolding total rollTotal

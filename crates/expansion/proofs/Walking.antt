@@ -12,6 +12,7 @@ use lib.ListN.{length, getD, drop, length-append, drop-of-length-le}
 use lib.Seq.{sets, length-sets, drop-cons}
 use Rattle.kind.specs.declared.Kind.{Kind}
 use Rattle.kind.specs.declared.Kind.the-variants.{Overlap, Kinetic, Nuclear, Moment, Coulomb}
+use Rattle.kind.proofs.Lists.{sets-append}
 use Rattle.term.specs.Terms.{Term}
 use Rattle.steps.specs.declared.Centre.{Centre}
 use Rattle.steps.specs.declared.Centre.the-variants.{A, B, C, D}
@@ -27,7 +28,6 @@ use Rattle.expansion.specs.declared.Path.{Path}
 use Rattle.expansion.specs.declared.Child.{Child}
 use Rattle.expansion.specs.View.{Emitted}
 use Rattle.expansion.specs.Walking.{viewOf, Turn, ChildOf, termsBelow, termsFrom, Room}
-use Rattle.expansion.proofs.Emission.{sets-append}
 
 few-branches : (k : Kind) (c : Centre) (x : Axis) → length (branches k c x) ≤ 8
 unfolding branches

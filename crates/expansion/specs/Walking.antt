@@ -5,7 +5,7 @@ use mathlib.Core.Bool.{true}
 use mathlib.Core.List.{List}
 use lib.ListN.{length, getD, drop}
 use Rattle.kind.specs.declared.Kind.{Kind}
-use Rattle.kind.specs.Limits.{mostOrders, requestOrders}
+use Rattle.kind.specs.Limits.{mostL·any, requestOrders}
 use Rattle.term.specs.Terms.{Term}
 use Rattle.steps.specs.declared.Centre.{Centre}
 use Rattle.steps.specs.declared.Axis.{Axis}
@@ -35,7 +35,7 @@ pub record Good (k : Kind) (left : ℕ) (p : Path) : Type 0 where
   pub request : Kind
   pub request-orders : List ℕ
   pub reached : Reached request request-orders (viewOf k left p)
-  pub deep : depth (start request request-orders) ≤ mostOrders
+  pub deep : depth (start request request-orders) ≤ mostL·any
   pub word : left < 16 ^ requestOrders
 
 -- a centre and an axis that are lowered, and the multipliers of the branches from a number on

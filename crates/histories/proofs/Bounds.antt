@@ -12,7 +12,7 @@ use lib.Pow.{pow-add}
 use lib.Seq.{getD-set-same, getD-set-other}
 use Rattle.kind.specs.declared.Kind.{Kind}
 use Rattle.kind.specs.Kinds.{tableOf, usesBoys}
-use Rattle.kind.specs.Limits.{mostOrder, mostOrders, mostScale}
+use Rattle.kind.specs.Limits.{mostOrder, mostL·any, mostScale}
 use Rattle.term.specs.Terms.{Term}
 use Rattle.term.specs.Weights.{weight, weights}
 use Rattle.steps.specs.declared.Centre.{Centre}
@@ -230,12 +230,12 @@ pub terms-kept : (request : Kind) (orders : List ℕ) → Small orders → (t : 
 terms-kept request orders h = kept request orders (start request orders) (started request orders h)
 
 -- the scale is at most the limit
-pub scale-limit : (request : Kind) (orders : List ℕ) (t : Term) → Kept request orders t → total orders ≤ mostOrders → t .scale ≤ mostScale
+pub scale-limit : (request : Kind) (orders : List ℕ) (t : Term) → Kept request orders t → total orders ≤ mostL·any → t .scale ≤ mostScale
 scale-limit request orders t k h =
     square-le (t .scale) mostScale (le-trans (k .scale-most) (pow-le-pow-right (omega arith) h))
 
 -- the scale of a state on the way is at most the limit too
-pub scale-on-the-way : (request : Kind) (orders : List ℕ) (s : State) → Reached request orders s → total orders ≤ mostOrders → s .term .scale ≤ mostScale
+pub scale-on-the-way : (request : Kind) (orders : List ℕ) (s : State) → Reached request orders s → total orders ≤ mostL·any → s .term .scale ≤ mostScale
 scale-on-the-way request orders s r h =
     let power : 1 ≤ mostOrder ^ total (s .left) = pow-le-pow-right {n = mostOrder} (omega arith) {i = 0} (omega arith) in
     let grows = mul-le-mul-left (s .term .scale * s .term .scale) power in

@@ -23,7 +23,7 @@ use Rattle.histories.proofs.Fair.{own}
 same-centre : (c d : Centre) → Lower c ≡ Lower d → d ≡ c
 same-centre c d e = cc
 
-none-is-none : (c : Centre) → Nothing ≡ Lower c → ⊥
+pub none-is-none : (c : Centre) → Nothing ≡ Lower c → ⊥
 none-is-none c e = let z : _≡_ {A = ℕ} 0 1 = cc in omega arith
 
 -- what is chosen is among the centres looked at

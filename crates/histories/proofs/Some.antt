@@ -28,16 +28,13 @@ use Rattle.steps.specs.States.{State, Next, start, step, ifLegal, turns, onAxis
 use Rattle.histories.specs.History.{over, expand}
 use Rattle.histories.proofs.Nexts.{Legal, legal}
 use Rattle.histories.proofs.Fair.{follows, own}
-use Rattle.histories.proofs.Choices.{chosen-own}
+use Rattle.histories.proofs.Choices.{chosen-own, none-is-none}
 use Rattle.histories.proofs.Walk.{follows-itself, fair-step, expand-done, expand-more}
 use Rattle.histories.proofs.Demand.{by-depth}
 
 -- the orders that a kind leaves unused are 0
 unfoldable pub Unused : Kind → List ℕ → Type 0
 Unused k left = (i : ℕ) → ordersOf k ≤ i → getD left i 0 ≡ 0
-
-none-is-none : (c : Centre) → Nothing ≡ Lower c → ⊥
-none-is-none c e = let z : _≡_ {A = ℕ} 0 1 = cc in omega arith
 
 some-is-some : (c : Centre) → Lower c ≡ Nothing → ⊥
 some-is-some c e = none-is-none c (sym e)

@@ -2,64 +2,26 @@
 -- a number that was within them was read, and a prefactor is one byte.
 use Prim.Native.Nat.{ℕ, zero, suc, _+_, _-_, _<_, _≤_, min}
 use mathlib.Core.Path.{_≡_, refl, sym, ap, _∙_}
-use mathlib.Core.Bool.{Bool, true, false, cond, _||_}
+use mathlib.Core.Bool.{Bool, true, false, cond}
 use mathlib.Core.List.{List, [], _∷_, _++_}
 use native.Mathlib.Nat.{add-zero, min-eq-left, add-suc}
 use native.Mathlib.Omega.{arith}
-use borrow.Author.Tests.{ltb-false}
-use lib.Dec.{ltb, eqb, lit≤}
+use lib.Dec.{eqb}
 use lib.ListN.{length, take, drop}
 use Rattle.kind.specs.declared.Kind.{Kind}
-use Rattle.kind.specs.declared.Kind.the-variants.{Overlap, Kinetic, Nuclear, Moment, Coulomb}
-use Rattle.kind.specs.Kinds.{tableOf, mostPrefactors}
-use Rattle.kind.specs.Limits.{mostScale}
+use Rattle.kind.specs.Kinds.{tableOf}
+use Rattle.kind.proofs.Cases.{clash}
+use Rattle.kind.proofs.Within.{some-entries, table-within}
 use Rattle.term.specs.Terms.{Term}
-use Rattle.number.specs.declared.Number.{Number}
 use Rattle.number.specs.declared.Number.the-variants as number
 use Rattle.number.specs.Numbers.{readAt, Bytes, bytesOf}
 use Rattle.number.proofs.Laws.{reads-only}
 use Rattle.number.proofs.Writing.{bytes-last, length-last}
-use Rattle.roll.specs.Reading.{Reading, got, refused, opened, withinAt, onward, andThen, before, prefactorsAt, mostBoys, countAt, boysAt, termAt, termsAt}
+use Rattle.roll.specs.Reading.{got, refused, withinAt, before, prefactorsAt, termAt, termsAt}
+use Rattle.roll.proofs.Fields.{taken}
+use Rattle.roll.proofs.Filling.{before-is, onward-is}
+use Rattle.roll.proofs.Inside.{andThen-is, term-read}
 use Rattle.integrals.specs.Stored.{seen, seenAt, headAt, between, termOf, termsAt as again}
-
--- a number within its limits was read, and what comes then
-pub record Onward {A : Type 0} (s : List ℕ) (at high : ℕ) (rest : ℕ → ℕ → Reading A) (a : A) (end : ℕ) : Type 0 where
-  pub value : ℕ
-  pub next : ℕ
-  pub read : readAt s at ≡ number.Is value next
-  pub most : value ≤ high
-  pub then : rest value next ≡ got a end
-
-never : {A : Type 0} (r place : ℕ) (a : A) (end : ℕ) → refused r place ≡ got a end → ⊥
-never r place a end e = let z : _≡_ {A = ℕ} 0 1 = cc in omega arith
-
-or-right : (x y : Bool) → (x || y) ≡ false → y ≡ false
-or-right true y e = cc
-or-right false y e = e
-
-onward-is : {A : Type 0} (s : List ℕ) (at low high : ℕ) (rest : ℕ → ℕ → Reading A) (a : A) (end : ℕ) → onward (withinAt s at low high) rest ≡ got a end → Onward s at high rest a end
-unfolding withinAt
-onward-is s at low high rest a end e = by (readAt s at) refl e
-  where
-    by : (r : Number) → readAt s at ≡ r → onward (opened at low high r) rest ≡ got a end → Onward s at high rest a end
-    by (number.Is m after) p q = within (ltb m low || ltb high m) refl
-      where
-        within : (x : Bool) → (ltb m low || ltb high m) ≡ x → Onward s at high rest a end
-        within true z = absurd (never 7 at a end (rw z at q))
-        within false z = record { value = m; next = after; read = p; most = ltb-false high m (or-right (ltb m low) (ltb high m) z); then = rw z at q }
-    by number.Ended p q = absurd (never _ at a end q)
-    by number.NotShortest p q = absurd (never _ at a end q)
-    by number.TooLarge p q = absurd (never _ at a end q)
-
-pub record AndThen {A B : Type 0} (r : Reading A) (rest : A → ℕ → Reading B) (b : B) (end : ℕ) : Type 0 where
-  pub value : A
-  pub next : ℕ
-  pub first : r ≡ got value next
-  pub then : rest value next ≡ got b end
-
-and-then-is : {A B : Type 0} (r : Reading A) (rest : A → ℕ → Reading B) (b : B) (end : ℕ) → andThen r rest ≡ got b end → AndThen r rest b end
-and-then-is (got x next) rest b end e = record { value = x; next = next; first = refl; then = e }
-and-then-is (refused r place) rest b end e = absurd (never r place b end e)
 
 -- a number below 128 is the byte that stands there
 pub record One (s : List ℕ) (at n next : ℕ) : Type 0 where
@@ -74,20 +36,6 @@ one-byte s at n next bytes small e =
     let after : next ≡ at + 1 = r .after ∙ ap (λ (x : ℕ). at + x) (length-last n small) in
     record { bytes = r .bytes ∙ rw (one, after); after = after; inside = omega (arith, r .within) }
 
-tables-small : (k : Kind) → tableOf k ≤ 128
-tables-small Overlap = lit≤ tt
-tables-small Kinetic = lit≤ tt
-tables-small Nuclear = lit≤ tt
-tables-small Moment = lit≤ tt
-tables-small Coulomb = lit≤ tt
-
-tables-some : (k : Kind) → 1 ≤ tableOf k
-tables-some Overlap = lit≤ tt
-tables-some Kinetic = lit≤ tt
-tables-some Nuclear = lit≤ tt
-tables-some Moment = lit≤ tt
-tables-some Coulomb = lit≤ tt
-
 -- prefactors stand byte by byte
 pub record Listed (s : List ℕ) (at count : ℕ) (ps : List ℕ) (end : ℕ) : Type 0 where
   pub same : take count (drop at s) ≡ ps
@@ -98,16 +46,15 @@ listed : (count table : ℕ) (s : List ℕ) (at : ℕ) (ps : List ℕ) (end : �
 unfolding prefactorsAt
 listed zero table s at ps end bytes small some room e = record { same = cc; after = let same : at ≡ end = cc in sym same ∙ sym (add-zero at); inside = let same : at ≡ end = cc in omega arith }
 listed (suc count) table s at ps end bytes small some room e =
-    let o = onward-is s at 0 (table - 1) (λ p next. before (p ∷ []) (prefactorsAt count table s next)) ps end e in
-    let one = one-byte s at (o .value) (o .next) bytes (omega (arith, o .most)) (o .read) in
-    let r = and-then-is (prefactorsAt count table s (o .next)) (λ ys next. got ((o .value ∷ []) ++ ys) next) ps end (o .then) in
-    let rest = listed count table s (o .next) (r .value) (r .next) bytes small some (omega (arith, one .after, one .inside)) (r .first) in
-    let list : o .value ∷ r .value ≡ ps = cc in
-    let ends : r .next ≡ end = cc in
+    let o = onward-is (withinAt s at 0 (table - 1)) (λ p next. before (p ∷ []) (prefactorsAt count table s next)) ps end e in
+    let b = before-is (o .0) (prefactorsAt count table s (o .1)) ps end (o .3) in
+    let t = taken s at 0 (table - 1) (withinAt s at 0 (table - 1)) (o .0) (o .1) refl (o .2) in
+    let one = one-byte s at (o .0) (o .1) bytes (omega (arith, t .below)) (t .read) in
+    let rest = listed count table s (o .1) (b .0) end bytes small some (omega (arith, one .after, one .inside)) (b .1) in
     record {
-      same = rw (one .bytes, ← (one .after)) (ap (λ (xs : List ℕ). o .value ∷ xs) (rest .same) ∙ list);
+      same = rw (b .2, one .bytes, ← (one .after)) (ap (λ (xs : List ℕ). o .0 ∷ xs) (rest .same));
       after = omega (arith, rest .after, one .after, add-suc at count);
-      inside = omega (arith, rest .inside);
+      inside = rest .inside;
     }
 
 -- a number that was read is seen
@@ -124,23 +71,19 @@ pub record Same (s : List ℕ) (at : ℕ) (t : Term) (end : ℕ) : Type 0 where
   pub after : headAt s at .end ≡ end
 
 pub term-again : (k : Kind) (l : ℕ) (s : List ℕ) (at : ℕ) (t : Term) (end : ℕ) → Bytes s → termAt k l s at ≡ got t end → Same s at t end
-unfolding termAt boysAt countAt termOf between
+unfolding termOf between
 term-again k l s at t end bytes e =
-    let scale = onward-is s at 1 mostScale (λ scale next. boysAt k l scale s next) t end e in
-    let boys = onward-is s (scale .next) 0 (mostBoys k l) (λ boys next. countAt k l (scale .value) boys s next) t end (scale .then) in
-    let count = onward-is s (boys .next) 0 (mostPrefactors k l) (λ count next. andThen (prefactorsAt count (tableOf k) s next) (λ ps after. got (record { scale = scale .value; boys = boys .value; prefactors = ps }) after)) t end (boys .then) in
-    let r = and-then-is (prefactorsAt (count .value) (tableOf k) s (count .next)) (λ ps after. got (record { scale = scale .value; boys = boys .value; prefactors = ps }) after) t end (count .then) in
-    let room = reads-only s (boys .next) (count .value) (count .next) bytes (count .read) in
-    let list = listed (count .value) (tableOf k) s (count .next) (r .value) (r .next) bytes (tables-small k) (tables-some k) (room .within) (r .first) in
-    let whole : count .next + count .value ≤ length s = omega (arith, list .after, list .inside) in
-    let ends : min (count .next + count .value) (length s) ≡ count .next + count .value = min-eq-left whole in
-    let head = head-again s at (scale .value) (boys .value) (count .value) (scale .next) (boys .next) (count .next) (scale .read) (boys .read) (count .read) in
-    let made : record { scale = scale .value; boys = boys .value; prefactors = r .value } ≡ t = cc in
-    let after : r .next ≡ end = cc in
-    let some : count .next + count .value - count .next ≡ count .value = omega arith in
+    let n = length (t .prefactors) in
+    let r = term-read k l s at t end e in
+    let room = reads-only s (r .b) n (r .c) bytes (r .count .read) in
+    let list = listed n (tableOf k) s (r .c) (t .prefactors) end bytes (omega (arith, table-within k)) (some-entries k) (room .within) (r .prefactors) in
+    let whole : r .c + n ≤ length s = omega (arith, list .after, list .inside) in
+    let ends : min (r .c + n) (length s) ≡ r .c + n = min-eq-left whole in
+    let head = head-again s at (t .scale) (t .boys) n (r .a) (r .b) (r .c) (r .scale .read) (r .boys .read) (r .count .read) in
+    let some : r .c + n - r .c ≡ n = omega arith in
     record {
-      term = rw (head, ends, some, list .same) made;
-      after = rw (head, ends) (sym (list .after) ∙ after);
+      term = rw (head, ends, some, list .same);
+      after = rw (head, ends) (sym (list .after));
     }
 
 -- as many terms as were read
@@ -150,11 +93,10 @@ terms-again zero k l s at ts end bytes e = by (eqb at (length s)) e
   where
     by : (q : Bool) → cond q (got [] at) (refused 7 at) ≡ got ts end → [] ≡ ts
     by true f = cc
-    by false f = absurd (never 7 at ts end f)
+    by false f = absurd (clash (cc))
 terms-again (suc left) k l s at ts end bytes e =
-    let t = and-then-is (termAt k l s at) (λ t next. before (t ∷ []) (termsAt left k l s next)) ts end e in
-    let r = and-then-is (termsAt left k l s (t .next)) (λ ys next. got ((t .value ∷ []) ++ ys) next) ts end (t .then) in
-    let same = term-again k l s at (t .value) (t .next) bytes (t .first) in
-    let rest = terms-again left k l s (t .next) (r .value) (r .next) bytes (r .first) in
-    let list : t .value ∷ r .value ≡ ts = cc in
-    rw (same .term, same .after, rest) list
+    let t = andThen-is (termAt k l s at) (λ t next. before (t ∷ []) (termsAt left k l s next)) ts end e in
+    let b = before-is (t .0) (termsAt left k l s (t .1)) ts end (t .3) in
+    let same = term-again k l s at (t .0) (t .1) bytes (t .2) in
+    let rest = terms-again left k l s (t .1) (b .0) end bytes (b .1) in
+    rw (same .term, same .after, rest) (sym (b .2))

@@ -27,8 +27,8 @@ abbrev pub requestOrders : ℕ
 requestOrders = 3 * mostCentres
 
 -- L of any kind: the sum of all orders
-abbrev pub mostOrders : ℕ
-mostOrders = mostCentres * mostOrder
+abbrev pub mostL·any : ℕ
+mostL·any = mostCentres * mostOrder
 
 -- 4^8: each step with a multiplier above 1 lowers two orders
 abbrev pub mostScale : ℕ
@@ -39,4 +39,4 @@ abbrev pub tablePlaces : ℕ
 tablePlaces = 23
 
 abbrev pub limits : Limits
-limits = record { order = mostOrder; terms = mostTerms; scale = mostScale; size = mostSize; listed = mostListed; request = requestOrders; prefactors = mostOrders; table = tablePlaces }
+limits = record { order = mostOrder; terms = mostTerms; scale = mostScale; size = mostSize; listed = mostListed; request = requestOrders; prefactors = mostL·any; table = tablePlaces }

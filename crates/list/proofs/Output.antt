@@ -2,20 +2,20 @@
 use Prim.Native.Nat.{ℕ, _+_, _^_, _≤_, _<_}
 use native.Mathlib.Omega.{arith}
 use mathlib.Core.Path.{_≡_, refl, sym, _∙_}
-use mathlib.Core.Bool.{false}
+use mathlib.Core.Bool.{Bool, true, false}
 use mathlib.Core.List.{List, _++_}
 use borrow.Author.Tests.{le-ltb, ltb-false}
 use lib.Dec.{ltb}
 use lib.ListN.{length, drop, length-append}
 use lib.Seq.{take-append-seam}
 use Rattle.kind.specs.Limits.{mostListed}
+use Rattle.kind.proofs.Cases.{clash}
 use Rattle.number.specs.Numbers.{Bytes}
 use Rattle.roll.specs.Reading.{Reading, got, refused, Roll, rollAt}
 use Rattle.listing.specs.declared.Listed.{Listed}
 use Rattle.listing.specs.declared.Listed.the-variants.{Text, Refused}
 use Rattle.listing.specs.Text.{listingText, refusalText}
 use Rattle.listing.specs.Answers.{textAt, textOut, TextTold, readAnswer, readOut, listingAt, listingOut, ListingTold}
-use Rattle.listing.proofs.Saying.{clash, tested}
 use Rattle.listing.proofs.Room.{listing-short, refusal-short}
 use Rattle.list.specs.Output.{outputOf, textRoom, Holds}
 
@@ -68,18 +68,19 @@ read-case roll out (refused m wrong) room bytes small reads =
 
 listing-case : (roll out : List ℕ) → textRoom ≤ length out → Bytes roll → Case roll out (listingAt roll out 0) (listingOut roll out 0)
 unfolding listingAt listingOut outputOf
-listing-case roll out room bytes =
-    tested (ltb mostListed (length roll))
-    (λ t.
-    rw t
-    (record {
-      text = λ n is. absurd (clash (cc));
-      refusal = λ n place is.
-          let one : 6 ≡ n = cc in
-          let two : 0 ≡ place = cc in
-          rw (t, ← one, ← two);
-    }))
-    (λ f. rw f (read-case roll out (rollAt roll) room bytes (ltb-false mostListed (length roll) f) refl))
+listing-case roll out room bytes = by (ltb mostListed (length roll)) refl
+  where
+    by : (b : Bool) → ltb mostListed (length roll) ≡ b → Case roll out (listingAt roll out 0) (listingOut roll out 0)
+    by true t =
+        rw t
+        (record {
+          text = λ n is. absurd (clash (cc));
+          refusal = λ n place is.
+              let one : 6 ≡ n = cc in
+              let two : 0 ≡ place = cc in
+              rw (t, ← one, ← two);
+        })
+    by false f = rw f (read-case roll out (rollAt roll) room bytes (ltb-false mostListed (length roll) f) refl)
 
 pub told-text : (roll before after : List ℕ) (n : ℕ) (x : Listed) → Bytes roll → textRoom ≤ length before → ListingTold roll before 0 x after → x ≡ Text n → Holds after n (outputOf roll)
 told-text roll before after n x bytes room told is = rw (told .out) (listing-case roll before room bytes .text n (sym (told .answer) ∙ is))

@@ -13,6 +13,7 @@ use Rattle.kind.specs.declared.Kind.{Kind}
 use Rattle.kind.specs.declared.Named.{Named}
 use Rattle.kind.specs.declared.Named.the-variants as named
 use Rattle.kind.proofs.Laws.{kind-number}
+use Rattle.kind.proofs.Cases.{clash}
 use Rattle.term.specs.Terms.{Term}
 use Rattle.text.specs.declared.Written.{Written}
 use Rattle.text.specs.declared.Written.the-variants.{To, NoRoom}
@@ -29,7 +30,7 @@ use Rattle.listing.specs.declared.Listed.the-variants.{Refused}
 use Rattle.listing.specs.Text.{headLine, termLines, listingText}
 use Rattle.listing.specs.Saying.{Said, leftOf, Readable, Judged, readText, textOf}
 use Rattle.listing.specs.Answers.{TextTold, listingAt, listingOut, ListingTold}
-use Rattle.listing.proofs.Saying.{clash, said-both}
+use Rattle.listing.proofs.Saying.{said-both}
 use Rattle.listing.proofs.Terms.{left-terms, none-left}
 
 -- the roll of a header and its terms

@@ -11,17 +11,19 @@ use Rattle.kind.specs.Limits.{mostOrder, requestOrders}
 use Rattle.kind.specs.Kinds.{numberOf, ordersOf, tableOf}
 use Rattle.kind.specs.declared.Kind.{Kind}
 use Rattle.kind.specs.declared.Kind.the-variants.{Overlap, Kinetic, Nuclear, Moment, Coulomb}
+use Rattle.kind.proofs.Within.{table-within}
 use Rattle.number.specs.Numbers.{bytesOf, lengthOf, Bytes}
 use Rattle.number.proofs.Writing.{length-last, length-more, length-some}
 use Rattle.term.specs.Terms.{Term}
 use Rattle.text.specs.Digits.{decimalOf}
 use Rattle.text.proofs.Digits.{places-short, places-long}
+use Rattle.text.proofs.Writing.{tested}
 use Rattle.roll.specs.Bytes.{numbersBytes, termBytes, termsBytes, rollBytes}
-use Rattle.roll.specs.Reading.{got, mostBoys, total, Roll, rollAt}
+use Rattle.roll.specs.Reading.{got, total, Roll, rollAt}
 use Rattle.roll.specs.Fits.{CentresFit, Below, TermFits, TermsFit, RollFits}
 use Rattle.roll.proofs.Written.{roll-read}
+use Rattle.roll.proofs.Back.{most-boys}
 use Rattle.listing.specs.Text.{blank, afterBlanks, kindText, headLine, termNumbers, termLine, termLines, listingText, placeText, refusalText}
-use Rattle.listing.proofs.Saying.{tested}
 
 -- ---- a number's decimal
 
@@ -98,20 +100,6 @@ orders-bytes (o ∷ os) = omega (arith, next-bytes o os, length-some o, orders-b
 
 -- ---- lines
 
-small-table : (k : Kind) → tableOf k < 2 ^ 32
-small-table Overlap = omega arith
-small-table Kinetic = omega arith
-small-table Nuclear = omega arith
-small-table Moment = omega arith
-small-table Coulomb = omega arith
-
-small-boys : (k : Kind) (l : ℕ) → mostBoys k l ≤ l
-small-boys Overlap l = omega arith
-small-boys Kinetic l = omega arith
-small-boys Nuclear l = omega arith
-small-boys Moment l = omega arith
-small-boys Coulomb l = omega arith
-
 line-length : (number : ℕ) (t : Term) → length (termLine number t) ≡ length (decimalOf number) + length (decimalOf (t .scale)) + length (decimalOf (t .boys)) + length (afterBlanks (t .prefactors)) + 4
 unfolding termLine termNumbers
 line-length number t = simp length-append (omega arith)
@@ -123,8 +111,8 @@ line-bytes t = simp length-append (omega arith)
 line-short : (k : Kind) (l number : ℕ) (t : Term) → l < 2 ^ 32 → number < 100000 → TermFits k l t → length (termLine number t) ≤ 5 * length (termBytes t)
 line-short k l number t small few fit =
     let scale = number-short (t .scale) (let most = fit .scale in omega arith) in
-    let boys = number-short (t .boys) (let most = fit .boys in omega (arith, small-boys k l)) in
-    let row = row-short (tableOf k) (t .prefactors) (small-table k) (fit .prefactors) in
+    let boys = number-short (t .boys) (let most = fit .boys in omega (arith, most-boys k l)) in
+    let row = row-short (tableOf k) (t .prefactors) (omega (arith, table-within k)) (fit .prefactors) in
     omega (arith, line-length number t, line-bytes t, five-digits number few, length-some (length (t .prefactors)))
 
 lines-short : (k : Kind) (l number : ℕ) (ts : List Term) → l < 2 ^ 32 → number + length ts ≤ 100000 → TermsFit k l ts → length (termLines number ts) ≤ 5 * length (termsBytes ts)

@@ -1,27 +1,21 @@
 -- Pieces said one after the other are one text: the places add up, and the stores join.
 -- A loop says what is still to be said; each turn takes its piece off the front.
-use Prim.Native.Nat.{ℕ, suc, _+_, _-_, _≤_, _<_}
+use Prim.Native.Nat.{ℕ, _+_, _-_, _≤_, _<_}
 use native.Mathlib.Nat.{add-zero}
 use native.Mathlib.Omega.{arith}
 use mathlib.Core.Path.{_≡_, refl, ap, sym, _∙_}
-use mathlib.Core.Bool.{Bool, true, false}
 use mathlib.Core.List.{List, [], _∷_, _++_}
 use borrow.Author.Tests.{le-leb, lt-leb, leb-true, leb-false}
 use lib.Dec.{leb}
-use lib.ListN.{length, set, length-append}
+use lib.ListN.{length, length-append}
 use lib.Seq.{sets, sets-eq, length-sets}
+use Rattle.kind.proofs.Lists.{sets-append}
+use Rattle.kind.proofs.Cases.{clash}
 use Rattle.text.specs.declared.Written.{Written}
 use Rattle.text.specs.declared.Written.the-variants.{To, NoRoom}
 use Rattle.text.specs.Writing.{Wrote, roomFor}
+use Rattle.text.proofs.Writing.{tested}
 use Rattle.listing.specs.Saying.{further, Said, Kept}
-
--- by cases on a test
-pub tested : {P : Type 0} (b : Bool) → (b ≡ true → P) → (b ≡ false → P) → P
-tested true t f = t refl
-tested false t f = f refl
-
-pub clash : _≡_ {A = ℕ} 0 1 → ⊥
-clash e = omega arith
 
 -- ---- places
 
@@ -60,10 +54,6 @@ further-not room n at e =
     (λ f. leb-false (at + n) room f)
 
 -- ---- stores
-
-pub sets-append : (l : List ℕ) (i : ℕ) (xs ys : List ℕ) → sets l i (xs ++ ys) ≡ sets (sets l i xs) (i + length xs) ys
-sets-append l i [] ys = ap (λ (k : ℕ). sets l k ys) (omega arith)
-sets-append l i (x ∷ xs) ys = sets-append (set l i x) (suc i) xs ys ∙ ap (λ (k : ℕ). sets (sets (set l i x) (suc i) xs) k ys) (omega arith)
 
 -- ---- one piece
 

@@ -8,8 +8,9 @@ use borrow.Author.Tests.{ne-eqb}
 use lib.Dec.{eqb}
 use lib.ListN.{length, replicate, length-append}
 use lib.Seq.{take-append-seam}
-use Rattle.kind.specs.Limits.{mostOrders}
+use Rattle.kind.specs.Limits.{mostL·any}
 use Rattle.kind.specs.declared.Named.{Named}
+use Rattle.kind.proofs.Cases.{clash}
 use Rattle.term.specs.declared.Term.{Term as Held}
 use Rattle.term.specs.Terms.{Term, held}
 use Rattle.text.specs.declared.Written.{Written}
@@ -23,14 +24,14 @@ use Rattle.roll.proofs.Inside.{term-inside}
 use Rattle.roll.proofs.Judging.{honest-step, terms-turn, terms-none}
 use Rattle.listing.specs.Text.{termLine, termLines}
 use Rattle.listing.specs.Saying.{Said, Kept, termsOf, leftAs, leftOf, Readable}
-use Rattle.listing.proofs.Saying.{Saying, clash, saying-all, saying-more, saying-done}
+use Rattle.listing.proofs.Saying.{Saying, saying-all, saying-more, saying-done}
 
 -- what is held of a term is seen as the term
 seen-held : (t : Term) → seen (held t) ≡ t
-seen-held t = ap (λ (ps : List ℕ). record { scale = t .scale; boys = t .boys; prefactors = ps }) (take-append-seam (t .prefactors) (replicate (mostOrders - length (t .prefactors)) 0))
+seen-held t = ap (λ (ps : List ℕ). record { scale = t .scale; boys = t .boys; prefactors = ps }) (take-append-seam (t .prefactors) (replicate (mostL·any - length (t .prefactors)) 0))
 
 held-count : (t : Term) → held t .count ≤ length (held t .prefactors)
-held-count t = omega (arith, length-append (t .prefactors) (replicate (mostOrders - length (t .prefactors)) 0))
+held-count t = omega (arith, length-append (t .prefactors) (replicate (mostL·any - length (t .prefactors)) 0))
 
 -- what a step of a readable cursor gives
 record Turn (c : Cursor) (s : List ℕ) (terms : List Term) (end : ℕ) (x : Step) : Type 0 where

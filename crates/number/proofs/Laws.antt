@@ -12,10 +12,11 @@ use borrow.Author.Tests.{lt-ltb, le-ltb, ltb-true, ltb-false, ne-eqb}
 use lib.Dec.{ltb, lit<}
 use lib.ListN.{length, getD, drop, length-append, length-drop, drop-of-length-le, List·getD-eq-default}
 use lib.Seq.{drop-append-seam, drop-append-add, drop-drop, getD-drop}
+use Rattle.kind.proofs.Cases.{clash}
 use Rattle.number.specs.declared.Number.{Number}
 use Rattle.number.specs.declared.Number.the-variants.{Is, Ended, NotShortest, TooLarge}
 use Rattle.number.specs.Numbers.{groups, bytesOf, lengthOf, above, higher, readFrom, readAt, Bytes}
-use Rattle.number.proofs.Reading.{none-ended, cons-last, cons-more, fifth-is, higher-is, higher-below, above-is, clash, Ends}
+use Rattle.number.proofs.Reading.{none-ended, cons-last, cons-more, fifth-is, higher-is, higher-below, above-is, Ends}
 use Rattle.number.proofs.Writing.{groups-last, groups-more, length-some}
 
 -- ---- what was written reads back

@@ -11,6 +11,7 @@ use borrow.Author.Tests.{lt-ltb, le-ltb, ltb-true, ltb-false, eqb-true, eqb-fals
 use lib.Dec.{ltb, eqb, lit<}
 use lib.ListN.{length, getD, drop, length-drop, drop-of-length-le}
 use lib.Seq.{drop-cons}
+use Rattle.kind.proofs.Cases.{clash}
 use Rattle.number.specs.declared.Number.{Number}
 use Rattle.number.specs.declared.Number.the-variants.{Is, Ended, NotShortest, TooLarge}
 use Rattle.number.specs.Numbers.{group, above, last, higher, readFrom, readAt}
@@ -59,9 +60,6 @@ pub higher-more : (s : List ℕ) (at more less b : ℕ) (r q : Number) → at < 
 higher-more s at more less b r q inside is some e big eq er =
     let more-is : more ≡ suc less = omega arith in
     er ∙ ap (above (b % 128)) eq ∙ rw (head s at b inside is) (sym (cons-more more less b (drop (at + 1) s) at more-is big))
-
-pub clash : _≡_ {A = ℕ} 0 1 → ⊥
-clash e = omega arith
 
 -- a number that the bytes after a group make, taken out of the whole again
 pub above-is : (low n next : ℕ) (r : Number) → above low r ≡ Is n next → (h : ℕ) × (r ≡ Is h next) × (n ≡ low + 128 * h)

@@ -6,12 +6,13 @@ use mathlib.Core.List.{List, [], _∷_, _++_, append-assoc, append-nil}
 use native.Mathlib.Omega.{arith}
 use borrow.Author.Tests.{eq-eqb, ne-eqb}
 use lib.ListN.{length, drop, length-drop}
-use Rattle.kind.specs.Limits.{mostOrder, mostOrders, mostScale, mostTerms, tablePlaces}
+use Rattle.kind.specs.Limits.{mostOrder, mostScale, mostTerms, tablePlaces}
 use Rattle.kind.specs.Kinds.{kindOf, numberOf, ordersOf, tableOf, mostL, mostPrefactors}
 use Rattle.kind.specs.declared.Kind.{Kind}
 use Rattle.kind.specs.declared.Kind.the-variants.{Overlap, Kinetic, Nuclear, Moment, Coulomb}
 use Rattle.kind.specs.declared.Named.{Named}
 use Rattle.kind.proofs.Laws.{kind-number}
+use Rattle.kind.proofs.Within.{number-within, l-within, table-within}
 use Rattle.number.specs.Numbers.{bytesOf, lengthOf, readAt}
 use Rattle.number.proofs.Laws.{reads-back-from, after-bytes}
 use Rattle.term.specs.Terms.{Term}
@@ -23,7 +24,7 @@ use Rattle.roll.specs.Fits.{CentresFit, Below, TermFits, TermsFit, RollF
 use Rattle.roll.proofs.Fields.{within-is}
 use Rattle.roll.proofs.Heading.{room-small}
 use Rattle.roll.proofs.Inside.{term-inside, header-read, header-inside, orders-most}
-use Rattle.roll.proofs.Stepping.{few-prefactors, table-fits}
+use Rattle.roll.proofs.Stepping.{few-prefactors}
 
 -- ---- a number
 
@@ -46,19 +47,12 @@ prefactors-back (p ∷ ps) table s rest at places below is =
     let r = prefactors-back ps table s rest (f .0) places (below .1) (f .2) in
     (r .0, rw (f .1, r .1), r .2)
 
-most-boys : (k : Kind) (l : ℕ) → mostBoys k l ≤ l
+pub most-boys : (k : Kind) (l : ℕ) → mostBoys k l ≤ l
 most-boys Overlap l = omega arith
 most-boys Kinetic l = omega arith
 most-boys Nuclear l = omega arith
 most-boys Moment l = omega arith
 most-boys Coulomb l = omega arith
-
-most-l : (k : Kind) → mostL k ≤ mostOrders
-most-l Overlap = omega arith
-most-l Kinetic = omega arith
-most-l Nuclear = omega arith
-most-l Moment = omega arith
-most-l Coulomb = omega arith
 
 pub term-back : (k : Kind) (l : ℕ) (t : Term) (s rest : List ℕ) (at : ℕ) → l ≤ mostL k → TermFits k l t → drop at s ≡ termBytes t ++ rest → (next : ℕ) × (termAt k l s at ≡ got t next) × (drop next s ≡ rest)
 unfolding termBytes termAt boysAt countAt
@@ -73,9 +67,9 @@ term-back k l t s rest at small fit is =
     ∙ ap (λ (x : List ℕ). bytesOf (t .boys) ++ x) (append-assoc (bytesOf (length ps)) (numbersBytes ps) rest)) in
     let few = few-prefactors k l small in
     let f = field-back s after-scale at 1 mostScale (t .scale) split (omega (arith, fit .scale)) (fit .some) (fit .scale) in
-    let g = field-back s after-boys (f .0) 0 (mostBoys k l) (t .boys) (f .2) (omega (arith, fit .boys, most-boys k l, most-l k)) (omega arith) (fit .boys) in
+    let g = field-back s after-boys (f .0) 0 (mostBoys k l) (t .boys) (f .2) (omega (arith, fit .boys, most-boys k l, l-within k)) (omega arith) (fit .boys) in
     let h = field-back s after-count (g .0) 0 (mostPrefactors k l) (length ps) (g .2) (omega (arith, fit .count)) (omega arith) (fit .count) in
-    let r = prefactors-back ps (tableOf k) s rest (h .0) (table-fits k (tableOf k) refl) (fit .prefactors) (h .2) in
+    let r = prefactors-back ps (tableOf k) s rest (h .0) (table-within k) (fit .prefactors) (h .2) in
     (r .0, rw (f .1, g .1, h .1, r .1), r .2)
 
 terms-back : (k : Kind) (l : ℕ) (ts : List Term) (s : List ℕ) (at : ℕ) → l ≤ mostL k → at ≤ length s → TermsFit k l ts → drop at s ≡ termsBytes ts → termsAt (length ts) k l s at ≡ got ts (length s)
@@ -116,17 +110,10 @@ orders-back (o ∷ os) i room s rest at small keeps is =
     let r = orders-back os (i + 1) (roomAfter i room o) s rest (f .0) (room-small i room o small) (keeps .1) (f .2) in
     (r .0, rw (f .1, r .1), r .2)
 
-kind-below : (k : Kind) → numberOf k ≤ numberOf Coulomb
-kind-below Overlap = omega arith
-kind-below Kinetic = omega arith
-kind-below Nuclear = omega arith
-kind-below Moment = omega arith
-kind-below Coulomb = omega arith
-
 header-back : (k : Kind) (os : List ℕ) (terms : ℕ) (s rest : List ℕ) → length os ≡ ordersOf k → CentresFit os → 1 ≤ terms → terms ≤ mostTerms → s ≡ bytesOf (numberOf k) ++ (numbersBytes os ++ (bytesOf terms ++ rest)) → (next : ℕ) × (headerAt s ≡ got (record { kind = k; orders = os; terms = terms }) next) × (drop next s ≡ rest)
 unfolding headerAt countedAt
 header-back k os terms s rest places fit some most is =
-    let f = field-back s (numbersBytes os ++ (bytesOf terms ++ rest)) 0 0 (numberOf Coulomb) (numberOf k) is (omega (arith, kind-below k)) (omega arith) (kind-below k) in
+    let f = field-back s (numbersBytes os ++ (bytesOf terms ++ rest)) 0 0 (numberOf Coulomb) (numberOf k) is (omega (arith, number-within k)) (omega arith) (number-within k) in
     let o = orders-back os 0 mostOrder s (bytesOf terms ++ rest) (f .0) (omega arith) (fit-keeps 0 os refl fit) (f .2) in
     let c = field-back s rest (o .0) 1 mostTerms terms (o .2) (omega arith) some most in
     let orders : ordersAt (ordersOf k) 0 mostOrder s (f .0) ≡ got os (o .0) = ap (λ (n : ℕ). ordersAt n 0 mostOrder s (f .0)) (sym places) ∙ o .1 in (

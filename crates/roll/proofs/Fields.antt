@@ -1,13 +1,14 @@
 -- A number within its limits: a law for each way out of `within`, and what its answers say.
 use Prim.Native.Nat.{ℕ, zero, suc, _+_, _≤_, _<_}
 use mathlib.Core.Path.{_≡_, refl, sym, ap, _∙_}
-use mathlib.Core.Bool.{Bool, true, false, cond, _||_, true≢false}
+use mathlib.Core.Bool.{Bool, true, false, cond, _||_}
 use mathlib.Core.List.{List, [], _∷_}
 use native.Mathlib.Omega.{arith}
 use borrow.Author.Tests.{lt-ltb, le-ltb, ltb-false}
 use lib.Dec.{ltb}
 use types.Run.{OneOf, miss}
 use denote.Enum.Declared.{tagOf}
+use Rattle.kind.proofs.Cases.{clash, neither}
 use Rattle.number.proofs.Number.{the-type}
 use Rattle.number.specs.declared.Number.{Number}
 use Rattle.number.specs.declared.Number.the-variants as number
@@ -37,13 +38,6 @@ within-high s at low high q n next is e above beyond = rw (sym is ∙ e) (simp (
 pub within-is : (s : List ℕ) (at low high : ℕ) (q : Number) (n next : ℕ) → q ≡ readAt s at → q ≡ number.Is n next → low ≤ n → n ≤ high → field.Is n next ≡ withinAt s at low high
 unfolding withinAt
 within-is s at low high q n next is e above below = rw (sym is ∙ e) (simp (le-ltb n low above, le-ltb high n below))
-
-clash : _≡_ {A = ℕ} 0 1 → ⊥
-clash e = omega arith
-
-neither : (p q : Bool) → (p || q) ≡ false → (p ≡ false) × (q ≡ false)
-neither true q e = absurd (true≢false e)
-neither false q e = (refl, e)
 
 -- a number that was taken keeps its limits, and stands there
 pub record Taken (s : List ℕ) (at low high n next : ℕ) : Type 0 where

@@ -6,7 +6,8 @@ use native.Mathlib.Numerals.{add-one}
 use native.Mathlib.Omega.{arith}
 use lib.ListN.{length, set, take, replicate, length-set, length-take, length-replicate}
 use lib.Seq.{take-suc-set, set-at, append-snoc, length-take-le}
-use Rattle.kind.specs.Limits.{mostOrders}
+use Rattle.kind.specs.Limits.{mostL·any}
+use Rattle.kind.proofs.Cases.{clash}
 use Rattle.roll.specs.declared.Field.{Field}
 use Rattle.roll.specs.declared.Field.the-variants as field
 use Rattle.roll.specs.declared.ReadPrefactors.{ReadPrefactors}
@@ -53,14 +54,14 @@ before-more xs x (refused r place) = refl
 
 pub record Filling (s : List ℕ) (at count table : ℕ) (values : List ℕ) (place i : ℕ) : Type 0 where
   pub inside : i ≤ count
-  pub room : count ≤ mostOrders
-  pub filled : Filled mostOrders values i
+  pub room : count ≤ mostL·any
+  pub filled : Filled mostL·any values i
   pub whole : before (take i values) (prefactorsAt (count - i) table s place) ≡ prefactorsAt count table s at
 
-pub filling-none : (s : List ℕ) (at count table : ℕ) → count ≤ mostOrders → Filling s at count table (replicate mostOrders 0) at 0
+pub filling-none : (s : List ℕ) (at count table : ℕ) → count ≤ mostL·any → Filling s at count table (replicate mostL·any 0) at 0
 filling-none s at count table room =
     let all : count - 0 ≡ count = omega arith in
-    record { inside = zero-le; room = room; filled = filled-none mostOrders; whole = rw all (before-none (prefactorsAt count table s at)) }
+    record { inside = zero-le; room = room; filled = filled-none mostL·any; whole = rw all (before-none (prefactorsAt count table s at)) }
 
 -- one more turn of the reading
 turn : (s : List ℕ) (place count table i : ℕ) (x : Field) → i < count → x ≡ withinAt s place 0 (table - 1) → prefactorsAt (count - i) table s place ≡ onward x (λ p next. before (p ∷ []) (prefactorsAt (count - (i + 1)) table s next))
@@ -69,14 +70,14 @@ turn s place count table i x less is = let fewer : count - i ≡ suc (count - (i
 
 pub filling-more : (s : List ℕ) (at count table : ℕ) (values : List ℕ) (place i : ℕ) (x : Field) (p next : ℕ) → Filling s at count table values place i → i < count → x ≡ withinAt s place 0 (table - 1) → x ≡ field.Is p next → Filling s at count table (set values i p) next (i + 1)
 filling-more s at count table values place i x p next f less is e =
-    let inside : i < mostOrders = omega (arith, f .room) in
+    let inside : i < mostL·any = omega (arith, f .room) in
     let rest : prefactorsAt (count - i) table s place ≡ before (p ∷ []) (prefactorsAt (count - (i + 1)) table s next) = rw e at (turn s place count table i x less is) in
     record {
       inside = omega arith;
       room = f .room;
-      filled = filled-more mostOrders values i p (f .filled) inside;
+      filled = filled-more mostL·any values i p (f .filled) inside;
       whole =
-          rw (taken-more mostOrders values i p (f .filled) inside)
+          rw (taken-more mostL·any values i p (f .filled) inside)
           (sym (before-more (take i values) p (prefactorsAt (count - (i + 1)) table s next))
           ∙ ap (before (take i values)) (sym rest)
           ∙ f .whole);
@@ -104,9 +105,6 @@ filling-done s at count table values place i f done =
 
 -- ---- as many as were asked for
 
-pub clash : _≡_ {A = ℕ} 0 1 → ⊥
-clash e = omega arith
-
 pub before-is : {A : Type 0} (x : A) (r : Reading (List A)) (ys : List A) (next : ℕ) → before (x ∷ []) r ≡ got ys next → (zs : List A) × (r ≡ got zs next) × (ys ≡ x ∷ zs)
 before-is x (got zs n) ys next e = (zs, cc, cc)
 before-is x (refused r place) ys next e = absurd (clash (cc))
@@ -127,7 +125,7 @@ held-few : (x : Reading (List ℕ)) (count : ℕ) → ((ps : List ℕ) (next : �
 held-few (got ps m) count long n next e = let same : length ps ≡ n = cc in sym same ∙ long ps m refl
 held-few (refused r place) count long n next e = absurd (clash (cc))
 
-pub few-found : (count table : ℕ) (s : List ℕ) (at : ℕ) (read : ReadPrefactors) → count ≤ mostOrders → read ≡ heldPrefactors (prefactorsAt count table s at) → FewFound read
+pub few-found : (count table : ℕ) (s : List ℕ) (at : ℕ) (read : ReadPrefactors) → count ≤ mostL·any → read ≡ heldPrefactors (prefactorsAt count table s at) → FewFound read
 few-found count table s at read few is n next e =
     let same : n ≡ count = held-few (prefactorsAt count table s at) count (λ ps m h. prefactors-length count table s at ps m h) n next (ap (λ (r : ReadPrefactors). r .found) (sym is) ∙ e) in
     omega arith

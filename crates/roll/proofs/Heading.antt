@@ -11,9 +11,11 @@ use lib.Seq.{length-take-le}
 use Rattle.kind.specs.Limits.{mostOrder, mostTerms, requestOrders}
 use Rattle.kind.specs.Kinds.{kindOf, numberOf, ordersOf}
 use Rattle.kind.specs.declared.Kind.{Kind}
-use Rattle.kind.specs.declared.Kind.the-variants.{Overlap, Kinetic, Nuclear, Moment, Coulomb}
+use Rattle.kind.specs.declared.Kind.the-variants.{Coulomb}
 use Rattle.kind.specs.declared.Named.{Named}
 use Rattle.kind.specs.declared.Named.the-variants as named
+use Rattle.kind.proofs.Cases.{clash}
+use Rattle.kind.proofs.Within.{orders-within}
 use Rattle.roll.specs.declared.Field.{Field}
 use Rattle.roll.specs.declared.Field.the-variants as field
 use Rattle.roll.specs.declared.ReadOrders.{ReadOrders}
@@ -22,7 +24,7 @@ use Rattle.roll.specs.declared.Opened.{Opened}
 use Rattle.roll.specs.Reading.{Reading, got, refused, onward, andThen, before, withinAt, roomAfter, ordersAt, total, Header, countedAt, ofKind, headerAt}
 use Rattle.roll.specs.Answers.{heldOrders, refusedOpened, heldHeader, countedFrom, ordersFrom, openCounted, FewOrders, openOf}
 use Rattle.roll.proofs.Fields.{taken-below}
-use Rattle.roll.proofs.Filling.{Filled, filled-none, filled-more, taken-more, before-none, before-more, before-is, onward-is, clash}
+use Rattle.roll.proofs.Filling.{Filled, filled-none, filled-more, taken-more, before-none, before-more, before-is, onward-is}
 
 -- ---- the orders
 
@@ -147,11 +149,7 @@ unfolding openOf headerAt
 open-unread s most x r place y limit is e answer = answer ∙ rw (← limit, ← is, e)
 
 pub orders-places : (k : Kind) (n : ℕ) → n ≡ ordersOf k → n ≤ requestOrders
-orders-places Overlap n e = omega arith
-orders-places Kinetic n e = omega arith
-orders-places Nuclear n e = omega arith
-orders-places Moment n e = omega arith
-orders-places Coulomb n e = omega arith
+orders-places k n e = omega (arith, orders-within k)
 
 orders-total : (n i room : ℕ) (s : List ℕ) (at : ℕ) (os : List ℕ) (next : ℕ) → room ≤ mostOrder → ordersAt n i room s at ≡ got os next → total os ≤ mostOrder * n
 unfolding ordersAt total

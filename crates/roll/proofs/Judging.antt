@@ -13,6 +13,7 @@ use Rattle.kind.specs.declared.Kind.{Kind}
 use Rattle.kind.specs.declared.Named.{Named}
 use Rattle.kind.specs.declared.Named.the-variants as named
 use Rattle.kind.proofs.Laws.{kind-number}
+use Rattle.kind.proofs.Cases.{clash}
 use Rattle.term.specs.Terms.{Term}
 use Rattle.roll.specs.declared.Cursor.{Cursor}
 use Rattle.roll.specs.declared.Field.{Field}
@@ -22,7 +23,6 @@ use Rattle.roll.specs.declared.Opened.{Opened}
 use Rattle.roll.specs.Reading.{Reading, got, refused, andThen, before, mostBoys, termAt, termsAt, total, Header, headerAt}
 use Rattle.roll.specs.Answers.{refusedStep, stepWith, stepAs, stepOf, refusedOpened, cursorAt, heldHeader, openOf, judged, judgedAs, Honest, checked, checkOf}
 use Rattle.roll.specs.Over.{termsOver, judgedOver}
-use Rattle.roll.proofs.Filling.{clash}
 use Rattle.roll.proofs.Going.{went-over}
 use Rattle.roll.proofs.Inside.{header-read, header-inside, orders-most}
 

@@ -5,14 +5,15 @@ use mathlib.Core.Bool.{Bool, true, false, cond, _||_}
 use mathlib.Core.List.{List, [], _∷_, _++_}
 use native.Mathlib.Omega.{arith}
 use borrow.Author.Tests.{lt-ltb, le-ltb, eq-eqb, ne-eqb}
-use lib.Dec.{ltb, eqb, lit≤}
+use lib.Dec.{ltb, eqb}
 use lib.ListN.{length, replicate}
-use Rattle.kind.specs.Limits.{mostOrders, mostScale, tablePlaces}
+use Rattle.kind.specs.Limits.{mostL·any, mostScale, tablePlaces}
 use Rattle.kind.specs.Kinds.{kindOf, tableOf, mostL, mostPrefactors, usesBoys}
 use Rattle.kind.specs.declared.Kind.{Kind}
 use Rattle.kind.specs.declared.Kind.the-variants.{Overlap, Kinetic, Nuclear, Moment, Coulomb}
 use Rattle.kind.specs.declared.Named.{Named}
 use Rattle.kind.specs.declared.Named.the-variants as named
+use Rattle.kind.proofs.Within.{some-entries, table-within}
 use Rattle.term.specs.declared.Term.{Term as Held}
 use Rattle.term.specs.Terms.{Term, held, noTerm}
 use Rattle.roll.proofs.Fields.{taken-below}
@@ -65,28 +66,21 @@ unfolding termAt
 scale-unread k l s at x r place y is e answer = answer ∙ rw (sym is ∙ e)
 
 -- a kind's limits fit the places that are there for them
-pub few-prefactors : (k : Kind) (l : ℕ) → l ≤ mostL k → mostPrefactors k l ≤ mostOrders
+pub few-prefactors : (k : Kind) (l : ℕ) → l ≤ mostL k → mostPrefactors k l ≤ mostL·any
 few-prefactors Overlap l small = omega arith
 few-prefactors Kinetic l small = omega arith
 few-prefactors Nuclear l small = omega arith
 few-prefactors Moment l small = omega arith
 few-prefactors Coulomb l small = omega arith
 
-pub count-few : (k : Kind) (l : ℕ) (s : List ℕ) (at most : ℕ) (x : Field) (count next : ℕ) → l ≤ mostL k → most ≡ mostPrefactors k l → x ≡ withinAt s at 0 most → x ≡ field.Is count next → count ≤ mostOrders
+pub count-few : (k : Kind) (l : ℕ) (s : List ℕ) (at most : ℕ) (x : Field) (count next : ℕ) → l ≤ mostL k → most ≡ mostPrefactors k l → x ≡ withinAt s at 0 most → x ≡ field.Is count next → count ≤ mostL·any
 count-few k l s at most x count next small limit is e = omega (arith, few-prefactors k l small, taken-below s at 0 most x count next is e)
 
-table-limits : (k : Kind) → (1 ≤ tableOf k) × (tableOf k ≤ tablePlaces)
-table-limits Overlap = (lit≤ tt, lit≤ tt)
-table-limits Kinetic = (lit≤ tt, lit≤ tt)
-table-limits Nuclear = (lit≤ tt, lit≤ tt)
-table-limits Moment = (lit≤ tt, lit≤ tt)
-table-limits Coulomb = (lit≤ tt, lit≤ tt)
-
 pub table-some : (k : Kind) (table : ℕ) → table ≡ tableOf k → 1 ≤ table
-table-some k table is = omega (arith, table-limits k)
+table-some k table is = omega (arith, some-entries k)
 
 pub table-fits : (k : Kind) (table : ℕ) → table ≡ tableOf k → table ≤ tablePlaces
-table-fits k table is = omega (arith, table-limits k)
+table-fits k table is = omega (arith, table-within k)
 
 -- ---- a step
 

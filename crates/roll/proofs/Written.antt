@@ -12,6 +12,8 @@ use Rattle.kind.specs.Limits.{mostOrder, mostScale, mostTerms}
 use Rattle.kind.specs.Kinds.{numberOf, ordersOf, tableOf, mostPrefactors}
 use Rattle.kind.specs.declared.Kind.{Kind}
 use Rattle.kind.specs.declared.Kind.the-variants.{Overlap, Kinetic, Nuclear, Moment, Coulomb}
+use Rattle.kind.proofs.Cases.{clash}
+use Rattle.kind.proofs.Within.{some-entries}
 use Rattle.number.specs.Numbers.{bytesOf, Bytes}
 use Rattle.number.proofs.Laws.{reads-only}
 use Rattle.term.specs.Terms.{Term}
@@ -19,7 +21,7 @@ use Rattle.roll.specs.Bytes.{numbersBytes, termBytes, termsBytes, rollBy
 use Rattle.roll.specs.Reading.{Reading, got, refused, onward, andThen, before, withinAt, prefactorsAt, mostBoys, termAt, termsAt, roomAfter, ordersAt, total, Header, headerAt, Roll, rollAt}
 use Rattle.roll.specs.Fits.{CentresFit, Below, TermFits, TermsFit, RollFits}
 use Rattle.roll.proofs.Fields.{Taken, taken}
-use Rattle.roll.proofs.Filling.{before-is, onward-is, clash}
+use Rattle.roll.proofs.Filling.{before-is, onward-is}
 use Rattle.roll.proofs.Inside.{andThen-is, TermRead, term-read, HeaderRead, header-read, Centre, centre}
 
 -- what stands at a place, then what stands after it
@@ -43,18 +45,11 @@ prefactors-bytes (suc count) table s at ps next bytes some e =
     let below = t .below in
     rw (b .2) (then s (bytesOf (o .0)) (numbersBytes (b .0)) at (o .1) next (taken-bytes s at 0 (table - 1) (o .0) (o .1) bytes t) (rest .0), (omega arith, rest .1))
 
-table-some : (k : Kind) → 1 ≤ tableOf k
-table-some Overlap = omega arith
-table-some Kinetic = omega arith
-table-some Nuclear = omega arith
-table-some Moment = omega arith
-table-some Coulomb = omega arith
-
 term-bytes : (k : Kind) (l : ℕ) (s : List ℕ) (at : ℕ) (t : Term) (next : ℕ) → Bytes s → termAt k l s at ≡ got t next → (drop at s ≡ termBytes t ++ drop next s) × TermFits k l t
 unfolding termBytes
 term-bytes k l s at t next bytes e =
     let r = term-read k l s at t next e in
-    let ps = prefactors-bytes (length (t .prefactors)) (tableOf k) s (r .c) (t .prefactors) next bytes (table-some k) (r .prefactors) in
+    let ps = prefactors-bytes (length (t .prefactors)) (tableOf k) s (r .c) (t .prefactors) next bytes (some-entries k) (r .prefactors) in
     let count = then s (bytesOf (length (t .prefactors))) (numbersBytes (t .prefactors)) (r .b) (r .c) next (taken-bytes s (r .b) 0 (mostPrefactors k l) (length (t .prefactors)) (r .c) bytes (r .count)) (ps .0) in
     let boys = then s (bytesOf (t .boys)) (bytesOf (length (t .prefactors)) ++ numbersBytes (t .prefactors)) (r .a) (r .b) next (taken-bytes s (r .a) 0 (mostBoys k l) (t .boys) (r .b) bytes (r .boys)) count in (
       then s (bytesOf (t .scale)) (bytesOf (t .boys) ++ (bytesOf (length (t .prefactors)) ++ numbersBytes (t .prefactors))) at (r .a) next (taken-bytes s at 1 mostScale (t .scale) (r .a) bytes (r .scale)) boys,

@@ -5,7 +5,7 @@ use mathlib.Core.Bool.{cond, _||_}
 use mathlib.Core.List.{List, [], _∷_, _++_, map}
 use lib.Dec.{ltb, eqb}
 use lib.ListN.{length, replicate}
-use Rattle.kind.specs.Limits.{mostOrder, mostOrders, mostTerms, requestOrders}
+use Rattle.kind.specs.Limits.{mostOrder, mostL·any, mostTerms, requestOrders}
 use Rattle.kind.specs.Kinds.{kindOf, numberOf, mostL}
 use Rattle.kind.specs.declared.Kind.{Kind}
 use Rattle.kind.specs.declared.Named.{Named}
@@ -28,8 +28,8 @@ use Rattle.roll.specs.Reading.{Reading, got, refused, andThen, before, w
 -- ---- inside the crate
 
 abbrev pub heldPrefactors : Reading (List ℕ) → ReadPrefactors
-heldPrefactors (got ps next) = record { found = field.Is (length ps) next; values = ps ++ replicate (mostOrders - length ps) 0 }
-heldPrefactors (refused r place) = record { found = field.Refused r place; values = replicate mostOrders 0 }
+heldPrefactors (got ps next) = record { found = field.Is (length ps) next; values = ps ++ replicate (mostL·any - length ps) 0 }
+heldPrefactors (refused r place) = record { found = field.Refused r place; values = replicate mostL·any 0 }
 
 abbrev pub heldOrders : Reading (List ℕ) → ReadOrders
 heldOrders (got os next) = record { found = field.Is (total os) next; values = os ++ replicate (requestOrders - length os) 0 }
@@ -48,7 +48,7 @@ abbrev pub termOf : ℕ → ℕ → ReadPrefactors → ReadTerm
 termOf scale boys read = termFrom scale boys (read .values) (read .found)
 
 abbrev pub FewFound : ReadPrefactors → Type 0
-FewFound read = (n next : ℕ) → read .found ≡ field.Is n next → n ≤ mostOrders
+FewFound read = (n next : ℕ) → read .found ≡ field.Is n next → n ≤ mostL·any
 
 -- ---- a step of the cursor
 

@@ -1,7 +1,7 @@
 // The roll: what its bytes are, its header, the cursor over its terms, and the judge of a whole roll.
 ghost use mathlib.Core.Path.{_≡_};
 ghost use Prim.Native.Nat.{_≤_};
-ghost use Rattle.kind.specs.Limits.{mostOrder, mostOrders, requestOrders, tablePlaces};
+ghost use Rattle.kind.specs.Limits.{mostOrder, mostL·any, requestOrders, tablePlaces};
 ghost use Rattle.kind.specs.Kinds.{kindOf, mostL};
 ghost use Rattle.roll.specs.Reading.{refused, withinAt, prefactorsAt, mostBoys, countAt, boysAt, termAt, roomAfter, ordersAt};
 ghost use Rattle.roll.specs.Answers.{heldPrefactors, heldTerm, termOf, FewFound, stepOf, stepAs, steppedOver, endOr, noCursor, refusedStep, heldOrders, refusedOpened, FewOrders, openCounted, openOf, Honest, judgedAs, checkOf};
@@ -98,7 +98,7 @@ fn no_prefactors(refusal: u8, place: usize) -> ReadPrefactors
 }
 
 fn prefactors(roll: &[u8], at: usize, count: usize, table: usize) -> ReadPrefactors
-    requires { ⌜ (count ≤ mostOrders) × (1 ≤ table) × (table ≤ tablePlaces) ⌝ }
+    requires { ⌜ (count ≤ mostL·any) × (1 ≤ table) × (table ≤ tablePlaces) ⌝ }
     ensures { λ r. ⌜ r ≡ heldPrefactors (prefactorsAt count table (now (roll .entry)) at) ⌝ }
 {
     let mut values = [0; Kind::PREFACTORS];

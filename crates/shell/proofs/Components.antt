@@ -1,28 +1,21 @@
 -- A component's answer: refusal 2 before the walk, and a pair as a quadruple whose last two shells have one triple each.
 use Prim.Native.Nat.{ℕ, _≤_, _<_}
 use mathlib.Core.Path.{_≡_, refl, sym, ap, _∙_}
-use mathlib.Core.Bool.{Bool, true, false, cond, _||_, or-false, true≢false}
+use mathlib.Core.Bool.{Bool, true, false, cond, _||_, or-false}
 use mathlib.Core.List.{List, [], _∷_, _++_, map, flatMap}
 use borrow.Author.Tests.{lt-ltb, le-ltb, ltb-false}
 use lib.Dec.{ltb}
 use lib.ListN.{replicate}
 use Rattle.kind.specs.Limits.{mostOrder}
+use Rattle.kind.proofs.Cases.{neither}
 use Rattle.shell.specs.declared.Component.{Component}
 use Rattle.shell.specs.Shells.{descending, triples, beside, pairs, quadruples, refused, component, shell2Of, shell4Of}
 
-or-one : (p q : Bool) → (p || q) ≡ false → p ≡ false
-or-one true q e = e
-or-one false q e = refl
-
-or-other : (p q : Bool) → (p || q) ≡ false → q ≡ false
-or-other true q e = absurd (true≢false e)
-or-other false q e = e
-
 pub low-first : (a b : ℕ) (r : Bool) → r ≡ (ltb mostOrder a || ltb mostOrder b) → r ≡ false → a ≤ mostOrder
-low-first a b r is e = ltb-false mostOrder a (or-one (ltb mostOrder a) (ltb mostOrder b) (sym is ∙ e))
+low-first a b r is e = ltb-false mostOrder a (neither (ltb mostOrder a) (ltb mostOrder b) (sym is ∙ e) .0)
 
 pub low-second : (a b : ℕ) (r : Bool) → r ≡ (ltb mostOrder a || ltb mostOrder b) → r ≡ false → b ≤ mostOrder
-low-second a b r is e = ltb-false mostOrder b (or-other (ltb mostOrder a) (ltb mostOrder b) (sym is ∙ e))
+low-second a b r is e = ltb-false mostOrder b (neither (ltb mostOrder a) (ltb mostOrder b) (sym is ∙ e) .1)
 
 pub high-first : (a b : ℕ) → mostOrder < a → true ≡ (ltb mostOrder a || ltb mostOrder b)
 high-first a b above = simp (lt-ltb mostOrder a above)

@@ -2,7 +2,7 @@
 use Prim.Native.Nat.{ℕ, _-_}
 use mathlib.Core.List.{List, [], _++_}
 use lib.ListN.{length, replicate}
-use Rattle.kind.specs.Limits.{mostOrders}
+use Rattle.kind.specs.Limits.{mostL·any}
 use Rattle.term.specs.declared.Term.{Term as Held}
 
 pub record Term : Type 0 where
@@ -12,8 +12,8 @@ pub record Term : Type 0 where
 
 -- a term as the code holds it: its prefactors beside their count, zeros after them
 abbrev pub held : Term → Held
-held t = record { scale = t .scale; boys = t .boys; count = length (t .prefactors); prefactors = t .prefactors ++ replicate (mostOrders - length (t .prefactors)) 0 }
+held t = record { scale = t .scale; boys = t .boys; count = length (t .prefactors); prefactors = t .prefactors ++ replicate (mostL·any - length (t .prefactors)) 0 }
 
 -- the zeros beside a refusal
 abbrev pub noTerm : Held
-noTerm = record { scale = 0; boys = 0; count = 0; prefactors = replicate mostOrders 0 }
+noTerm = record { scale = 0; boys = 0; count = 0; prefactors = replicate mostL·any 0 }

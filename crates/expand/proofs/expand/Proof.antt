@@ -1,14 +1,8 @@
--- `expand` is safe: the buffer has the length that its array is made with, said of no array in particular, so that
--- nothing is counted. Assumes nothing.
+-- `expand` is safe: the buffer has the length that its array is made with. Assumes nothing.
 use borrow.Author.Needs.{needs}
-use Prim.Native.Nat.{ℕ}
-use mathlib.Core.Path.{_≡_, sym}
-use lib.ListN.{length, replicate, length-replicate}
+use Rattle.kind.proofs.Lists.{made}
 use Rattle.expand.proofs.expand.Statement.{statement}
 use Rattle.expand.proofs.expand.Tie as tie
-
-made : (n : ℕ) → n ≡ length {A = ℕ} (replicate n 0)
-made n = sym (length-replicate n 0)
 
 slice-aggregate-answer : tie.Need-slice-aggregate-answer
 slice-aggregate-answer c = made 1048576
