@@ -8,6 +8,9 @@ ghost use Rattle.xewumbal.specs.Answers.{shell2Answer, shell4Answer, ope
 ghost use Rattle.xewumbal.specs.Answers.{prefactorsAnswer, evaluateAnswer};
 use kind::Kind;
 
+// Raised when a struct, a meaning or an answer changes. The header and the binding have the same.
+pub const VERSION: u32 = 1;
+
 #[repr(C)]
 pub struct xew_centre {
     pub x: f64,
