@@ -1,5 +1,5 @@
 // A roll that has been judged, read again: its numbers, and its terms by where they stand.
-ghost use Prim.Native.Nat.{_+_, _<_, min};
+ghost use Prim.Native.Nat.{_+_, min};
 ghost use mathlib.Core.Bool.{true};
 ghost use mathlib.Core.Path.{_≡_};
 ghost use Rattle.integrals.specs.Stored.{seenAt, headAt, Short};
@@ -59,8 +59,8 @@ pub(crate) fn head_at(roll: &[u8], at: usize) -> Head
     }
 }
 
-fn wide(byte: u8) -> usize
-    ensures { λ r. ⌜ (r ≡ byte) × (r < 256) ⌝ }
+pub(crate) fn wide(byte: u8) -> usize
+    ensures { λ r. ⌜ r ≡ byte ⌝ }
 {
     byte as usize
 }

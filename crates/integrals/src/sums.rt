@@ -9,6 +9,7 @@ use super::reader::Head;
 use super::reader::boys_at;
 use super::reader::end_at;
 use super::reader::head_at;
+use super::reader::wide;
 use kind::Kind;
 
 // What a term adds to a sum in list order.
@@ -25,12 +26,6 @@ fn float_at(floats: &[f64], at: usize) -> f64
         return floats[at];
     }
     0.0
-}
-
-fn wide(byte: u8) -> usize
-    ensures { λ r. ⌜ r ≡ byte ⌝ }
-{
-    byte as usize
 }
 
 // g, multiplied by the table's entries in listed order.
