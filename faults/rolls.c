@@ -21,32 +21,29 @@ static bool same_step(xew_step a, xew_step b)
         && memcmp(a.prefactors, b.prefactors, sizeof a.prefactors) == 0;
 }
 
-xew_opened try_open(struct slice roll)
+/* An opening or a check, held to what document 01 says of the roll. */
+static xew_opened try_opening(enum function f, enum empty which, struct slice roll, xew_opened expected,
+                              xew_opened (*called)(const uint8_t *roll, size_t roll_len))
 {
-    xew_opened expected = expected_open(roll.mine, roll.length);
-    maybe_null(&roll, OPEN_ROLL);
+    maybe_null(&roll, which);
     for (int again = 0; again < 2; again++) {
-        BEGIN(OPEN, "roll_len", roll.length);
+        BEGIN(f, "roll_len", roll.length);
         with_slice(&roll);
-        xew_opened opened = xew_open(roll.lent, roll.length);
-        count(OPEN, opened.refusal, again);
-        hold(same_opened(opened, expected), "xew_open: another answer than document 01's");
+        xew_opened opened = called(roll.lent, roll.length);
+        count(f, opened.refusal, again);
+        hold(same_opened(opened, expected), "xew_open or xew_check: another answer than document 01's");
     }
     return expected;
 }
 
+xew_opened try_open(struct slice roll)
+{
+    return try_opening(OPEN, OPEN_ROLL, roll, expected_open(roll.mine, roll.length), xew_open);
+}
+
 xew_opened try_check(struct slice roll)
 {
-    xew_opened expected = expected_check(roll.mine, roll.length);
-    maybe_null(&roll, CHECK_ROLL);
-    for (int again = 0; again < 2; again++) {
-        BEGIN(CHECK, "roll_len", roll.length);
-        with_slice(&roll);
-        xew_opened checked = xew_check(roll.lent, roll.length);
-        count(CHECK, checked.refusal, again);
-        hold(same_opened(checked, expected), "xew_check: another answer than document 01's");
-    }
-    return expected;
+    return try_opening(CHECK, CHECK_ROLL, roll, expected_check(roll.mine, roll.length), xew_check);
 }
 
 static xew_step step(struct slice *roll, xew_cursor cursor)
