@@ -1,4 +1,5 @@
--- Terms that are gone over and not kept: the readings of a roll with the limits that a kind and L set, and no term made.
+-- Inside the crate: terms that are gone over and not kept. `boys` is the most Boys order, `most` the most prefactors, `table` the table size.
+-- What is promised is said by Reading and Answers; proofs/Going shows that going over, with the limits of a kind and L, says the same.
 use Prim.Native.Nat.{ℕ, zero, suc, _+_, _≤_, _<_}
 use mathlib.Core.Bool.{cond}
 use mathlib.Core.List.{List}
