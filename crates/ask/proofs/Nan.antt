@@ -6,10 +6,11 @@ use mathlib.Core.Bool.{Bool, true, false, not, _&&_}
 use lib.Dec.{T, eqb}
 use lib.Ieee.{Float, nan, inf, fin, binary64, eq, isNan, nanBits}
 use borrow.Author.Tests.{eqb-true, eqb-false}
+use Rattle.laws.proofs.Cases.{clash}
 
 pub equals-itself : (x : Float) → eq x x ≡ true → T (not (isNan x))
 unfolding eq isNan
-equals-itself nan h = absurd (let z : _≡_ {A = ℕ} 0 1 = cc in omega arith)
+equals-itself nan h = absurd (clash (cc))
 equals-itself (inf s) h = tt
 equals-itself (fin s m e) h = tt
 

@@ -5,7 +5,7 @@ use crate::output;
 use crate::words;
 use kind::Kind;
 use shell::Component;
-use shell::Found;
+use shell::Sought;
 use words::Byte;
 use words::Word;
 
@@ -74,8 +74,8 @@ fn shown(c: Component, n: usize, out: &mut [u8], used: usize) -> usize
     let found = c.found;
     let orders = c.orders;
     match found {
-        Found::Component => told(orders, n, out, used),
-        Found::Refused(refusal) => output::refused(out, used, refusal),
+        Sought::Component => told(orders, n, out, used),
+        Sought::Refused(refusal) => output::refused(out, used, refusal),
     }
 }
 

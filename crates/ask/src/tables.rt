@@ -2,8 +2,8 @@
 use crate::floats;
 use crate::output;
 use crate::words;
-use geometry::Found;
 use geometry::Table;
+use geometry::Tabled;
 use kind::Kind;
 use words::Byte;
 use words::Filled;
@@ -37,8 +37,8 @@ fn shown(table: Table, out: &mut [u8], used: usize) -> usize {
     let found = table.found;
     let entries = table.entries;
     match found {
-        Found::Given => told(entries, out, used),
-        Found::Refused(refusal) => output::refused(out, used, refusal),
+        Tabled::Given => told(entries, out, used),
+        Tabled::Refused(refusal) => output::refused(out, used, refusal),
     }
 }
 

@@ -3,7 +3,7 @@
 ghost use Prim.Native.Nat.{_≤_};
 ghost use lib.ListN.{length};
 use crate::floats;
-use text::Number;
+use text::Parsed;
 
 pub(crate) enum Byte {
     Is(u8, usize),
@@ -66,18 +66,18 @@ pub(crate) fn is(name: &[u8], word: &[u8]) -> bool {
 }
 
 // A whole number below 2^64.
-fn number(line: &[u8], at: usize) -> Number {
+fn number(line: &[u8], at: usize) -> Parsed {
     if line.len() <= at {
-        return Number::Not;
+        return Parsed::Not;
     }
     if line[at] != b' ' {
-        return Number::Not;
+        return Parsed::Not;
     }
     text::read_decimal(line, at + 1)
 }
 
 pub(crate) fn read_byte(line: &[u8], at: usize) -> Byte {
-    let Number::Is(n, next) = number(line, at) else {
+    let Parsed::Is(n, next) = number(line, at) else {
         return Byte::Not;
     };
     if 255 < n {
@@ -87,7 +87,7 @@ pub(crate) fn read_byte(line: &[u8], at: usize) -> Byte {
 }
 
 pub(crate) fn read_word(line: &[u8], at: usize) -> Word {
-    let Number::Is(n, next) = number(line, at) else {
+    let Parsed::Is(n, next) = number(line, at) else {
         return Word::Not;
     };
     if 4294967295 < n {
@@ -97,7 +97,7 @@ pub(crate) fn read_word(line: &[u8], at: usize) -> Word {
 }
 
 pub(crate) fn read_place(line: &[u8], at: usize) -> Place {
-    let Number::Is(n, next) = number(line, at) else {
+    let Parsed::Is(n, next) = number(line, at) else {
         return Place::Not;
     };
     Place::Is(n as usize, next)
@@ -126,7 +126,7 @@ fn read_float(line: &[u8], at: usize) -> Float {
     if line[at] != b' ' {
         return Float::Not;
     }
-    let Number::Is(bits, next) = text::read_hex(line, at + 1) else {
+    let Parsed::Is(bits, next) = text::read_hex(line, at + 1) else {
         return Float::Not;
     };
     Float::Is(floats::of_bits(bits), next)
@@ -167,7 +167,7 @@ fn read_pair(line: &[u8], at: usize) -> Byte {
         return Byte::Not;
     }
     let end = at + 2;
-    let Number::Is(n, length) = text::read_hex(&line[at..end], 0) else {
+    let Parsed::Is(n, length) = text::read_hex(&line[at..end], 0) else {
         return Byte::Not;
     };
     if length != 2 {

@@ -3,7 +3,8 @@ use mathlib.Core.Path.{refl}
 use mathlib.Core.List.{flatMap}
 use Rattle.steps.specs.Choice.{chosen, firstAxis}
 use Rattle.steps.specs.Steps.{branches, times, lowered}
-use Rattle.steps.specs.States.{total, step, turns, nexts}
+use Rattle.laws.specs.Total.{total}
+use Rattle.steps.specs.States.{step, turns, nexts}
 use Rattle.histories.specs.History.{depth, over, walk, expand}
 use Rattle.number.specs.Numbers.{groups, bytesOf}
 use Rattle.roll.specs.Bytes.{numbersBytes, termBytes, termsBytes, rollBytes}

@@ -10,7 +10,7 @@ use kind::Kind;
 use kind::Named;
 use libc::STDERR_FILENO;
 use libc::STDOUT_FILENO;
-use text::Number;
+use text::Parsed;
 
 // The bytes that a roll may have.
 const ROOM: usize = 1048576;
@@ -69,7 +69,7 @@ fn say_why(refusal: u8) {
 
 // A whole word as a number below 256.
 fn byte_of(word: &[u8]) -> Byte {
-    let Number::Is(n, end) = text::read_decimal(word, 0) else {
+    let Parsed::Is(n, end) = text::read_decimal(word, 0) else {
         return Byte::Not;
     };
     if end != word.len() {

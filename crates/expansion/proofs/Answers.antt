@@ -9,12 +9,13 @@ use borrow.Rule.Slice.PartMut.{putMid}
 use lib.Dec.{ltb, leb}
 use lib.ListN.{length, take, drop, length-drop}
 use lib.Seq.{sets}
+use Rattle.laws.proofs.Cases.{clash}
 use Rattle.kind.specs.declared.Kind.{Kind}
 use Rattle.kind.specs.declared.Named.{Named}
 use Rattle.kind.specs.declared.Named.the-variants.{Is, Unknown}
 use Rattle.kind.specs.Kinds.{kindOf, ordersOf}
 use Rattle.kind.specs.Limits.{mostTerms, requestOrders}
-use Rattle.kind.proofs.Parts.{part-all, part-put}
+use Rattle.laws.proofs.Parts.{part-all, part-put}
 use Rattle.kind.proofs.Within.{orders-within}
 use Rattle.term.specs.Terms.{Term}
 use Rattle.number.specs.Numbers.{lengthOf}
@@ -65,14 +66,14 @@ measured-terms ts a b e = at (leb (length ts) mostTerms) refl e
   where
     at : (v : Bool) → leb (length ts) mostTerms ≡ v → cond v (Fits (length ts) (length (termsBytes ts))) Over ≡ Fits a b → (a ≡ length ts) × (b ≡ length (termsBytes ts)) × (length ts ≤ mostTerms)
     at true t f = (cc, cc, leb-true (length ts) mostTerms t)
-    at false t f = absurd (let z : _≡_ {A = ℕ} 0 1 = cc in omega arith)
+    at false t f = absurd (clash (cc))
 
 measured-over : (ts : List Term) → measured ts ≡ Over → mostTerms < length ts
 unfolding measured
 measured-over ts e = at (leb (length ts) mostTerms) refl e
   where
     at : (v : Bool) → leb (length ts) mostTerms ≡ v → cond v (Fits (length ts) (length (termsBytes ts))) Over ≡ Over → mostTerms < length ts
-    at true t f = absurd (let z : _≡_ {A = ℕ} 0 1 = cc in omega arith)
+    at true t f = absurd (clash (cc))
     at false t f = leb-false (length ts) mostTerms t
 
 module _ (k : Kind) (os out : List ℕ) (begin : ℕ) (may : RequestMay k os begin out) where

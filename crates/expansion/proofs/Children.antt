@@ -18,7 +18,8 @@ use Rattle.steps.specs.declared.Axis.{Axis}
 use Rattle.steps.specs.declared.Move.{Move}
 use Rattle.steps.specs.Choice.{pick, place, operator, orderOf}
 use Rattle.steps.specs.Steps.{Falls, a-and-o, Branch, branches, times, lowered}
-use Rattle.steps.specs.States.{State, start, step, total}
+use Rattle.laws.specs.Total.{total}
+use Rattle.steps.specs.States.{State, start, step}
 use Rattle.steps.specs.Packed.{orders, moveIn, fallWord, noBranch}
 use Rattle.steps.proofs.Falling.{Apart, falls-word, falls-held}
 use Rattle.histories.specs.History.{depth}

@@ -13,7 +13,7 @@ use Rattle.steps.specs.declared.Centre.{Centre}
 use Rattle.steps.specs.declared.Axis.{Axis}
 use Rattle.steps.specs.declared.Move.{Move}
 use Rattle.steps.specs.Steps.{branches}
-use Rattle.steps.specs.States.{total}
+use Rattle.laws.specs.Total.{total}
 use Rattle.steps.specs.Packed.{orders, moveIn, multiplierWord}
 use Rattle.histories.specs.History.{stage, depth}
 use Rattle.roll.specs.Bytes.{termBytes, termsBytes}

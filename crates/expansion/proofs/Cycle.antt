@@ -5,6 +5,7 @@ use mathlib.Core.Bool.{true}
 use mathlib.Core.List.{List, [], _∷_, _++_, append-nil}
 use native.Mathlib.Omega.{arith}
 use lib.ListN.{length}
+use Rattle.laws.proofs.Cases.{clash}
 use Rattle.kind.specs.declared.Kind.{Kind}
 use Rattle.kind.specs.Limits.{requestOrders}
 use Rattle.term.specs.Terms.{Term}
@@ -16,7 +17,8 @@ use Rattle.steps.specs.declared.Component.{Component}
 use Rattle.steps.specs.declared.Component.the-variants.{Along, Nowhere}
 use Rattle.steps.specs.Choice.{orderOf, chosen, firstAxis}
 use Rattle.steps.specs.Steps.{branches}
-use Rattle.steps.specs.States.{State, Next, start, turns, nexts, total}
+use Rattle.laws.specs.Total.{total}
+use Rattle.steps.specs.States.{State, Next, start, turns, nexts}
 use Rattle.steps.specs.Packed.{orders, multiplierWord}
 use Rattle.steps.proofs.Falling.{some-left, none-left}
 use Rattle.histories.specs.History.{depth, over, expand}
@@ -144,7 +146,7 @@ module _ (k : Kind) (left : ℕ) (p : Path) where
       where
         by-axis : (c : Centre) (v : Component) → onAxis c v ≡ Nothing → Rattle.steps.specs.States.onAxis c v (viewOf k left p) ≡ []
         by-axis c Nowhere f = refl
-        by-axis c (Along x) f = absurd (let z : _≡_ {A = ℕ} 0 1 = cc in omega arith)
+        by-axis c (Along x) f = absurd (clash (cc))
 
         by-fun : (v : Fun) → chosen k (orders left) ≡ v → onFun v (orders left) ≡ Nothing → Rattle.steps.specs.States.onFun v (viewOf k left p) ≡ []
         by-fun none f g = refl
@@ -161,14 +163,14 @@ module _ (k : Kind) (left : ℕ) (p : Path) where
       both = by-fun (chosen k (orders left)) refl (sym is ∙ at-them)
         where
           by-axis : (d : Centre) (v : Component) → chosen k (orders left) ≡ Lower d → firstAxis (orders left) d ≡ v → onAxis d v ≡ At c x → Both
-          by-axis d Nowhere p f g = absurd (let z : _≡_ {A = ℕ} 0 1 = cc in omega arith)
+          by-axis d Nowhere p f g = absurd (clash (cc))
           by-axis d (Along y) p f g =
               let same : d ≡ c = cc in
               let axis : y ≡ x = cc in
               record { picked = p ∙ ap Lower same; along = subst (λ (e : Centre). firstAxis (orders left) e ≡ Along x) same (f ∙ ap Along axis) }
 
           by-fun : (v : Fun) → chosen k (orders left) ≡ v → onFun v (orders left) ≡ At c x → Both
-          by-fun none f g = absurd (let z : _≡_ {A = ℕ} 0 1 = cc in omega arith)
+          by-fun none f g = absurd (clash (cc))
           by-fun (Lower d) f g = by-axis d (firstAxis (orders left) d) f refl g
 
       pub below-first : termsBelow k left p ≡ termsFrom k left p c x 0

@@ -7,7 +7,8 @@ use native.Mathlib.Omega.{arith}
 use native.Mathlib.Numerals.{add-one}
 use lib.ListN.{length, set, length-append, length-set}
 use lib.Seq.{sets, length-sets}
-use Rattle.kind.proofs.Lists.{sets-append}
+use Rattle.laws.proofs.Cases.{clash}
+use Rattle.laws.proofs.Lists.{sets-append}
 use Rattle.number.specs.Numbers.{bytesOf, lengthOf, Wrote, writtenAt, outAfter}
 use Rattle.number.specs.declared.Written.{Written}
 use Rattle.number.specs.declared.Written.the-variants.{Next, NoRoom}
@@ -77,7 +78,7 @@ module _ (out : List ℕ) (at n : ℕ) (fits : NumberFits n at out) where
     number-next next e = record { next = let h = there in cc; out = stored }
 
     pub number-never : r ≡ NoRoom → Emitted (bytesOf n) at out at after
-    number-never e = absurd (let h = there in let z : _≡_ {A = ℕ} 0 1 = cc in omega arith)
+    number-never e = absurd (let h = there in clash (cc))
 
 pub kept-two : (out after : List ℕ) (i j v w : ℕ) → length after ≡ length (set (set out i v) j w) → length after ≡ length out
 kept-two out after i j v w e = e ∙ simp length-set

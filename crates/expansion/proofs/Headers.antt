@@ -13,8 +13,8 @@ use Rattle.kind.specs.declared.Kind.{Kind}
 use Rattle.kind.specs.declared.Kind.the-variants.{Overlap, Kinetic, Nuclear, Moment, Coulomb}
 use Rattle.kind.specs.Kinds.{numberOf, ordersOf}
 use Rattle.kind.specs.Limits.{mostOrder, mostL·any, mostTerms, requestOrders}
-use Rattle.kind.proofs.Lists.{sets-append}
-use Rattle.kind.proofs.Cases.{neither}
+use Rattle.laws.proofs.Lists.{sets-append}
+use Rattle.laws.proofs.Cases.{neither}
 use Rattle.kind.proofs.Within.{orders-within, number-within}
 use Rattle.term.specs.Terms.{Term}
 use Rattle.number.specs.Numbers.{bytesOf, lengthOf}
@@ -22,7 +22,8 @@ use Rattle.number.proofs.Writing.{bytes-last}
 use Rattle.steps.specs.declared.Centre.{Centre}
 use Rattle.steps.specs.declared.Centre.the-variants.{A, B, C, D}
 use Rattle.steps.specs.Choice.{sumOf}
-use Rattle.steps.specs.States.{State, start, total}
+use Rattle.laws.specs.Total.{total}
+use Rattle.steps.specs.States.{State, start}
 use Rattle.steps.specs.Packed.{orders}
 use Rattle.histories.specs.History.{stage, depth, expand}
 use Rattle.histories.proofs.Bounds.{Small, Reached, started}

@@ -17,22 +17,18 @@ use Rattle.kind.specs.Limits.{mostOrder, mostL·any, mostTerms, requestOrders}
 use Rattle.term.specs.Terms.{Term}
 use Rattle.steps.specs.declared.Centre.the-variants.{A, B, C, D}
 use Rattle.steps.specs.Choice.{sumOf}
-use Rattle.steps.specs.States.{start, total}
+use Rattle.laws.specs.Total.{total}
+use Rattle.steps.specs.States.{start}
 use Rattle.histories.specs.History.{stage, depth, expand}
 use Rattle.histories.proofs.Orders.{order-le-total}
 use Rattle.histories.proofs.Bounds.{Kept, terms-kept, scale-limit}
 use Rattle.histories.proofs.Some.{Unused, some-term}
 use Rattle.roll.specs.Bytes.{rollBytes}
-use Rattle.roll.specs.Reading.{Roll, got, rollAt, mostBoys, total as rollTotal}
+use Rattle.roll.specs.Reading.{Roll, got, rollAt, mostBoys}
 use Rattle.roll.specs.Fits.{CentresFit, Below, TermFits, TermsFit, RollFits}
 use Rattle.roll.proofs.Back.{roll-back}
 use Rattle.expansion.specs.Expanding.{unusedSet, termsOf, rollOf, Within}
 use Rattle.expansion.proofs.Headers.{Sums, all-sums, all-small, orders-long}
-
-same-total : (l : List ℕ) → rollTotal l ≡ total l
-unfolding total rollTotal
-same-total [] = refl
-same-total (n ∷ l) = ap (λ (m : ℕ). n + m) (same-total l)
 
 append-total : (l m : List ℕ) → total (l ++ m) ≡ total l + total m
 unfolding total
@@ -106,10 +102,9 @@ module _ (k : Kind) (os : List ℕ) (within : Within k os) where
   rest-zero : total (drop (ordersOf k) os) ≡ 0
   rest-zero = let h = ltb-false 0 (total (drop (ordersOf k) os)) (within .none-unused) in omega arith
 
-  used-total : rollTotal (take (ordersOf k) os) ≡ total os
+  used-total : total (take (ordersOf k) os) ≡ total os
   used-total =
-      same-total (take (ordersOf k) os)
-      ∙ (let h = append-total (take (ordersOf k) os) (drop (ordersOf k) os) in let e = ap total (take-append-drop (ordersOf k) os) in let z = rest-zero in omega arith)
+      let h = append-total (take (ordersOf k) os) (drop (ordersOf k) os) in let e = ap total (take-append-drop (ordersOf k) os) in let z = rest-zero in omega arith
 
   unused : Unused k os
   unfolding Unused
@@ -122,7 +117,7 @@ module _ (k : Kind) (os : List ℕ) (within : Within k os) where
       back : ordersOf k + (i - ordersOf k) ≡ i
       back = omega arith
 
-  term-fits : (t : Term) → List·Memᴰ t (termsOf k os) → TermFits k (rollTotal (take (ordersOf k) os)) t
+  term-fits : (t : Term) → List·Memᴰ t (termsOf k os) → TermFits k (total (take (ordersOf k) os)) t
   unfolding depth
   term-fits t m =
       let kept = terms-kept k os (all-small k os within) t m in
@@ -145,7 +140,7 @@ module _ (k : Kind) (os : List ℕ) (within : Within k os) where
           sums = centres;
           some = some-term (start k os) unused;
           most = few;
-          terms = terms-all k (rollTotal (take (ordersOf k) os)) (termsOf k os) term-fits;
+          terms = terms-all k (total (take (ordersOf k) os)) (termsOf k os) term-fits;
         }
 
     pub reads-back : rollAt (rollOf k os) ≡ got (record { kind = k; orders = take (ordersOf k) os; terms = termsOf k os }) (length (rollOf k os))

@@ -15,7 +15,7 @@ use Rattle.kind.specs.Kinds.{ordersOf}
 use Rattle.kind.specs.Limits.{mostOrder, requestOrders}
 use Rattle.steps.specs.declared.Centre.{Centre}
 use Rattle.steps.specs.Choice.{sumOf}
-use Rattle.steps.specs.States.{total}
+use Rattle.laws.specs.Total.{total}
 use Rattle.steps.specs.Packed.{nibbles}
 use Rattle.expansion.specs.Expanding.{above, tooHigh, unusedSet, Nibbles, Packed}
 

@@ -12,7 +12,7 @@ use lib.ListN.{length, getD, drop, length-append, drop-of-length-le}
 use lib.Seq.{sets, length-sets, drop-cons}
 use Rattle.kind.specs.declared.Kind.{Kind}
 use Rattle.kind.specs.declared.Kind.the-variants.{Overlap, Kinetic, Nuclear, Moment, Coulomb}
-use Rattle.kind.proofs.Lists.{sets-append}
+use Rattle.laws.proofs.Lists.{sets-append}
 use Rattle.term.specs.Terms.{Term}
 use Rattle.steps.specs.declared.Centre.{Centre}
 use Rattle.steps.specs.declared.Centre.the-variants.{A, B, C, D}

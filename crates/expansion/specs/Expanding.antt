@@ -5,6 +5,7 @@ use mathlib.Core.Bool.{Bool, true, false, cond, _||_}
 use mathlib.Core.List.{List, [], _∷_, _++_}
 use lib.Dec.{ltb}
 use lib.ListN.{length, getD, take, drop}
+use Rattle.laws.specs.Placed.{placed}
 use Rattle.kind.specs.declared.Kind.{Kind}
 use Rattle.kind.specs.declared.Kind.the-variants.{Overlap, Kinetic, Nuclear, Moment, Coulomb}
 use Rattle.kind.specs.declared.Named.{Named}
@@ -16,7 +17,8 @@ use Rattle.number.specs.Numbers.{bytesOf}
 use Rattle.steps.specs.declared.Centre.{Centre}
 use Rattle.steps.specs.declared.Centre.the-variants.{A, B, C, D}
 use Rattle.steps.specs.Choice.{sumOf, operator}
-use Rattle.steps.specs.States.{start, total}
+use Rattle.laws.specs.Total.{total}
+use Rattle.steps.specs.States.{start}
 use Rattle.steps.specs.Packed.{nibbles}
 use Rattle.histories.specs.History.{expand}
 use Rattle.roll.specs.Bytes.{rollBytes, termsBytes}
@@ -66,7 +68,7 @@ namedTold (Is k) orders out begin = kindTold k orders out begin
 abbrev pub namedOut : Expanded → Named → List ℕ → List ℕ → ℕ → List ℕ
 namedOut (Refused n) k orders out begin = out
 namedOut (Roll long terms) Unknown orders out begin = out
-namedOut (Roll long terms) (Is k) orders out begin = take begin out ++ (rollOf k orders ++ drop (begin + length (rollOf k orders)) out)
+namedOut (Roll long terms) (Is k) orders out begin = placed out begin (rollOf k orders)
 
 -- what a request of a known kind is answered, and what the lent bytes then hold
 pub record KindAnswered (k : Kind) (orders before : List ℕ) (begin : ℕ) (r : Expanded) (after : List ℕ) : Type 0 where

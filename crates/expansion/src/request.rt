@@ -5,7 +5,7 @@ ghost use Prim.Native.Nat.{_+_, _<_, _≤_};
 ghost use lib.ListN.{getD, drop};
 ghost use Rattle.kind.specs.Kinds.{ordersOf};
 ghost use Rattle.steps.specs.Choice.{sumOf};
-ghost use Rattle.steps.specs.States.{total};
+ghost use Rattle.laws.specs.Total.{total};
 ghost use Rattle.expansion.specs.Expanding.{above, tooHigh, unusedSet, Nibbles, Packed};
 use kind::Kind;
 use steps::Centre;

@@ -12,7 +12,7 @@ use Rattle.kind.specs.Kinds.{kindOf}
 use Rattle.kind.specs.Limits.{tablePlaces}
 use Rattle.geometry.specs.declared.Centre.{Centre}
 use Rattle.geometry.specs.declared.Table.{Table}
-use Rattle.geometry.specs.declared.Found.the-variants.{Given}
+use Rattle.geometry.specs.declared.Tabled.the-variants.{Given}
 use Rattle.geometry.specs.Tables.{prefac}
 use Rattle.geometry.specs.Geometry.{numbers}
 use Rattle.geometry.specs.Floats.{inPlaces, allFinite}

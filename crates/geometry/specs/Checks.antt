@@ -11,8 +11,8 @@ use Rattle.kind.specs.declared.Named.the-variants.{Is, Unknown}
 use Rattle.kind.specs.Kinds.{kindOf}
 use Rattle.kind.specs.Limits.{tablePlaces}
 use Rattle.geometry.specs.declared.Centre.{Centre}
-use Rattle.geometry.specs.declared.Found.{Found}
-use Rattle.geometry.specs.declared.Found.the-variants.{Given, Refused}
+use Rattle.geometry.specs.declared.Tabled.{Tabled}
+use Rattle.geometry.specs.declared.Tabled.the-variants.{Given, Refused}
 use Rattle.geometry.specs.declared.Table.{Table}
 use Rattle.geometry.specs.Floats.{zero, allFinite, allAboveZero, inPlaces}
 use Rattle.geometry.specs.Geometry.{numbers}
@@ -57,7 +57,7 @@ unfoldable pub geometryFinite : Kind → Centre → Centre → Centre → Centre
 geometryFinite k a b c d = finiteWith k a b c d (prefac k a b c d)
 
 -- the number that 01 gives each case; 0 is success
-abbrev pub numberOf : Found → ℕ
+abbrev pub numberOf : Tabled → ℕ
 numberOf Given = 0
 numberOf (Refused n) = n
 

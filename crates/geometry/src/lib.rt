@@ -29,14 +29,14 @@ pub struct Point {
 }
 
 // How a prefactor table comes back: as it is, or refused by a number.
-pub enum Found {
+pub enum Tabled {
     Given,
     Refused(u8),
 }
 
 // A prefactor table by value, 0.0 in the places left; beside a refusal zeros.
 pub struct Table {
-    pub found: Found,
+    pub found: Tabled,
     pub entries: [f64; Kind::TABLE],
 }
 
@@ -233,7 +233,7 @@ fn refused(number: u8) -> Table
     ensures { λ r. ⌜ r ≡ refused number ⌝ }
 {
     Table {
-        found: Found::Refused(number),
+        found: Tabled::Refused(number),
         entries: [0.0; Kind::TABLE],
     }
 }
@@ -253,7 +253,7 @@ fn checked(kind: Kind, a: Centre, b: Centre, c: Centre, d: Centre) -> Table
         return refused(11);
     }
     Table {
-        found: Found::Given,
+        found: Tabled::Given,
         entries,
     }
 }

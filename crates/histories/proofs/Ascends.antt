@@ -5,7 +5,8 @@ use mathlib.Core.Logic.{_⊎_, inl, inr, ⊎-elim}
 use mathlib.Core.List.{List, [], _∷_, _++_, map, List·Memᴰ, List·Memᴰ·append-cases}
 use mathlib.Core.List.List·Memᴰ.{List·Memᴰ·head, List·Memᴰ·tail}
 use native.Mathlib.Omega.{arith}
-use Rattle.steps.specs.States.{State, Next, nexts, total}
+use Rattle.laws.specs.Total.{total}
+use Rattle.steps.specs.States.{State, Next, nexts}
 use Rattle.histories.specs.History.{over, after, histories, Before, ends-sooner, branches-lower, branches-alike, Ascending, no-more, and-then}
 use Rattle.histories.proofs.Walk.{histories-done, histories-more}
 use Rattle.histories.proofs.Demand.{Numbered, no-next, next-then, nexts-numbered, by-depth}

@@ -19,7 +19,8 @@ use Rattle.steps.specs.declared.Centre.{Centre}
 use Rattle.steps.specs.declared.Axis.{Axis}
 use Rattle.steps.specs.Choice.{place, orderOf, operator, pick}
 use Rattle.steps.specs.Steps.{Falls, a, a-twice, a-and-b, a-and-c, a-and-d, a-and-o, nothing, Branch, times, less, lowered, partner, other-c, other-d}
-use Rattle.steps.specs.States.{State, Next, start, step, nexts, total}
+use Rattle.laws.specs.Total.{total}
+use Rattle.steps.specs.States.{State, Next, start, step, nexts}
 use Rattle.histories.specs.History.{depth, over, expand}
 use Rattle.histories.proofs.Orders.{fallen}
 use Rattle.histories.proofs.Fair.{Fair, follows, boysStep}

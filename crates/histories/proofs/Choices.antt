@@ -6,6 +6,7 @@ use mathlib.Core.List.{List, [], _∷_, List·Memᴰ}
 use mathlib.Core.List.List·Memᴰ.{List·Memᴰ·head, List·Memᴰ·tail}
 use native.Mathlib.Omega.{arith}
 use lib.Dec.{ltb}
+use Rattle.laws.proofs.Cases.{clash}
 use Rattle.kind.specs.declared.Kind.{Kind}
 use Rattle.kind.specs.declared.Kind.the-variants.{Overlap, Kinetic, Nuclear, Moment, Coulomb}
 use Rattle.steps.specs.declared.Centre.{Centre}
@@ -16,7 +17,8 @@ use Rattle.steps.specs.declared.Fun.{Fun}
 use Rattle.steps.specs.declared.Fun.the-variants.{Lower, Nothing}
 use Rattle.steps.specs.declared.Best.{Best}
 use Rattle.steps.specs.Choice.{place, orderOf, sumOf, pick, orBefore, smallest, onceExhausted, chosen}
-use Rattle.steps.specs.States.{State, Next, onFun, nexts, total}
+use Rattle.laws.specs.Total.{total}
+use Rattle.steps.specs.States.{State, Next, onFun, nexts}
 use Rattle.histories.proofs.Orders.{order-le-total}
 use Rattle.histories.proofs.Fair.{own}
 
@@ -24,7 +26,7 @@ same-centre : (c d : Centre) → Lower c ≡ Lower d → d ≡ c
 same-centre c d e = cc
 
 pub none-is-none : (c : Centre) → Nothing ≡ Lower c → ⊥
-none-is-none c e = let z : _≡_ {A = ℕ} 0 1 = cc in omega arith
+none-is-none c e = clash (cc)
 
 -- what is chosen is among the centres looked at
 smallest-among : (left : List ℕ) (cs : List Centre) (d : Centre) → smallest left cs .fun ≡ Lower d → List·Memᴰ d cs

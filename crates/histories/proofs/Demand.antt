@@ -18,7 +18,8 @@ use Rattle.steps.specs.declared.Component.{Component}
 use Rattle.steps.specs.declared.Component.the-variants.{Along, Nowhere}
 use Rattle.steps.specs.Choice.{pick, chosen, firstAxis}
 use Rattle.steps.specs.Steps.{Branch, branches, times}
-use Rattle.steps.specs.States.{State, Next, step, ifLegal, turns, onAxis, onFun, nexts, total}
+use Rattle.laws.specs.Total.{total}
+use Rattle.steps.specs.States.{State, Next, step, ifLegal, turns, onAxis, onFun, nexts}
 use Rattle.histories.specs.History.{Complete, finished, lowered-by, led, replay, depth, over, expand, after, histories, Before, ends-sooner, branches-lower, branches-alike, Ascending, no-more, and-then}
 use Rattle.histories.proofs.Nexts.{turned}
 use Rattle.histories.proofs.Choices.{none-legal}

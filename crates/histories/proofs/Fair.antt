@@ -7,6 +7,7 @@ use mathlib.Core.List.List·Memᴰ.{List·Memᴰ·head, List·Memᴰ·tail}
 use native.Mathlib.Omega.{arith}
 use borrow.Author.Tests.{ltb-true, leb-true, eqb-true}
 use lib.Dec.{eqb, leb, ltb}
+use Rattle.laws.proofs.Cases.{clash}
 use Rattle.kind.specs.declared.Kind.{Kind}
 use Rattle.kind.specs.declared.Kind.the-variants.{Overlap, Kinetic, Nuclear, Moment, Coulomb}
 use Rattle.kind.specs.Kinds.{tableOf, usesBoys, numberOf}
@@ -34,7 +35,7 @@ and-left false b e = e
 
 and-right : (a b : Bool) → and a b ≡ true → b ≡ true
 and-right true b e = e
-and-right false b e = absurd (let z : _≡_ {A = ℕ} 0 1 = cc in omega arith)
+and-right false b e = absurd (clash (cc))
 
 every-at : {A : Type 0} (f : A → Bool) (l : List A) → every f l ≡ true → (x : A) → List·Memᴰ x l → f x ≡ true
 every-at f (y ∷ l) e x (List·Memᴰ·head p) = ap f p ∙ and-left (f y) (every f l) e

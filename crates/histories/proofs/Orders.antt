@@ -9,6 +9,7 @@ use borrow.Author.Tests.{ltb-true}
 use lib.Dec.{ltb}
 use lib.ListN.{length, getD, set, List·getD-eq-default}
 use lib.Seq.{getD-set-same, getD-set-other}
+use Rattle.laws.proofs.Cases.{clash}
 use Rattle.steps.specs.declared.Centre.{Centre}
 use Rattle.steps.specs.declared.Centre.the-variants.{A, B, C, D}
 use Rattle.steps.specs.declared.Axis.{Axis}
@@ -17,7 +18,7 @@ use Rattle.steps.specs.declared.Component.{Component}
 use Rattle.steps.specs.declared.Component.the-variants.{Along, Nowhere}
 use Rattle.steps.specs.Choice.{axisNumber, centreNumber, place, orderOf, operator, firstAxis, pick}
 use Rattle.steps.specs.Steps.{Falls, a, a-twice, a-and-b, a-and-c, a-and-d, a-and-o, nothing, times, lowered, less, partner, other-c, other-d}
-use Rattle.steps.specs.States.{total}
+use Rattle.laws.specs.Total.{total}
 
 -- how many orders fall
 abbrev pub fallen : Falls → ℕ
@@ -101,7 +102,7 @@ other-d-apart D x = omega arith
 pub operator-apart : (c : Centre) (x : Axis) → apart a-and-o c ≡ true → place operator x ≢ place c x
 operator-apart A x e = omega arith
 operator-apart B x e = omega arith
-operator-apart C x e = absurd (let z : _≡_ {A = ℕ} 0 1 = cc in omega arith)
+operator-apart C x e = absurd (clash (cc))
 operator-apart D x e = omega arith
 
 pub lowered-total : (f : Falls) (c : Centre) (x : Axis) (left : List ℕ) → apart f c ≡ true → 0 < orderOf left c x → 0 < times f c x left → total (lowered f c x left) + fallen f ≡ total left
@@ -125,7 +126,7 @@ axis-positive left c x e = first (ltb 0 (orderOf left c X)) refl e
 
     third : (v : Bool) → ltb 0 (orderOf left c Z) ≡ v → pick v (Along Z) Nowhere ≡ Along x → 0 < orderOf left c x
     third true t f = found Z t f
-    third false t f = absurd (let z : _≡_ {A = ℕ} 0 1 = cc in omega arith)
+    third false t f = absurd (clash (cc))
 
     second : (v : Bool) → ltb 0 (orderOf left c Y) ≡ v → pick v (Along Y) (pick (ltb 0 (orderOf left c Z)) (Along Z) Nowhere) ≡ Along x → 0 < orderOf left c x
     second true t f = found Y t f

@@ -9,6 +9,7 @@ use native.Mathlib.Nat.{add-zero}
 use borrow.Author.Tests.{ltb-true, ltb-false}
 use lib.Dec.{ltb}
 use lib.ListN.{length, getD, set, length-append}
+use Rattle.laws.proofs.Cases.{clash}
 use Rattle.kind.specs.declared.Kind.{Kind}
 use Rattle.kind.specs.declared.Kind.the-variants.{Overlap, Kinetic, Nuclear, Moment, Coulomb}
 use Rattle.kind.specs.Kinds.{ordersOf}
@@ -24,7 +25,8 @@ use Rattle.steps.specs.declared.Component.the-variants.{Along, Nowhere}
 use Rattle.steps.specs.declared.Best.{Best}
 use Rattle.steps.specs.Choice.{operator, place, orderOf, sumOf, pick, orBefore, smallest, onceExhausted, chosen, firstAxis}
 use Rattle.steps.specs.Steps.{Falls, a, a-twice, a-and-b, a-and-c, a-and-d, a-and-o, nothing, Branch, branches, times, less, lowered, partner, other-c, other-d}
-use Rattle.steps.specs.States.{State, Next, start, step, ifLegal, turns, onAxis, onFun, nexts, total}
+use Rattle.laws.specs.Total.{total}
+use Rattle.steps.specs.States.{State, Next, start, step, ifLegal, turns, onAxis, onFun, nexts}
 use Rattle.histories.specs.History.{over, expand}
 use Rattle.histories.proofs.Nexts.{Legal, legal}
 use Rattle.histories.proofs.Fair.{follows, own}
@@ -105,7 +107,7 @@ unfolding firstAxis
 axis-there left c h e = first (ltb 0 (orderOf left c X)) refl e
   where
     no : (y : Axis) → Along y ≡ Nowhere → ⊥
-    no y f = let z : _≡_ {A = ℕ} 0 1 = cc in omega arith
+    no y f = clash (cc)
 
     third : orderOf left c X ≤ 0 → orderOf left c Y ≤ 0 → (v : Bool) → ltb 0 (orderOf left c Z) ≡ v → pick v (Along Z) Nowhere ≡ Nowhere → ⊥
     third x y true t f = no Z f
@@ -227,7 +229,7 @@ first-branch Nuclear c x o = (_, _, refl, refl)
 first-branch Moment A x o = (_, _, refl, refl)
 first-branch Moment B x o = (_, _, refl, refl)
 first-branch Moment C x o = (_, _, refl, refl)
-first-branch Moment D x o = absurd (let z : _≡_ {A = ℕ} 0 1 = cc in omega arith)
+first-branch Moment D x o = absurd (clash (cc))
 first-branch Coulomb c x o = (_, _, refl, refl)
 
 times-one : (c : Centre) (x : Axis) (left : List ℕ) → times a c x left ≡ 1

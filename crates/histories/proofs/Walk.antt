@@ -14,7 +14,8 @@ use Rattle.steps.specs.declared.Centre.{Centre}
 use Rattle.steps.specs.declared.Axis.{Axis}
 use Rattle.steps.specs.Choice.{orderOf}
 use Rattle.steps.specs.Steps.{Branch, branches, times}
-use Rattle.steps.specs.States.{State, Next, step, total, nexts}
+use Rattle.laws.specs.Total.{total}
+use Rattle.steps.specs.States.{State, Next, step, nexts}
 use Rattle.histories.specs.History.{stage, depth, over, walk, termOf, alone, expand, nothingMore, after, histories}
 use Rattle.histories.proofs.Orders.{fallen, lowered-total, axis-positive}
 use Rattle.histories.proofs.Fair.{Fair, follows, own, fair-branch}

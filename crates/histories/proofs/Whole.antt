@@ -4,7 +4,8 @@ use mathlib.Core.Path.{_≡_, refl, sym, ap, subst, _∙_}
 use mathlib.Core.List.{List, [], _∷_, _++_, map, List·Memᴰ, Memᴰ·append-left, Memᴰ·append-right, Memᴰ·cast, List·Memᴰ·eq-of-singleton}
 use mathlib.Core.List.List·Memᴰ.{List·Memᴰ·head, List·Memᴰ·tail}
 use native.Mathlib.Omega.{arith}
-use Rattle.steps.specs.States.{State, Next, nexts, total}
+use Rattle.laws.specs.Total.{total}
+use Rattle.steps.specs.States.{State, Next, nexts}
 use Rattle.histories.specs.History.{Complete, finished, lowered-by, over, after, histories}
 use Rattle.histories.proofs.Choices.{none-legal}
 use Rattle.histories.proofs.Walk.{histories-done, histories-more}

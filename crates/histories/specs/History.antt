@@ -8,7 +8,8 @@ use Rattle.kind.specs.declared.Kind.{Kind}
 use Rattle.kind.specs.declared.Kind.the-variants.{Overlap, Kinetic, Nuclear, Moment, Coulomb}
 use Rattle.term.specs.Terms.{Term}
 use Rattle.steps.specs.Choice.{pick}
-use Rattle.steps.specs.States.{State, Next, total, nexts}
+use Rattle.laws.specs.Total.{total}
+use Rattle.steps.specs.States.{State, Next, nexts}
 
 -- A history is a list of branch numbers, each legal where it stands, complete when all orders are 0.
 pub data Complete : State → List ℕ → Type 0 where

@@ -10,7 +10,7 @@ use lib.Dec.{eqb}
 use lib.ListN.{length, take, drop}
 use Rattle.kind.specs.declared.Kind.{Kind}
 use Rattle.kind.specs.Kinds.{tableOf}
-use Rattle.kind.proofs.Cases.{clash}
+use Rattle.laws.proofs.Cases.{clash}
 use Rattle.kind.proofs.Within.{some-entries, table-within}
 use Rattle.term.specs.Terms.{Term}
 use Rattle.number.specs.declared.Number.the-variants as number

@@ -3,7 +3,7 @@ use Prim.Native.Nat.{ℕ}
 use mathlib.Core.Path.{_≡_}
 use mathlib.Core.List.{List}
 use lib.Ieee.{Float}
-use Rattle.kind.proofs.Only.{only}
+use Rattle.laws.proofs.Unique.{only}
 use Rattle.geometry.specs.declared.Centre.{Centre}
 use Rattle.integrals.specs.declared.Value.{Value}
 use Rattle.integrals.specs.Evaluation.{evaluateOf}

@@ -3,6 +3,7 @@ use Prim.Native.Nat.{ℕ}
 use mathlib.Core.Path.{_≡_, refl, sym, ap, _∙_}
 use mathlib.Core.List.{List}
 use native.Mathlib.Omega.{arith}
+use Rattle.laws.proofs.Cases.{clash}
 use Rattle.kind.specs.declared.Kind.{Kind}
 use Rattle.kind.specs.Kinds.{numberOf, kindOf}
 use Rattle.kind.specs.declared.Named.{Named}
@@ -19,13 +20,14 @@ use Rattle.term.specs.Terms.{Term}
 use Rattle.number.specs.Numbers.{Bytes}
 use Rattle.roll.specs.declared.Opened.{Opened}
 use Rattle.roll.specs.declared.Opening.the-variants as opening
-use Rattle.roll.specs.Reading.{Reading, got, refused, headerAt, termsAt, rollAt, total, Header, Roll}
+use Rattle.laws.specs.Total.{total}
+use Rattle.roll.specs.Reading.{Reading, got, refused, headerAt, termsAt, rollAt, Header, Roll}
 use Rattle.roll.specs.Answers.{checkOf, checked, judged, heldHeader}
 use Rattle.integrals.specs.Stored.{ofCursor, termsAt as again}
 use Rattle.integrals.proofs.Again.{terms-again}
 
 never : (r place : ℕ) → opening.Refused r place ≡ opening.Roll → ⊥
-never r place e = let z : _≡_ {A = ℕ} 0 1 = cc in omega arith
+never r place e = clash (cc)
 
 -- a roll that was judged, as the cursor at its first term has it
 pub record Judged (s : List ℕ) (o : Opened) : Type 0 where

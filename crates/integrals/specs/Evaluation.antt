@@ -4,7 +4,8 @@ use mathlib.Core.List.{List}
 use lib.Ieee.{Float}
 use Rattle.geometry.specs.declared.Centre.{Centre}
 use Rattle.geometry.specs.Floats.{zero as 0·0}
-use Rattle.roll.specs.Reading.{Reading, got, refused, Roll, total, rollAt}
+use Rattle.laws.specs.Total.{total}
+use Rattle.roll.specs.Reading.{Reading, got, refused, Roll, rollAt}
 use Rattle.integrals.specs.declared.Value.{Value}
 use Rattle.integrals.specs.declared.Value.the-variants.{Is, Refused}
 use Rattle.integrals.specs.Values.{valueOf}

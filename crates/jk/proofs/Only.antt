@@ -3,7 +3,7 @@ use Prim.Native.Nat.{ℕ}
 use mathlib.Core.Path.{_≡_}
 use mathlib.Core.List.{List}
 use lib.Ieee.{Float}
-use Rattle.kind.proofs.Only.{only}
+use Rattle.laws.proofs.Unique.{only}
 use Rattle.jk.specs.Outcome.{Outcome, jkOf}
 
 pub JK-inmem-only : (n : ℕ) (i d j k : List Float) {a b : Outcome} → a ≡ jkOf n i d j k → b ≡ jkOf n i d j k → a ≡ b

@@ -1,6 +1,3 @@
-pub mod Cases
 pub mod Laws
-pub mod Lists
 pub mod Only
-pub mod Parts
 pub mod Within

@@ -1,16 +1,13 @@
 -- One answer alone fits each promise of this crate.
 use Prim.Native.Nat.{ℕ}
-use mathlib.Core.Path.{_≡_, sym, _∙_}
+use mathlib.Core.Path.{_≡_}
 use mathlib.Core.Bool.{Bool}
+use Rattle.laws.proofs.Unique.{only}
 use Rattle.kind.specs.declared.Kind.{Kind}
 use Rattle.kind.specs.declared.Named.{Named}
 use Rattle.kind.specs.declared.Limits.{Limits}
 use Rattle.kind.specs.Limits.{limits}
 use Rattle.kind.specs.Kinds.{kindOf, numberOf, ordersOf, tableOf, branchesOf, mostL, mostPrefactors, usesBoys}
-
--- a promise that is an equation
-pub only : {A : Type 0} {x a b : A} → a ≡ x → b ≡ x → a ≡ b
-only p q = p ∙ sym q
 
 pub limits-only : {a b : Limits} → a ≡ limits → b ≡ limits → a ≡ b
 limits-only = only

@@ -9,7 +9,7 @@ use lib.Dec.{ltb}
 use lib.ListN.{length, drop, length-append}
 use lib.Seq.{take-append-seam}
 use Rattle.kind.specs.Limits.{mostListed}
-use Rattle.kind.proofs.Cases.{clash}
+use Rattle.laws.proofs.Cases.{clash}
 use Rattle.number.specs.Numbers.{Bytes}
 use Rattle.roll.specs.Reading.{Reading, got, refused, Roll, rollAt}
 use Rattle.listing.specs.declared.Listed.{Listed}

@@ -2,7 +2,7 @@
 use Prim.Native.Nat.{ℕ}
 use mathlib.Core.Path.{_≡_}
 use mathlib.Core.List.{List}
-use Rattle.kind.proofs.Only.{only}
+use Rattle.laws.proofs.Unique.{only}
 use Rattle.listing.specs.declared.Listed.{Listed}
 use Rattle.listing.specs.Text.{refusalText}
 use Rattle.listing.specs.Answers.{TextTold, ListingTold}

@@ -13,14 +13,15 @@ use Rattle.kind.specs.declared.Kind.{Kind}
 use Rattle.kind.specs.declared.Named.{Named}
 use Rattle.kind.specs.declared.Named.the-variants as named
 use Rattle.kind.proofs.Laws.{kind-number}
-use Rattle.kind.proofs.Cases.{clash}
+use Rattle.laws.proofs.Cases.{clash}
 use Rattle.term.specs.Terms.{Term}
 use Rattle.text.specs.declared.Written.{Written}
 use Rattle.text.specs.declared.Written.the-variants.{To, NoRoom}
 use Rattle.roll.specs.declared.Cursor.{Cursor}
 use Rattle.roll.specs.declared.Opening.the-variants as opening
 use Rattle.roll.specs.declared.Opened.{Opened}
-use Rattle.roll.specs.Reading.{Reading, got, refused, andThen, before, withinAt, termAt, termsAt, roomAfter, ordersAt, total, Header, headerAt, Roll, rollAt}
+use Rattle.laws.specs.Total.{total}
+use Rattle.roll.specs.Reading.{Reading, got, refused, andThen, before, withinAt, termAt, termsAt, roomAfter, ordersAt, Header, headerAt, Roll, rollAt}
 use Rattle.roll.specs.Answers.{cursorAt, heldHeader, openOf, judged, checked, checkOf}
 use Rattle.roll.proofs.Filling.{before-is, onward-is}
 use Rattle.roll.proofs.Inside.{andThen-is, header-read, header-inside, orders-most}

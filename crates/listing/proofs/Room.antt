@@ -19,7 +19,8 @@ use Rattle.text.specs.Digits.{decimalOf}
 use Rattle.text.proofs.Digits.{places-short, places-long}
 use Rattle.text.proofs.Writing.{tested}
 use Rattle.roll.specs.Bytes.{numbersBytes, termBytes, termsBytes, rollBytes}
-use Rattle.roll.specs.Reading.{got, total, Roll, rollAt}
+use Rattle.laws.specs.Total.{total}
+use Rattle.roll.specs.Reading.{got, Roll, rollAt}
 use Rattle.roll.specs.Fits.{CentresFit, Below, TermFits, TermsFit, RollFits}
 use Rattle.roll.proofs.Written.{roll-read}
 use Rattle.roll.proofs.Back.{most-boys}

@@ -8,9 +8,10 @@ use mathlib.Core.List.{List, [], _∷_, _++_}
 use borrow.Author.Tests.{le-leb, lt-leb, leb-true, leb-false}
 use lib.Dec.{leb}
 use lib.ListN.{length, length-append}
-use lib.Seq.{sets, sets-eq, length-sets}
-use Rattle.kind.proofs.Lists.{sets-append}
-use Rattle.kind.proofs.Cases.{clash}
+use lib.Seq.{sets, length-sets}
+use Rattle.laws.proofs.Lists.{sets-append}
+use Rattle.laws.proofs.Cases.{clash}
+use Rattle.laws.proofs.Parts.{sets-placed}
 use Rattle.text.specs.declared.Written.{Written}
 use Rattle.text.specs.declared.Written.the-variants.{To, NoRoom}
 use Rattle.text.specs.Writing.{Wrote, roomFor}
@@ -58,7 +59,7 @@ further-not room n at e =
 -- ---- one piece
 
 wrote-sets : (before after text : List ℕ) (at : ℕ) (q : Written) → Wrote before at text q after → at + length text ≤ length before → after ≡ sets before at text
-wrote-sets before after text at q w room = w .holds ∙ rw (le-leb (at + length text) (length before) room) (sym (sets-eq text before at room))
+wrote-sets before after text at q w room = w .holds ∙ rw (le-leb (at + length text) (length before) room) (sym (sets-placed text before at room))
 
 wrote-long : (before after text : List ℕ) (at : ℕ) (q : Written) → Wrote before at text q after → length after ≡ length before
 wrote-long before after text at q w =

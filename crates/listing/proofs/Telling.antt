@@ -7,7 +7,7 @@ use borrow.Author.Tests.{lt-ltb, le-ltb}
 use borrow.Rule.Slice.PartMut.{putMid}
 use lib.ListN.{length, take, drop, length-drop}
 use lib.Seq.{sets}
-use Rattle.kind.proofs.Parts.{part-all, part-put}
+use Rattle.laws.proofs.Parts.{part-all, part-put}
 use Rattle.text.specs.declared.Written.{Written}
 use Rattle.text.specs.declared.Written.the-variants.{To, NoRoom}
 use Rattle.listing.specs.declared.Listed.{Listed}

@@ -5,6 +5,7 @@ use mathlib.Core.Bool.{cond}
 use mathlib.Core.List.{List, _++_}
 use lib.Dec.{ltb}
 use lib.ListN.{length, take, drop}
+use Rattle.laws.specs.Placed.{placed}
 use Rattle.kind.specs.Limits.{mostListed}
 use Rattle.roll.specs.Reading.{Reading, got, refused, Roll, rollAt}
 use Rattle.listing.specs.declared.Listed.{Listed}
@@ -22,7 +23,7 @@ textAt text out start =
 unfoldable pub textOut : List ℕ → List ℕ → ℕ → List ℕ
 textOut text out start =
     cond (ltb (length out) (start + length text)) out
-    (take start out ++ (text ++ drop (start + length text) out))
+    (placed out start text)
 
 pub record TextTold (text before : List ℕ) (start : ℕ) (r : Listed) (after : List ℕ) : Type 0 where
   pub answer : r ≡ textAt text before start

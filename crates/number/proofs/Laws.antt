@@ -12,7 +12,7 @@ use borrow.Author.Tests.{lt-ltb, le-ltb, ltb-true, ltb-false, ne-eqb}
 use lib.Dec.{ltb, lit<}
 use lib.ListN.{length, getD, drop, length-append, length-drop, drop-of-length-le, List·getD-eq-default}
 use lib.Seq.{drop-append-seam, drop-append-add, drop-drop, getD-drop}
-use Rattle.kind.proofs.Cases.{clash}
+use Rattle.laws.proofs.Cases.{clash}
 use Rattle.number.specs.declared.Number.{Number}
 use Rattle.number.specs.declared.Number.the-variants.{Is, Ended, NotShortest, TooLarge}
 use Rattle.number.specs.Numbers.{groups, bytesOf, lengthOf, above, higher, readFrom, readAt, Bytes}

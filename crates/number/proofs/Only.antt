@@ -2,7 +2,7 @@
 use Prim.Native.Nat.{ℕ}
 use mathlib.Core.Path.{_≡_}
 use mathlib.Core.List.{List}
-use Rattle.kind.proofs.Only.{only}
+use Rattle.laws.proofs.Unique.{only}
 use Rattle.number.specs.declared.Number.{Number}
 use Rattle.number.specs.declared.Written.{Written}
 use Rattle.number.specs.Numbers.{readAt, refusalOf, lengthOf, Wrote}

@@ -19,7 +19,8 @@ use Rattle.term.specs.Terms.{Term}
 use Rattle.roll.specs.declared.Field.{Field}
 use Rattle.roll.specs.declared.Field.the-variants as field
 use Rattle.roll.specs.Bytes.{numbersBytes, termBytes, termsBytes, rollBytes}
-use Rattle.roll.specs.Reading.{Reading, got, refused, onward, andThen, before, withinAt, prefactorsAt, mostBoys, countAt, boysAt, termAt, termsAt, roomAfter, ordersAt, total, Header, countedAt, ofKind, headerAt, Roll, rollAt}
+use Rattle.laws.specs.Total.{total}
+use Rattle.roll.specs.Reading.{Reading, got, refused, onward, andThen, before, withinAt, prefactorsAt, mostBoys, countAt, boysAt, termAt, termsAt, roomAfter, ordersAt, Header, countedAt, ofKind, headerAt, Roll, rollAt}
 use Rattle.roll.specs.Fits.{CentresFit, Below, TermFits, TermsFit, RollFits}
 use Rattle.roll.proofs.Fields.{within-is}
 use Rattle.roll.proofs.Heading.{room-small}

@@ -3,11 +3,12 @@ use Prim.Native.Nat.{ℕ}
 use mathlib.Core.Path.{_≡_, refl, sym, ap, _∙_}
 use mathlib.Core.List.{List}
 use native.Mathlib.Omega.{arith}
-use Rattle.kind.proofs.Cases.{clash}
+use Rattle.laws.proofs.Cases.{clash}
 use Rattle.term.specs.Terms.{Term}
 use Rattle.roll.specs.declared.Opening.the-variants as opening
 use Rattle.roll.specs.declared.Opened.{Opened}
-use Rattle.roll.specs.Reading.{Reading, got, refused, andThen, termsAt, total, Header, headerAt, Roll, rollAt}
+use Rattle.laws.specs.Total.{total}
+use Rattle.roll.specs.Reading.{Reading, got, refused, andThen, termsAt, Header, headerAt, Roll, rollAt}
 use Rattle.roll.specs.Answers.{refusedOpened, heldHeader, openOf, judged, checked, checkOf}
 use Rattle.roll.proofs.Inside.{andThen-is}
 

@@ -7,7 +7,7 @@ use native.Mathlib.Omega.{arith}
 use lib.ListN.{length, set, take, replicate, length-set, length-take, length-replicate}
 use lib.Seq.{take-suc-set, set-at, append-snoc, length-take-le}
 use Rattle.kind.specs.Limits.{mostL·any}
-use Rattle.kind.proofs.Cases.{clash}
+use Rattle.laws.proofs.Cases.{clash}
 use Rattle.roll.specs.declared.Field.{Field}
 use Rattle.roll.specs.declared.Field.the-variants as field
 use Rattle.roll.specs.declared.ReadPrefactors.{ReadPrefactors}

@@ -14,14 +14,15 @@ use Rattle.kind.specs.declared.Kind.{Kind}
 use Rattle.kind.specs.declared.Kind.the-variants.{Coulomb}
 use Rattle.kind.specs.declared.Named.{Named}
 use Rattle.kind.specs.declared.Named.the-variants as named
-use Rattle.kind.proofs.Cases.{clash}
+use Rattle.laws.proofs.Cases.{clash}
 use Rattle.kind.proofs.Within.{orders-within}
 use Rattle.roll.specs.declared.Field.{Field}
 use Rattle.roll.specs.declared.Field.the-variants as field
 use Rattle.roll.specs.declared.ReadOrders.{ReadOrders}
 use Rattle.roll.specs.declared.Opening.the-variants as opening
 use Rattle.roll.specs.declared.Opened.{Opened}
-use Rattle.roll.specs.Reading.{Reading, got, refused, onward, andThen, before, withinAt, roomAfter, ordersAt, total, Header, countedAt, ofKind, headerAt}
+use Rattle.laws.specs.Total.{total}
+use Rattle.roll.specs.Reading.{Reading, got, refused, onward, andThen, before, withinAt, roomAfter, ordersAt, Header, countedAt, ofKind, headerAt}
 use Rattle.roll.specs.Answers.{heldOrders, refusedOpened, heldHeader, countedFrom, ordersFrom, openCounted, FewOrders, openOf}
 use Rattle.roll.proofs.Fields.{taken-below}
 use Rattle.roll.proofs.Filling.{Filled, filled-none, filled-more, taken-more, before-none, before-more, before-is, onward-is}

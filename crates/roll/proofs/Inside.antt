@@ -14,12 +14,13 @@ use Rattle.kind.specs.declared.Kind.the-variants.{Overlap, Kinetic, Nuclear, Mo
 use Rattle.kind.specs.declared.Named.{Named}
 use Rattle.kind.specs.declared.Named.the-variants as named
 use Rattle.kind.proofs.Laws.{number-kind}
-use Rattle.kind.proofs.Cases.{clash}
+use Rattle.laws.proofs.Cases.{clash}
 use Rattle.number.proofs.Reading.{read-inside}
 use Rattle.term.specs.Terms.{Term}
 use Rattle.roll.specs.declared.Field.{Field}
 use Rattle.roll.specs.declared.Field.the-variants as field
-use Rattle.roll.specs.Reading.{Reading, got, refused, onward, andThen, before, withinAt, prefactorsAt, mostBoys, countAt, boysAt, termAt, roomAfter, ordersAt, total, Header, countedAt, ofKind, headerAt}
+use Rattle.laws.specs.Total.{total}
+use Rattle.roll.specs.Reading.{Reading, got, refused, onward, andThen, before, withinAt, prefactorsAt, mostBoys, countAt, boysAt, termAt, roomAfter, ordersAt, Header, countedAt, ofKind, headerAt}
 use Rattle.roll.proofs.Fields.{Taken, taken}
 use Rattle.roll.proofs.Filling.{before-is, onward-is, prefactors-length}
 

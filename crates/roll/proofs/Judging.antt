@@ -13,14 +13,15 @@ use Rattle.kind.specs.declared.Kind.{Kind}
 use Rattle.kind.specs.declared.Named.{Named}
 use Rattle.kind.specs.declared.Named.the-variants as named
 use Rattle.kind.proofs.Laws.{kind-number}
-use Rattle.kind.proofs.Cases.{clash}
+use Rattle.laws.proofs.Cases.{clash}
 use Rattle.term.specs.Terms.{Term}
 use Rattle.roll.specs.declared.Cursor.{Cursor}
 use Rattle.roll.specs.declared.Field.{Field}
 use Rattle.roll.specs.declared.Field.the-variants as field
 use Rattle.roll.specs.declared.Opening.the-variants as opening
 use Rattle.roll.specs.declared.Opened.{Opened}
-use Rattle.roll.specs.Reading.{Reading, got, refused, andThen, before, mostBoys, termAt, termsAt, total, Header, headerAt}
+use Rattle.laws.specs.Total.{total}
+use Rattle.roll.specs.Reading.{Reading, got, refused, andThen, before, mostBoys, termAt, termsAt, Header, headerAt}
 use Rattle.roll.specs.Answers.{refusedStep, stepWith, stepAs, stepOf, refusedOpened, cursorAt, heldHeader, openOf, judged, judgedAs, Honest, checked, checkOf}
 use Rattle.roll.specs.Over.{termsOver, judgedOver}
 use Rattle.roll.proofs.Going.{went-over}

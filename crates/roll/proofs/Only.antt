@@ -2,7 +2,7 @@
 use Prim.Native.Nat.{ℕ}
 use mathlib.Core.Path.{_≡_}
 use mathlib.Core.List.{List}
-use Rattle.kind.proofs.Only.{only}
+use Rattle.laws.proofs.Unique.{only}
 use Rattle.roll.specs.declared.Cursor.{Cursor}
 use Rattle.roll.specs.declared.Step.{Step}
 use Rattle.roll.specs.declared.Opened.{Opened}

@@ -13,7 +13,8 @@ use Rattle.term.specs.declared.Term.{Term as Held}
 use Rattle.term.specs.Terms.{Term, held}
 use Rattle.roll.specs.declared.Cursor.{Cursor}
 use Rattle.roll.specs.declared.Step.{Step}
-use Rattle.roll.specs.Reading.{Reading, got, refused, andThen, before, termAt, termsAt, total, Header, headerAt}
+use Rattle.laws.specs.Total.{total}
+use Rattle.roll.specs.Reading.{Reading, got, refused, andThen, before, termAt, termsAt, Header, headerAt}
 use Rattle.roll.specs.Answers.{refusedStep, endStep, stepped, endOr, stepWith, stepOf, cursorAt, Honest, gathering, gathered, heldTerms}
 use Rattle.roll.proofs.Inside.{term-inside, header-read, header-inside, orders-most}
 use Rattle.roll.proofs.Judging.{honest-step, terms-turn, terms-none}

@@ -12,13 +12,14 @@ use Rattle.kind.specs.Limits.{mostOrder, mostScale, mostTerms}
 use Rattle.kind.specs.Kinds.{numberOf, ordersOf, tableOf, mostPrefactors}
 use Rattle.kind.specs.declared.Kind.{Kind}
 use Rattle.kind.specs.declared.Kind.the-variants.{Overlap, Kinetic, Nuclear, Moment, Coulomb}
-use Rattle.kind.proofs.Cases.{clash}
+use Rattle.laws.proofs.Cases.{clash}
 use Rattle.kind.proofs.Within.{some-entries}
 use Rattle.number.specs.Numbers.{bytesOf, Bytes}
 use Rattle.number.proofs.Laws.{reads-only}
 use Rattle.term.specs.Terms.{Term}
 use Rattle.roll.specs.Bytes.{numbersBytes, termBytes, termsBytes, rollBytes}
-use Rattle.roll.specs.Reading.{Reading, got, refused, onward, andThen, before, withinAt, prefactorsAt, mostBoys, termAt, termsAt, roomAfter, ordersAt, total, Header, headerAt, Roll, rollAt}
+use Rattle.laws.specs.Total.{total}
+use Rattle.roll.specs.Reading.{Reading, got, refused, onward, andThen, before, withinAt, prefactorsAt, mostBoys, termAt, termsAt, roomAfter, ordersAt, Header, headerAt, Roll, rollAt}
 use Rattle.roll.specs.Fits.{CentresFit, Below, TermFits, TermsFit, RollFits}
 use Rattle.roll.proofs.Fields.{Taken, taken}
 use Rattle.roll.proofs.Filling.{before-is, onward-is}

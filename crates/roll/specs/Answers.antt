@@ -23,7 +23,8 @@ use Rattle.roll.specs.declared.Found.the-variants as found
 use Rattle.roll.specs.declared.Step.{Step}
 use Rattle.roll.specs.declared.Opening.the-variants as opening
 use Rattle.roll.specs.declared.Opened.{Opened}
-use Rattle.roll.specs.Reading.{Reading, got, refused, andThen, before, withinAt, termAt, headerAt, termsAt, total, Header}
+use Rattle.laws.specs.Total.{total}
+use Rattle.roll.specs.Reading.{Reading, got, refused, andThen, before, withinAt, termAt, headerAt, termsAt, Header}
 
 -- ---- inside the crate
 

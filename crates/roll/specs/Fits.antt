@@ -7,7 +7,8 @@ use Rattle.kind.specs.Limits.{mostOrder, mostScale, mostTerms}
 use Rattle.kind.specs.Kinds.{ordersOf, tableOf, mostPrefactors}
 use Rattle.kind.specs.declared.Kind.{Kind}
 use Rattle.term.specs.Terms.{Term}
-use Rattle.roll.specs.Reading.{mostBoys, total, Roll}
+use Rattle.laws.specs.Total.{total}
+use Rattle.roll.specs.Reading.{mostBoys, Roll}
 
 -- the order sum on each centre, x y z each
 abbrev pub CentresFit : List ℕ → Type 0

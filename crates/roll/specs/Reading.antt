@@ -4,6 +4,7 @@ use mathlib.Core.Bool.{cond, _||_}
 use mathlib.Core.List.{List, [], _∷_, _++_}
 use lib.Dec.{ltb, eqb}
 use lib.ListN.{length}
+use Rattle.laws.specs.Total.{total}
 use Rattle.kind.specs.Limits.{mostOrder, mostTerms, mostScale}
 use Rattle.kind.specs.Kinds.{kindOf, numberOf, ordersOf, tableOf, mostPrefactors, usesBoys}
 use Rattle.kind.specs.declared.Kind.{Kind}
@@ -92,11 +93,6 @@ roomAfter i room order = cond (eqb (i % 3) 2) mostOrder (room - order)
 unfoldable pub ordersAt : ℕ → ℕ → ℕ → List ℕ → ℕ → Reading (List ℕ)
 ordersAt zero i room s at = got [] at
 ordersAt (suc n) i room s at = onward (withinAt s at 0 room) (λ o next. before (o ∷ []) (ordersAt n (i + 1) (roomAfter i room o) s next))
-
--- L is the sum of all orders
-unfoldable pub total : List ℕ → ℕ
-total [] = 0
-total (o ∷ os) = o + total os
 
 pub record Header : Type 0 where
   pub kind : Kind

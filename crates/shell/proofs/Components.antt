@@ -7,7 +7,7 @@ use borrow.Author.Tests.{lt-ltb, le-ltb, ltb-false}
 use lib.Dec.{ltb}
 use lib.ListN.{replicate}
 use Rattle.kind.specs.Limits.{mostOrder}
-use Rattle.kind.proofs.Cases.{neither}
+use Rattle.laws.proofs.Cases.{neither}
 use Rattle.shell.specs.declared.Component.{Component}
 use Rattle.shell.specs.Shells.{descending, triples, beside, pairs, quadruples, refused, component, shell2Of, shell4Of}
 

@@ -9,10 +9,10 @@ use native.Mathlib.Nat.{add-mul, mul-comm, mul-le-mul}
 use borrow.Author.Tests.{lt-ltb, le-ltb}
 use lib.Dec.{ltb}
 use lib.ListN.{length, set, take, drop, length-append, length-drop, drop-of-length-le}
-use lib.Seq.{sets, sets-eq, drop-drop, length-sets, take-all}
+use lib.Seq.{sets, drop-drop, length-sets, take-all}
 use borrow.Rule.Slice.PartMut.{putMid}
 use Rattle.kind.specs.Limits.{mostOrder}
-use Rattle.kind.proofs.Parts.{part-all, part-put}
+use Rattle.laws.proofs.Parts.{part-all, part-put}
 use Rattle.shell.specs.declared.Triple.{Triple}
 use Rattle.shell.specs.declared.Next.{Next}
 use Rattle.shell.specs.declared.Next.the-variants as next

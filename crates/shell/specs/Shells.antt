@@ -5,10 +5,11 @@ use mathlib.Core.Bool.{cond, _||_}
 use mathlib.Core.List.{List, [], _∷_, _++_, map, flatMap, flatten}
 use lib.Dec.{ltb}
 use lib.ListN.{length, getD, take, drop, replicate}
+use Rattle.laws.specs.Placed.{placed}
 use Rattle.kind.specs.Limits.{mostOrder, requestOrders}
 use Rattle.shell.specs.declared.Listed.{Listed}
 use Rattle.shell.specs.declared.Listed.the-variants as listed
-use Rattle.shell.specs.declared.Found.the-variants as told
+use Rattle.shell.specs.declared.Sought.the-variants as told
 use Rattle.shell.specs.declared.Component.{Component}
 
 -- n, n − 1 and so on to 0
@@ -47,7 +48,7 @@ listedAt m out start =
 unfoldable pub listedOut : ℕ → List ℕ → ℕ → List ℕ
 listedOut m out start =
     cond (ltb mostOrder m || (ltb (length out) start || ltb (length out) (start + length (shellBytes m)))) out
-    (take start out ++ (shellBytes m ++ drop (start + length (shellBytes m)) out))
+    (placed out start (shellBytes m))
 
 pub record ListTold (m : ℕ) (before : List ℕ) (start : ℕ) (r : Listed) (after : List ℕ) : Type 0 where
   pub answer : r ≡ listedAt m before start

@@ -16,14 +16,14 @@ pub enum Listed {
     Refused(u8),
 }
 
-pub enum Found {
+pub enum Sought {
     Component,
     Refused(u8),
 }
 
 // The orders of a component stand by shell, zeros after them and beside a refusal.
 pub struct Component {
-    pub found: Found,
+    pub found: Sought,
     pub orders: [u8; Kind::ORDERS],
 }
 
@@ -149,7 +149,7 @@ fn refused(number: u8) -> Component
     ensures { λ r. ⌜ r ≡ refused number ⌝ }
 {
     Component {
-        found: Found::Refused(number),
+        found: Sought::Refused(number),
         orders: [0; Kind::ORDERS],
     }
 }
@@ -163,7 +163,7 @@ fn component_of(c: Quadruple) -> Component
     let s = c.second.second;
     let orders = [p.x, p.y, p.z, q.x, q.y, q.z, r.x, r.y, r.z, s.x, s.y, s.z];
     Component {
-        found: Found::Component,
+        found: Sought::Component,
         orders,
     }
 }

@@ -12,7 +12,7 @@ use Rattle.steps.specs.declared.Centre.{Centre}
 use Rattle.steps.specs.declared.Axis.{Axis}
 use Rattle.steps.specs.Choice.{place, orderOf, operator}
 use Rattle.steps.specs.Steps.{Falls, a, a-twice, a-and-b, a-and-c, a-and-d, a-and-o, nothing, times, lowered, less, partner, other-c, other-d}
-use Rattle.steps.specs.States.{total}
+use Rattle.laws.specs.Total.{total}
 use Rattle.steps.specs.Packed.{nibbles, orders, unit, fallWord}
 use Rattle.steps.proofs.Packed.{length-nibbles}
 

@@ -2,7 +2,7 @@
 use Prim.Native.Nat.{ℕ}
 use mathlib.Core.Path.{_≡_}
 use Rattle.kind.specs.declared.Kind.{Kind}
-use Rattle.kind.proofs.Only.{only}
+use Rattle.laws.proofs.Unique.{only}
 use Rattle.steps.specs.declared.Centre.{Centre}
 use Rattle.steps.specs.declared.Axis.{Axis}
 use Rattle.steps.specs.declared.Fun.{Fun}

@@ -24,11 +24,6 @@ pub record State : Type 0 where
 abbrev pub start : Kind → List ℕ → State
 start k orders = record { kind = k; left = orders; term = record { scale = 1; boys = 0; prefactors = [] } }
 
--- the sum of all orders
-unfoldable pub total : List ℕ → ℕ
-total [] = 0
-total (n ∷ ns) = n + total ns
-
 -- the scale is multiplied by the multiplier, the prefactor is added, the Boys order is raised
 abbrev pub stepped : Term → ℕ → Branch → Term
 stepped t m b = record { scale = t .scale * m; boys = t .boys + b .raises; prefactors = t .prefactors ++ (b .adds ∷ []) }

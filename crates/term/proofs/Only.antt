@@ -1,6 +1,6 @@
 -- One answer alone fits each promise of this crate.
 use mathlib.Core.Path.{_≡_}
-use Rattle.kind.proofs.Only.{only}
+use Rattle.laws.proofs.Unique.{only}
 use Rattle.term.specs.declared.Term.{Term}
 use Rattle.term.specs.Terms.{noTerm}
 

@@ -15,7 +15,7 @@ use Rattle.text.specs.Digits.{glyph, worth, digits, decimalIn, decimalOf
 use Rattle.text.specs.Reading.{runOf, numberOf, decimalAt, hexAt}
 use Rattle.text.specs.Writing.{Wrote}
 use Rattle.text.specs.declared.Written.{Written}
-use Rattle.text.specs.declared.Number.the-variants.{Is}
+use Rattle.text.specs.declared.Parsed.the-variants.{Is}
 use Rattle.text.proofs.Writing.{tested, digit-below, length-digits}
 
 -- steps enough are enough

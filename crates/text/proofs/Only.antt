@@ -1,16 +1,14 @@
 -- One answer alone, and one content of the buffer, fit each promise of this crate.
 use Prim.Native.Nat.{ℕ}
-use mathlib.Core.Path.{_≡_, sym, _∙_}
+use mathlib.Core.Path.{_≡_}
 use mathlib.Core.List.{List}
 use lib.ListN.{length}
-use Rattle.text.specs.declared.Number.{Number}
+use Rattle.laws.proofs.Unique.{only}
+use Rattle.text.specs.declared.Parsed.{Parsed}
 use Rattle.text.specs.declared.Written.{Written}
 use Rattle.text.specs.Digits.{digits, decimalOf}
 use Rattle.text.specs.Reading.{decimalAt, hexAt}
 use Rattle.text.specs.Writing.{Wrote}
-
-only : {A : Type 0} {x a b : A} → a ≡ x → b ≡ x → a ≡ b
-only p q = p ∙ sym q
 
 -- two answers, and two contents, are the same
 pub record Same (a b : Written) (xs ys : List ℕ) : Type 0 where
@@ -29,10 +27,10 @@ hex-byte-only before at byte = put-only before at (digits 16 2 byte)
 pub hex-word-only : (before : List ℕ) (at word : ℕ) {a b : Written} {xs ys : List ℕ} → Wrote before at (digits 16 16 word) a xs → Wrote before at (digits 16 16 word) b ys → Same a b xs ys
 hex-word-only before at word = put-only before at (digits 16 16 word)
 
-pub read-decimal-only : (s : List ℕ) (at : ℕ) {a b : Number} → a ≡ decimalAt s at → b ≡ decimalAt s at → a ≡ b
+pub read-decimal-only : (s : List ℕ) (at : ℕ) {a b : Parsed} → a ≡ decimalAt s at → b ≡ decimalAt s at → a ≡ b
 read-decimal-only s at = only
 
-pub read-hex-only : (s : List ℕ) (at : ℕ) {a b : Number} → a ≡ hexAt s at → b ≡ hexAt s at → a ≡ b
+pub read-hex-only : (s : List ℕ) (at : ℕ) {a b : Parsed} → a ≡ hexAt s at → b ≡ hexAt s at → a ≡ b
 read-hex-only s at = only
 
 pub places-only : (n : ℕ) {a b : ℕ} → a ≡ length (decimalOf n) → b ≡ length (decimalOf n) → a ≡ b

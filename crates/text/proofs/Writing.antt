@@ -10,7 +10,8 @@ use mathlib.Core.List.{List, [], _∷_, _++_}
 use borrow.Author.Tests.{le-leb, lt-leb, leb-true, leb-false}
 use lib.Dec.{leb}
 use lib.ListN.{length, getD, drop, set, length-append, drop-of-length-le}
-use lib.Seq.{sets, sets-eq, set-comm, drop-cons}
+use lib.Seq.{sets, set-comm, drop-cons}
+use Rattle.laws.proofs.Parts.{sets-placed}
 use Rattle.text.specs.declared.Written.the-variants.{To, NoRoom}
 use Rattle.text.specs.Digits.{glyph, digits}
 use Rattle.text.specs.Writing.{roomFor, Wrote}
@@ -91,7 +92,7 @@ wrote-bytes before after text at t stored e h =
     let room : roomFor before at (length text) ≡ true = sym e ∙ h in
     record {
       answer = rw room;
-      holds = stored ∙ sets-eq text before at (leb-true _ _ room) ∙ rw room;
+      holds = stored ∙ sets-placed text before at (leb-true _ _ room) ∙ rw room;
     }
 
 pub wrote-none : (before text : List ℕ) (at : ℕ) (t : Bool) → t ≡ leb (at + length text) (length before) → t ≡ false

@@ -4,8 +4,8 @@ use mathlib.Core.Bool.{Bool, true, false, cond, _&&_}
 use mathlib.Core.List.{List, [], _∷_}
 use lib.Dec.{ltb, leb, eqb}
 use lib.ListN.{length, drop}
-use Rattle.text.specs.declared.Number.{Number}
-use Rattle.text.specs.declared.Number.the-variants.{Is, Not}
+use Rattle.text.specs.declared.Parsed.{Parsed}
+use Rattle.text.specs.declared.Parsed.the-variants.{Is, Not}
 use Rattle.text.specs.Digits.{worth, valueFrom, decimalOf}
 
 -- the digits of a base that a list begins with, up to the first byte that is none
@@ -18,17 +18,17 @@ runOf base (b ∷ bs) =
     ]
 
 -- the number that digits at a place are worth, with the place after them, below 2^64
-unfoldable pub numberOf : ℕ → ℕ → List ℕ → Number
+unfoldable pub numberOf : ℕ → ℕ → List ℕ → Parsed
 numberOf base at run = cond (ltb (valueFrom base 0 run) (2 ^ 64)) (Is (valueFrom base 0 run) (at + length run)) Not
 
 -- there are digits, and they have no leading zeros: as many as the number has
-unfoldable pub decimalAt : List ℕ → ℕ → Number
+unfoldable pub decimalAt : List ℕ → ℕ → Parsed
 decimalAt s at =
     let run : List ℕ = runOf 10 (drop at s) in
     cond (eqb (length (decimalOf (valueFrom 10 0 run))) (length run)) (numberOf 10 at run) Not
 
 -- there are one to sixteen digits
-unfoldable pub hexAt : List ℕ → ℕ → Number
+unfoldable pub hexAt : List ℕ → ℕ → Parsed
 hexAt s at =
     let run : List ℕ = runOf 16 (drop at s) in
     cond (leb 1 (length run)) (cond (leb (length run) 16) (numberOf 16 at run) Not) Not

@@ -5,6 +5,7 @@ use mathlib.Core.Bool.{Bool, cond}
 use mathlib.Core.List.{List, _++_}
 use lib.Dec.{leb}
 use lib.ListN.{length, take, drop}
+use Rattle.laws.specs.Placed.{placed}
 use Rattle.text.specs.declared.Written.{Written}
 use Rattle.text.specs.declared.Written.the-variants.{To, NoRoom}
 
@@ -18,7 +19,7 @@ answered out at text = cond (roomFor out at (length text)) (To (at + length text
 
 -- the text stands at its place, and everything else is as it was; with no room all is as it was
 abbrev pub holding : List ℕ → ℕ → List ℕ → List ℕ
-holding out at text = cond (roomFor out at (length text)) (take at out ++ text ++ drop (at + length text) out) out
+holding out at text = cond (roomFor out at (length text)) (placed out at text) out
 
 pub record Wrote (before : List ℕ) (at : ℕ) (text : List ℕ) (r : Written) (after : List ℕ) : Type 0 where
   pub answer : r ≡ answered before at text

@@ -18,7 +18,7 @@ pub enum Written {
 }
 
 // A number that was read, and the place after it.
-pub enum Number {
+pub enum Parsed {
     Is(u64, usize),
     Not,
 }
@@ -58,37 +58,37 @@ pub fn hex_word(out: &mut [u8], at: usize, word: u64) -> Written
 }
 
 // The decimal number below 2^64, without leading zeros, that stands at a place.
-pub fn read_decimal(s: &[u8], at: usize) -> Number
+pub fn read_decimal(s: &[u8], at: usize) -> Parsed
     ensures { λ r. ⌜ r ≡ decimalAt (now (s .entry)) at ⌝ }
 {
     let run = read_run(s, at, 10);
     match run {
-        Number::Is(n, next) => {
+        Parsed::Is(n, next) => {
             if places(n) == next - at {
                 return run;
             }
-            Number::Not
+            Parsed::Not
         }
-        Number::Not => Number::Not,
+        Parsed::Not => Parsed::Not,
     }
 }
 
 // The number in one to sixteen hexadecimal digits that stands at a place.
-pub fn read_hex(s: &[u8], at: usize) -> Number
+pub fn read_hex(s: &[u8], at: usize) -> Parsed
     ensures { λ r. ⌜ r ≡ hexAt (now (s .entry)) at ⌝ }
 {
     let run = read_run(s, at, 16);
     match run {
-        Number::Is(_, next) => {
+        Parsed::Is(_, next) => {
             if next == at {
-                return Number::Not;
+                return Parsed::Not;
             }
             if MOST_HEX < next - at {
-                return Number::Not;
+                return Parsed::Not;
             }
             run
         }
-        Number::Not => Number::Not,
+        Parsed::Not => Parsed::Not,
     }
 }
 
@@ -180,7 +180,7 @@ fn worth(byte: u8) -> u64
 }
 
 // The digits of `base` from `at` on: their number and the place after them.
-fn read_run(s: &[u8], at: usize, base: u64) -> Number
+fn read_run(s: &[u8], at: usize, base: u64) -> Parsed
     requires { ⌜ (1 < base) × (base ≤ 16) ⌝ }
     ensures { λ r. ⌜ r ≡ numberOf base at (runOf base (drop at (now (s .entry)))) ⌝ }
 {
@@ -189,13 +189,13 @@ fn read_run(s: &[u8], at: usize, base: u64) -> Number
     while i < s.len() {
         let d = worth(s[i]);
         if base <= d {
-            return Number::Is(n, i);
+            return Parsed::Is(n, i);
         }
         if (u64::MAX - d) / base < n {
-            return Number::Not;
+            return Parsed::Not;
         }
         n = n * base + d;
         i += 1;
     }
-    Number::Is(n, i)
+    Parsed::Is(n, i)
 }

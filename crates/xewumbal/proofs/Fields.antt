@@ -10,8 +10,8 @@ use Rattle.expansion.specs.declared.Expanded.the-variants as expanded
 use Rattle.expansion.specs.Expanding.{ExpandTold}
 use Rattle.shell.specs.declared.Listed.{Listed}
 use Rattle.shell.specs.declared.Listed.the-variants as listed
-use Rattle.shell.specs.declared.Found.{Found as Sought}
-use Rattle.shell.specs.declared.Found.the-variants as sought
+use Rattle.shell.specs.declared.Sought.{Sought}
+use Rattle.shell.specs.declared.Sought.the-variants as sought
 use Rattle.shell.specs.declared.Component.{Component}
 use Rattle.shell.specs.Shells.{ListTold, shell2Of, shell4Of}
 use Rattle.roll.specs.declared.Cursor.{Cursor}
@@ -21,7 +21,7 @@ use Rattle.roll.specs.declared.Opening.the-variants as opening
 use Rattle.roll.specs.declared.Opened.{Opened}
 use Rattle.roll.specs.Answers.{openOf, checkOf, stepOf as stepBelow}
 use Rattle.geometry.specs.declared.Centre.{Centre}
-use Rattle.geometry.specs.declared.Found.the-variants as given
+use Rattle.geometry.specs.declared.Tabled.the-variants as given
 use Rattle.geometry.specs.declared.Table.{Table}
 use Rattle.geometry.specs.Checks.{prefactorsOf}
 use Rattle.geometry.specs.Floats.{zero}

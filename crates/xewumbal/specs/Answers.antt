@@ -9,8 +9,8 @@ use Rattle.expansion.specs.declared.Expanded.{Expanded}
 use Rattle.expansion.specs.Expanding.{namedTold, namedOut, lengthIn, countIn, refusalIn}
 use Rattle.shell.specs.declared.Listed.{Listed}
 use Rattle.shell.specs.declared.Listed.the-variants as listed
-use Rattle.shell.specs.declared.Found.{Found as Sought}
-use Rattle.shell.specs.declared.Found.the-variants as sought
+use Rattle.shell.specs.declared.Sought.{Sought}
+use Rattle.shell.specs.declared.Sought.the-variants as sought
 use Rattle.shell.specs.declared.Component.{Component}
 use Rattle.shell.specs.Shells.{listedAt, listedOut, shell2Of, shell4Of}
 use Rattle.roll.specs.declared.Cursor.{Cursor}

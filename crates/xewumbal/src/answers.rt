@@ -95,8 +95,8 @@ pub(crate) fn component(c: Component) -> xew_component
     let found = c.found;
     let orders = c.orders;
     match found {
-        shell::Found::Component => xew_component { orders, refusal: 0 },
-        shell::Found::Refused(refusal) => xew_component { orders, refusal },
+        shell::Sought::Component => xew_component { orders, refusal: 0 },
+        shell::Sought::Refused(refusal) => xew_component { orders, refusal },
     }
 }
 
@@ -106,11 +106,11 @@ pub(crate) fn table(t: Table) -> xew_table
     let found = t.found;
     let entries = t.entries;
     match found {
-        geometry::Found::Given => xew_table {
+        geometry::Tabled::Given => xew_table {
             entries,
             refusal: 0,
         },
-        geometry::Found::Refused(refusal) => xew_table { entries, refusal },
+        geometry::Tabled::Refused(refusal) => xew_table { entries, refusal },
     }
 }
 

@@ -1,6 +1,6 @@
 -- `main` is safe: each buffer has the length that its array is made with. Assumes nothing.
 use borrow.Author.Needs.{needs}
-use Rattle.kind.proofs.Lists.{made}
+use Rattle.laws.proofs.Lists.{made}
 use Rattle.ask.proofs.main.Statement.{statement}
 use Rattle.ask.proofs.main.Tie as tie
 

@@ -1,6 +1,6 @@
 -- `expand` is safe: the buffer has the length that its array is made with. Assumes nothing.
 use borrow.Author.Needs.{needs}
-use Rattle.kind.proofs.Lists.{made}
+use Rattle.laws.proofs.Lists.{made}
 use Rattle.expand.proofs.expand.Statement.{statement}
 use Rattle.expand.proofs.expand.Tie as tie
 

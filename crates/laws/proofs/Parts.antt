@@ -1,18 +1,23 @@
--- A part that starts at a place of a lent list: what it holds, and what the whole holds once bytes are put down at its front.
+-- Bytes at a place of a lent list; a part that starts at a place: what it holds, and what the whole holds once bytes are put down at its front.
 use Prim.Native.Nat.{ℕ, _+_, _-_, _≤_}
 use mathlib.Core.Path.{_≡_, ap, _∙_}
-use mathlib.Core.List.{List, [], _++_, append-nil}
+use mathlib.Core.List.{List, [], _++_, append-nil, append-assoc}
 use native.Mathlib.Omega.{arith}
 use lib.ListN.{length, take, drop, length-drop, drop-of-length-le}
 use lib.Seq.{sets, sets-eq, drop-drop, take-all}
 use borrow.Rule.Slice.PartMut.{putMid}
+use Rattle.laws.specs.Placed.{placed}
+
+-- bytes that are stored one after the other stand at their place
+pub sets-placed : (bytes out : List ℕ) (at : ℕ) → at + length bytes ≤ length out → sets out at bytes ≡ placed out at bytes
+sets-placed bytes out at room = sets-eq bytes out at room ∙ append-assoc (take at out) bytes (drop (at + length bytes) out)
 
 -- the part lent is all that stands from the start on
 pub part-all : (out : List ℕ) (start : ℕ) → take (length out - start) (drop start out) ≡ drop start out
 part-all out start = take-all (length out - start) (drop start out) (omega (arith, length-drop start out))
 
 -- a list put down at the front of that part stands in the whole from the start on
-pub part-put : (out part bytes : List ℕ) (start : ℕ) → start + length bytes ≤ length out → part ≡ sets (take (length out - start) (drop start out)) 0 bytes → putMid start (length out - start) out part ≡ take start out ++ (bytes ++ drop (start + length bytes) out)
+pub part-put : (out part bytes : List ℕ) (start : ℕ) → start + length bytes ≤ length out → part ≡ sets (take (length out - start) (drop start out)) 0 bytes → putMid start (length out - start) out part ≡ placed out start bytes
 part-put out part bytes start room put =
     let inside : 0 + length bytes ≤ length (drop start out) = omega (arith, length-drop start out) in
     let zero-add : 0 + length bytes ≡ length bytes = omega arith in
