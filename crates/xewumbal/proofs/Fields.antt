@@ -19,7 +19,7 @@ use Rattle.roll.specs.declared.Found.the-variants as found
 use Rattle.roll.specs.declared.Step.{Step}
 use Rattle.roll.specs.declared.Opening.the-variants as opening
 use Rattle.roll.specs.declared.Opened.{Opened}
-use Rattle.roll.specs.Answers.{openOf, checkOf, stepOf as stepBelow}
+use Rattle.roll.specs.Answers.{openOf, checkOf, stepOf}
 use Rattle.geometry.specs.declared.Centre.{Centre}
 use Rattle.geometry.specs.declared.Tabled.the-variants as given
 use Rattle.geometry.specs.declared.Table.{Table}
@@ -38,100 +38,100 @@ use Rattle.xewumbal.specs.declared.xew_table.{«xew_table»}
 use Rattle.xewumbal.specs.declared.xew_cursor.{«xew_cursor»}
 use Rattle.xewumbal.specs.declared.xew_opened.{«xew_opened»}
 use Rattle.xewumbal.specs.declared.xew_step.{«xew_step»}
-use Rattle.xewumbal.specs.Answers.{ExpandAnswered, ListAnswered, JkAnswered, centreOf, cursorIn, expandedOf, listedOf, componentOf, cursorOf, openedOf, foundStep, stepOf, tableOf, valueOf}
+use Rattle.xewumbal.specs.Answers.{ExpandCallTold, ListCallTold, JkCallTold, centreIn, cursorIn, hostExpanded, hostListed, hostComponent, hostCursor, hostOpened, foundStep, hostStep, hostTable, hostValue}
 use Rattle.xewumbal.specs.Answers.{shell2Answer, shell4Answer, openAnswer, checkAnswer, nextAnswer, prefactorsAnswer, evaluateAnswer}
 
 -- ---- the cases in fields
 
-pub roll-written : (e : Expanded) (long terms : ℕ) → e ≡ expanded.Roll long terms → record { length = long; terms = terms; refusal = 0 } ≡ expandedOf e
-roll-written e long terms is = sym (ap expandedOf is)
+pub roll-written : (e : Expanded) (long terms : ℕ) → e ≡ expanded.Roll long terms → record { length = long; terms = terms; refusal = 0 } ≡ hostExpanded e
+roll-written e long terms is = sym (ap hostExpanded is)
 
-pub roll-refused : (e : Expanded) (n : ℕ) → e ≡ expanded.Refused n → record { length = 0; terms = 0; refusal = n } ≡ expandedOf e
-roll-refused e n is = sym (ap expandedOf is)
+pub roll-refused : (e : Expanded) (n : ℕ) → e ≡ expanded.Refused n → record { length = 0; terms = 0; refusal = n } ≡ hostExpanded e
+roll-refused e n is = sym (ap hostExpanded is)
 
-pub list-written : (l : Listed) (long triples : ℕ) → l ≡ listed.Bytes long triples → record { length = long; terms = triples; refusal = 0 } ≡ listedOf l
-list-written l long triples is = sym (ap listedOf is)
+pub list-written : (l : Listed) (long triples : ℕ) → l ≡ listed.Bytes long triples → record { length = long; terms = triples; refusal = 0 } ≡ hostListed l
+list-written l long triples is = sym (ap hostListed is)
 
-pub list-refused : (l : Listed) (n : ℕ) → l ≡ listed.Refused n → record { length = 0; terms = 0; refusal = n } ≡ listedOf l
-list-refused l n is = sym (ap listedOf is)
+pub list-refused : (l : Listed) (n : ℕ) → l ≡ listed.Refused n → record { length = 0; terms = 0; refusal = n } ≡ hostListed l
+list-refused l n is = sym (ap hostListed is)
 
-pub component-given : (c : Component) → c .found ≡ sought.Component → record { orders = c .orders; refusal = 0 } ≡ componentOf c
+pub component-given : (c : Component) → c .found ≡ sought.Component → record { orders = c .orders; refusal = 0 } ≡ hostComponent c
 component-given c is = simp is refl
 
-pub component-refused : (c : Component) (n : ℕ) → c .found ≡ sought.Refused n → record { orders = c .orders; refusal = n } ≡ componentOf c
+pub component-refused : (c : Component) (n : ℕ) → c .found ≡ sought.Refused n → record { orders = c .orders; refusal = n } ≡ hostComponent c
 component-refused c n is = simp is refl
 
-pub table-given : (t : Table) → t .found ≡ given.Given → record { entries = t .entries; refusal = 0 } ≡ tableOf t
+pub table-given : (t : Table) → t .found ≡ given.Given → record { entries = t .entries; refusal = 0 } ≡ hostTable t
 table-given t is = simp is refl
 
-pub table-refused : (t : Table) (n : ℕ) → t .found ≡ given.Refused n → record { entries = t .entries; refusal = n } ≡ tableOf t
+pub table-refused : (t : Table) (n : ℕ) → t .found ≡ given.Refused n → record { entries = t .entries; refusal = n } ≡ hostTable t
 table-refused t n is = simp is refl
 
-pub roll-opened : (o : Opened) (c : «xew_cursor») → o .found ≡ opening.Roll → c ≡ cursorOf (o .cursor) → record { cursor = c; place = 0; orders = o .orders; refusal = 0 } ≡ openedOf o
+pub roll-opened : (o : Opened) (c : «xew_cursor») → o .found ≡ opening.Roll → c ≡ hostCursor (o .cursor) → record { cursor = c; place = 0; orders = o .orders; refusal = 0 } ≡ hostOpened o
 roll-opened o c is at = simp is (cc at)
 
-pub roll-unopened : (o : Opened) (n place : ℕ) (c : «xew_cursor») → o .found ≡ opening.Refused n place → c ≡ cursorOf (o .cursor) → record { cursor = c; place = place; orders = o .orders; refusal = n } ≡ openedOf o
+pub roll-unopened : (o : Opened) (n place : ℕ) (c : «xew_cursor») → o .found ≡ opening.Refused n place → c ≡ hostCursor (o .cursor) → record { cursor = c; place = place; orders = o .orders; refusal = n } ≡ hostOpened o
 roll-unopened o n place c is at = simp is (cc at)
 
-pub step-fields : (s : Step) (c : «xew_cursor») (code place number : ℕ) → c ≡ cursorOf (s .next) → record { next = c; place = place; scale = s .term .scale; boys = s .term .boys; count = s .term .count; prefactors = s .term .prefactors; found = code; refusal = number } ≡ foundStep s code place number
+pub step-fields : (s : Step) (c : «xew_cursor») (code place number : ℕ) → c ≡ hostCursor (s .next) → record { next = c; place = place; scale = s .term .scale; boys = s .term .boys; count = s .term .count; prefactors = s .term .prefactors; found = code; refusal = number } ≡ foundStep s code place number
 step-fields s c code place number at = cc at
 
-pub step-refused : (s : Step) (n place : ℕ) (x : «xew_step») → s .found ≡ found.Refused n place → x ≡ foundStep s 0 place n → x ≡ stepOf s
+pub step-refused : (s : Step) (n place : ℕ) (x : «xew_step») → s .found ≡ found.Refused n place → x ≡ foundStep s 0 place n → x ≡ hostStep s
 step-refused s n place x is answer = simp is answer
 
-pub step-term : (s : Step) (x : «xew_step») → s .found ≡ found.Term → x ≡ foundStep s 1 0 0 → x ≡ stepOf s
+pub step-term : (s : Step) (x : «xew_step») → s .found ≡ found.Term → x ≡ foundStep s 1 0 0 → x ≡ hostStep s
 step-term s x is answer = simp is answer
 
-pub step-end : (s : Step) (x : «xew_step») → s .found ≡ found.End → x ≡ foundStep s 2 0 0 → x ≡ stepOf s
+pub step-end : (s : Step) (x : «xew_step») → s .found ≡ found.End → x ≡ foundStep s 2 0 0 → x ≡ hostStep s
 step-end s x is answer = simp is answer
 
-pub value-given : (v : Value) (x : Float) → v ≡ value.Is x → record { value = x; place = 0; refusal = 0 } ≡ valueOf v
-value-given v x is = sym (ap valueOf is)
+pub value-given : (v : Value) (x : Float) → v ≡ value.Is x → record { value = x; place = 0; refusal = 0 } ≡ hostValue v
+value-given v x is = sym (ap hostValue is)
 
-pub value-refused : (v : Value) (n place : ℕ) → v ≡ value.Refused n place → record { value = zero; place = place; refusal = n } ≡ valueOf v
-value-refused v n place is = sym (ap valueOf is)
+pub value-refused : (v : Value) (n place : ℕ) → v ≡ value.Refused n place → record { value = zero; place = place; refusal = n } ≡ hostValue v
+value-refused v n place is = sym (ap hostValue is)
 
 -- ---- the promises from the answers below
 
-pub expand-answered : (kind : ℕ) (orders before : List ℕ) (start : ℕ) (e : Expanded) (after : List ℕ) (x : «xew_written») → ExpandTold kind orders before start e after → x ≡ expandedOf e → ExpandAnswered kind orders before start x after
-expand-answered kind orders before start e after x told is = record { answer = is ∙ ap expandedOf (told .answer); out = told .out }
+pub expand-answered : (kind : ℕ) (orders before : List ℕ) (start : ℕ) (e : Expanded) (after : List ℕ) (x : «xew_written») → ExpandTold kind orders before start e after → x ≡ hostExpanded e → ExpandCallTold kind orders before start x after
+expand-answered kind orders before start e after x told is = record { answer = is ∙ ap hostExpanded (told .answer); out = told .out }
 
-pub list-answered : (order : ℕ) (before : List ℕ) (start : ℕ) (l : Listed) (after : List ℕ) (x : «xew_written») → ListTold order before start l after → x ≡ listedOf l → ListAnswered order before start x after
-list-answered order before start l after x told is = record { answer = is ∙ ap listedOf (told .answer); out = told .out }
+pub list-answered : (order : ℕ) (before : List ℕ) (start : ℕ) (l : Listed) (after : List ℕ) (x : «xew_written») → ListTold order before start l after → x ≡ hostListed l → ListCallTold order before start x after
+list-answered order before start l after x told is = record { answer = is ∙ ap hostListed (told .answer); out = told .out }
 
-pub shell2-answered : (a b number : ℕ) (c : Component) (x : «xew_component») → c ≡ shell2Of a b number → x ≡ componentOf c → x ≡ shell2Answer a b number
+pub shell2-answered : (a b number : ℕ) (c : Component) (x : «xew_component») → c ≡ shell2Of a b number → x ≡ hostComponent c → x ≡ shell2Answer a b number
 unfolding shell2Answer
-shell2-answered a b number c x told is = is ∙ ap componentOf told
+shell2-answered a b number c x told is = is ∙ ap hostComponent told
 
-pub shell4-answered : (a b c d number : ℕ) (e : Component) (x : «xew_component») → e ≡ shell4Of a b c d number → x ≡ componentOf e → x ≡ shell4Answer a b c d number
+pub shell4-answered : (a b c d number : ℕ) (e : Component) (x : «xew_component») → e ≡ shell4Of a b c d number → x ≡ hostComponent e → x ≡ shell4Answer a b c d number
 unfolding shell4Answer
-shell4-answered a b c d number e x told is = is ∙ ap componentOf told
+shell4-answered a b c d number e x told is = is ∙ ap hostComponent told
 
-pub open-answered : (roll : List ℕ) (o : Opened) (x : «xew_opened») → o ≡ openOf roll → x ≡ openedOf o → x ≡ openAnswer roll
+pub open-answered : (roll : List ℕ) (o : Opened) (x : «xew_opened») → o ≡ openOf roll → x ≡ hostOpened o → x ≡ openAnswer roll
 unfolding openAnswer
-open-answered roll o x told is = is ∙ ap openedOf told
+open-answered roll o x told is = is ∙ ap hostOpened told
 
-pub check-answered : (roll : List ℕ) (o : Opened) (x : «xew_opened») → o ≡ checkOf roll → x ≡ openedOf o → x ≡ checkAnswer roll
+pub check-answered : (roll : List ℕ) (o : Opened) (x : «xew_opened») → o ≡ checkOf roll → x ≡ hostOpened o → x ≡ checkAnswer roll
 unfolding checkAnswer
-check-answered roll o x told is = is ∙ ap openedOf told
+check-answered roll o x told is = is ∙ ap hostOpened told
 
-pub next-answered : (c : «xew_cursor») (roll : List ℕ) (below : Cursor) (s : Step) (x : «xew_step») → below ≡ cursorIn c → s ≡ stepBelow below roll → x ≡ stepOf s → x ≡ nextAnswer c roll
+pub next-answered : (c : «xew_cursor») (roll : List ℕ) (below : Cursor) (s : Step) (x : «xew_step») → below ≡ cursorIn c → s ≡ stepOf below roll → x ≡ hostStep s → x ≡ nextAnswer c roll
 unfolding nextAnswer
-next-answered c roll below s x at told is = is ∙ ap stepOf (told ∙ ap (λ (b : Cursor). stepBelow b roll) at)
+next-answered c roll below s x at told is = is ∙ ap hostStep (told ∙ ap (λ (b : Cursor). stepOf b roll) at)
 
 module _ (a b c d : «xew_centre») (p q r s : Centre) where
-  pub prefactors-answered : (kind : ℕ) (t : Table) (x : «xew_table») → p ≡ centreOf a → q ≡ centreOf b → r ≡ centreOf c → s ≡ centreOf d → t ≡ prefactorsOf kind p q r s → x ≡ tableOf t → x ≡ prefactorsAnswer kind a b c d
+  pub prefactors-answered : (kind : ℕ) (t : Table) (x : «xew_table») → p ≡ centreIn a → q ≡ centreIn b → r ≡ centreIn c → s ≡ centreIn d → t ≡ prefactorsOf kind p q r s → x ≡ hostTable t → x ≡ prefactorsAnswer kind a b c d
   unfolding prefactorsAnswer
   prefactors-answered kind t x pa qb rc sd told is =
-      let same : t ≡ prefactorsOf kind (centreOf a) (centreOf b) (centreOf c) (centreOf d) = cc (told, pa, qb, rc, sd) in
-      is ∙ ap tableOf same
+      let same : t ≡ prefactorsOf kind (centreIn a) (centreIn b) (centreIn c) (centreIn d) = cc (told, pa, qb, rc, sd) in
+      is ∙ ap hostTable same
 
-  pub evaluate-answered : (roll : List ℕ) (aux : Float) (boys : List Float) (v : Value) (x : «xew_value») → p ≡ centreOf a → q ≡ centreOf b → r ≡ centreOf c → s ≡ centreOf d → v ≡ evaluateOf roll p q r s aux boys → x ≡ valueOf v → x ≡ evaluateAnswer roll a b c d aux boys
+  pub evaluate-answered : (roll : List ℕ) (aux : Float) (boys : List Float) (v : Value) (x : «xew_value») → p ≡ centreIn a → q ≡ centreIn b → r ≡ centreIn c → s ≡ centreIn d → v ≡ evaluateOf roll p q r s aux boys → x ≡ hostValue v → x ≡ evaluateAnswer roll a b c d aux boys
   unfolding evaluateAnswer
   evaluate-answered roll aux boys v x pa qb rc sd told is =
-      let same : v ≡ evaluateOf roll (centreOf a) (centreOf b) (centreOf c) (centreOf d) aux boys = cc (told, pa, qb, rc, sd) in
-      is ∙ ap valueOf same
+      let same : v ≡ evaluateOf roll (centreIn a) (centreIn b) (centreIn c) (centreIn d) aux boys = cc (told, pa, qb, rc, sd) in
+      is ∙ ap hostValue same
 
-pub jk-answered : (n : ℕ) (i d beforeJ beforeK : List Float) (a : Answer) (afterJ afterK : List Float) (x : ℕ) → outcome a afterJ afterK ≡ jkOf n i d beforeJ beforeK → x ≡ jkNumber a → JkAnswered n i d beforeJ beforeK x afterJ afterK
+pub jk-answered : (n : ℕ) (i d beforeJ beforeK : List Float) (a : Answer) (afterJ afterK : List Float) (x : ℕ) → outcome a afterJ afterK ≡ jkOf n i d beforeJ beforeK → x ≡ jkNumber a → JkCallTold n i d beforeJ beforeK x afterJ afterK
 jk-answered n i d beforeJ beforeK a afterJ afterK x told is =
     record { answer = is ∙ ap (λ (o : Outcome). jkNumber (o .answer)) told; j = ap (λ (o : Outcome). o .j) told; k = ap (λ (o : Outcome). o .k) told }

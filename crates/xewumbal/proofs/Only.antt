@@ -12,12 +12,12 @@ use Rattle.xewumbal.specs.declared.xew_table.{«xew_table»}
 use Rattle.xewumbal.specs.declared.xew_cursor.{«xew_cursor»}
 use Rattle.xewumbal.specs.declared.xew_opened.{«xew_opened»}
 use Rattle.xewumbal.specs.declared.xew_step.{«xew_step»}
-use Rattle.xewumbal.specs.Answers.{ExpandAnswered, ListAnswered, JkAnswered, shell2Answer, shell4Answer, openAnswer, checkAnswer, nextAnswer, prefactorsAnswer, evaluateAnswer}
+use Rattle.xewumbal.specs.Answers.{ExpandCallTold, ListCallTold, JkCallTold, shell2Answer, shell4Answer, openAnswer, checkAnswer, nextAnswer, prefactorsAnswer, evaluateAnswer}
 
-pub expand-only : (kind : ℕ) (orders before : List ℕ) (start : ℕ) {p q : «xew_written»} {x y : List ℕ} → ExpandAnswered kind orders before start p x → ExpandAnswered kind orders before start q y → (p ≡ q) × (x ≡ y)
+pub expand-only : (kind : ℕ) (orders before : List ℕ) (start : ℕ) {p q : «xew_written»} {x y : List ℕ} → ExpandCallTold kind orders before start p x → ExpandCallTold kind orders before start q y → (p ≡ q) × (x ≡ y)
 expand-only kind orders before start f g = (only (f .answer) (g .answer), only (f .out) (g .out))
 
-pub shell-list-only : (order : ℕ) (before : List ℕ) (start : ℕ) {p q : «xew_written»} {x y : List ℕ} → ListAnswered order before start p x → ListAnswered order before start q y → (p ≡ q) × (x ≡ y)
+pub shell-list-only : (order : ℕ) (before : List ℕ) (start : ℕ) {p q : «xew_written»} {x y : List ℕ} → ListCallTold order before start p x → ListCallTold order before start q y → (p ≡ q) × (x ≡ y)
 shell-list-only order before start f g = (only (f .answer) (g .answer), only (f .out) (g .out))
 
 pub shell2-only : (a b number : ℕ) {p q : «xew_component»} → p ≡ shell2Answer a b number → q ≡ shell2Answer a b number → p ≡ q
@@ -42,5 +42,5 @@ module _ (a b c d : «xew_centre») where
   pub evaluate-only : (roll : List ℕ) (aux : Float) (boys : List Float) {p q : «xew_value»} → p ≡ evaluateAnswer roll a b c d aux boys → q ≡ evaluateAnswer roll a b c d aux boys → p ≡ q
   evaluate-only roll aux boys = only
 
-pub jk-only : (n : ℕ) (i d beforeJ beforeK : List Float) {p q : ℕ} {x y v w : List Float} → JkAnswered n i d beforeJ beforeK p x v → JkAnswered n i d beforeJ beforeK q y w → (p ≡ q) × (x ≡ y) × (v ≡ w)
+pub jk-only : (n : ℕ) (i d beforeJ beforeK : List Float) {p q : ℕ} {x y v w : List Float} → JkCallTold n i d beforeJ beforeK p x v → JkCallTold n i d beforeJ beforeK q y w → (p ≡ q) × (x ≡ y) × (v ≡ w)
 jk-only n i d beforeJ beforeK f g = (only (f .answer) (g .answer), only (f .j) (g .j), only (f .k) (g .k))

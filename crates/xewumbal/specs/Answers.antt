@@ -20,7 +20,7 @@ use Rattle.roll.specs.declared.Step.{Step}
 use Rattle.roll.specs.declared.Opening.{Opening}
 use Rattle.roll.specs.declared.Opening.the-variants as opening
 use Rattle.roll.specs.declared.Opened.{Opened}
-use Rattle.roll.specs.Answers.{openOf, checkOf, stepOf as stepBelow}
+use Rattle.roll.specs.Answers.{openOf, checkOf, stepOf}
 use Rattle.geometry.specs.declared.Centre.{Centre}
 use Rattle.geometry.specs.declared.Table.{Table}
 use Rattle.geometry.specs.Checks.{prefactorsOf, numberOf as tableNumber}
@@ -38,29 +38,29 @@ use Rattle.xewumbal.specs.declared.xew_step.{«xew_step»}
 
 -- ---- what the host hands in
 
-abbrev pub centreOf : «xew_centre» → Centre
-centreOf c = record { x = c .x; y = c .y; z = c .z; exponent = c .exponent }
+abbrev pub centreIn : «xew_centre» → Centre
+centreIn c = record { x = c .x; y = c .y; z = c .z; exponent = c .exponent }
 
 abbrev pub cursorIn : «xew_cursor» → Cursor
 cursorIn c = record { place = c .place; left = c .left; kind = c .kind; l = c .l }
 
 -- ---- xew_expand: the length, the term count and the refusal of the answer
 
-abbrev pub expandedOf : Expanded → «xew_written»
-expandedOf e = record { length = lengthIn e; terms = countIn e; refusal = refusalIn e }
+abbrev pub hostExpanded : Expanded → «xew_written»
+hostExpanded e = record { length = lengthIn e; terms = countIn e; refusal = refusalIn e }
 
-pub record ExpandAnswered (kind : ℕ) (orders before : List ℕ) (start : ℕ) (r : «xew_written») (after : List ℕ) : Type 0 where
-  pub answer : r ≡ expandedOf (namedTold (kindOf kind) orders before start)
+pub record ExpandCallTold (kind : ℕ) (orders before : List ℕ) (start : ℕ) (r : «xew_written») (after : List ℕ) : Type 0 where
+  pub answer : r ≡ hostExpanded (namedTold (kindOf kind) orders before start)
   pub out : after ≡ namedOut (namedTold (kindOf kind) orders before start) (kindOf kind) orders before start
 
 -- ---- xew_shell_list: the length, the triples and the refusal
 
-abbrev pub listedOf : Listed → «xew_written»
-listedOf (listed.Bytes long triples) = record { length = long; terms = triples; refusal = 0 }
-listedOf (listed.Refused n) = record { length = 0; terms = 0; refusal = n }
+abbrev pub hostListed : Listed → «xew_written»
+hostListed (listed.Bytes long triples) = record { length = long; terms = triples; refusal = 0 }
+hostListed (listed.Refused n) = record { length = 0; terms = 0; refusal = n }
 
-pub record ListAnswered (order : ℕ) (before : List ℕ) (start : ℕ) (r : «xew_written») (after : List ℕ) : Type 0 where
-  pub answer : r ≡ listedOf (listedAt order before start)
+pub record ListCallTold (order : ℕ) (before : List ℕ) (start : ℕ) (r : «xew_written») (after : List ℕ) : Type 0 where
+  pub answer : r ≡ hostListed (listedAt order before start)
   pub out : after ≡ listedOut order before start
 
 -- ---- xew_shell2 and xew_shell4: the orders and the refusal
@@ -69,19 +69,19 @@ abbrev pub soughtNumber : Sought → ℕ
 soughtNumber sought.Component = 0
 soughtNumber (sought.Refused n) = n
 
-abbrev pub componentOf : Component → «xew_component»
-componentOf c = record { orders = c .orders; refusal = soughtNumber (c .found) }
+abbrev pub hostComponent : Component → «xew_component»
+hostComponent c = record { orders = c .orders; refusal = soughtNumber (c .found) }
 
 unfoldable pub shell2Answer : ℕ → ℕ → ℕ → «xew_component»
-shell2Answer a b number = componentOf (shell2Of a b number)
+shell2Answer a b number = hostComponent (shell2Of a b number)
 
 unfoldable pub shell4Answer : ℕ → ℕ → ℕ → ℕ → ℕ → «xew_component»
-shell4Answer a b c d number = componentOf (shell4Of a b c d number)
+shell4Answer a b c d number = hostComponent (shell4Of a b c d number)
 
 -- ---- xew_open and xew_check: the cursor at the first term, the orders, and a refusal with its place
 
-abbrev pub cursorOf : Cursor → «xew_cursor»
-cursorOf c = record { place = c .place; left = c .left; kind = c .kind; l = c .l }
+abbrev pub hostCursor : Cursor → «xew_cursor»
+hostCursor c = record { place = c .place; left = c .left; kind = c .kind; l = c .l }
 
 abbrev pub openingNumber : Opening → ℕ
 openingNumber opening.Roll = 0
@@ -91,14 +91,14 @@ abbrev pub openingPlace : Opening → ℕ
 openingPlace opening.Roll = 0
 openingPlace (opening.Refused n place) = place
 
-abbrev pub openedOf : Opened → «xew_opened»
-openedOf o = record { cursor = cursorOf (o .cursor); place = openingPlace (o .found); orders = o .orders; refusal = openingNumber (o .found) }
+abbrev pub hostOpened : Opened → «xew_opened»
+hostOpened o = record { cursor = hostCursor (o .cursor); place = openingPlace (o .found); orders = o .orders; refusal = openingNumber (o .found) }
 
 unfoldable pub openAnswer : List ℕ → «xew_opened»
-openAnswer roll = openedOf (openOf roll)
+openAnswer roll = hostOpened (openOf roll)
 
 unfoldable pub checkAnswer : List ℕ → «xew_opened»
-checkAnswer roll = openedOf (checkOf roll)
+checkAnswer roll = hostOpened (checkOf roll)
 
 -- ---- xew_next: the term, the cursor one term further on, and a refusal with its place
 
@@ -120,33 +120,33 @@ foundPlace (found.Refused n place) = place
 
 abbrev pub foundStep : Step → ℕ → ℕ → ℕ → «xew_step»
 foundStep s code place number =
-    record { next = cursorOf (s .next); place = place; scale = s .term .scale; boys = s .term .boys; count = s .term .count; prefactors = s .term .prefactors; found = code; refusal = number }
+    record { next = hostCursor (s .next); place = place; scale = s .term .scale; boys = s .term .boys; count = s .term .count; prefactors = s .term .prefactors; found = code; refusal = number }
 
-abbrev pub stepOf : Step → «xew_step»
-stepOf s = foundStep s (foundCode (s .found)) (foundPlace (s .found)) (foundNumber (s .found))
+abbrev pub hostStep : Step → «xew_step»
+hostStep s = foundStep s (foundCode (s .found)) (foundPlace (s .found)) (foundNumber (s .found))
 
 unfoldable pub nextAnswer : «xew_cursor» → List ℕ → «xew_step»
-nextAnswer c roll = stepOf (stepBelow (cursorIn c) roll)
+nextAnswer c roll = hostStep (stepOf (cursorIn c) roll)
 
 -- ---- xew_prefactors: the table and the refusal
 
-abbrev pub tableOf : Table → «xew_table»
-tableOf t = record { entries = t .entries; refusal = tableNumber (t .found) }
+abbrev pub hostTable : Table → «xew_table»
+hostTable t = record { entries = t .entries; refusal = tableNumber (t .found) }
 
 unfoldable pub prefactorsAnswer : ℕ → «xew_centre» → «xew_centre» → «xew_centre» → «xew_centre» → «xew_table»
-prefactorsAnswer kind a b c d = tableOf (prefactorsOf kind (centreOf a) (centreOf b) (centreOf c) (centreOf d))
+prefactorsAnswer kind a b c d = hostTable (prefactorsOf kind (centreIn a) (centreIn b) (centreIn c) (centreIn d))
 
 -- ---- xew_evaluate: the integral, and a refusal with its place
 
-abbrev pub valueOf : Value → «xew_value»
-valueOf v = record { value = floatOf v; place = placeOf v; refusal = valueNumber v }
+abbrev pub hostValue : Value → «xew_value»
+hostValue v = record { value = floatOf v; place = placeOf v; refusal = valueNumber v }
 
 unfoldable pub evaluateAnswer : List ℕ → «xew_centre» → «xew_centre» → «xew_centre» → «xew_centre» → Float → List Float → «xew_value»
-evaluateAnswer roll a b c d aux boys = valueOf (evaluateOf roll (centreOf a) (centreOf b) (centreOf c) (centreOf d) aux boys)
+evaluateAnswer roll a b c d aux boys = hostValue (evaluateOf roll (centreIn a) (centreIn b) (centreIn c) (centreIn d) aux boys)
 
 -- ---- xew_jk: the refusal alone
 
-pub record JkAnswered (n : ℕ) (i d beforeJ beforeK : List Float) (r : ℕ) (afterJ afterK : List Float) : Type 0 where
+pub record JkCallTold (n : ℕ) (i d beforeJ beforeK : List Float) (r : ℕ) (afterJ afterK : List Float) : Type 0 where
   pub answer : r ≡ jkNumber (jkOf n i d beforeJ beforeK .answer)
   pub j : afterJ ≡ jkOf n i d beforeJ beforeK .j
   pub k : afterK ≡ jkOf n i d beforeJ beforeK .k

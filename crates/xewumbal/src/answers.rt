@@ -1,7 +1,7 @@
 // The structs of the exported functions from those of the crates below, and back.
 ghost use mathlib.Core.Path.{_≡_};
 ghost use Rattle.jk.specs.Outcome.{numberOf};
-ghost use Rattle.xewumbal.specs.Answers.{centreOf, cursorIn, expandedOf, listedOf, componentOf, cursorOf, openedOf, foundStep, stepOf, tableOf, valueOf};
+ghost use Rattle.xewumbal.specs.Answers.{centreIn, cursorIn, hostExpanded, hostListed, hostComponent, hostCursor, hostOpened, foundStep, hostStep, hostTable, hostValue};
 use crate::xew_centre;
 use crate::xew_component;
 use crate::xew_cursor;
@@ -23,7 +23,7 @@ use shell::Component;
 use shell::Listed;
 
 pub(crate) fn centre(c: xew_centre) -> Centre
-    ensures { λ r. ⌜ r ≡ centreOf c ⌝ }
+    ensures { λ r. ⌜ r ≡ centreIn c ⌝ }
 {
     Centre {
         x: c.x,
@@ -45,7 +45,7 @@ pub(crate) fn cursor_in(c: xew_cursor) -> Cursor
 }
 
 fn cursor(c: Cursor) -> xew_cursor
-    ensures { λ r. ⌜ r ≡ cursorOf c ⌝ }
+    ensures { λ r. ⌜ r ≡ hostCursor c ⌝ }
 {
     xew_cursor {
         place: c.place,
@@ -56,7 +56,7 @@ fn cursor(c: Cursor) -> xew_cursor
 }
 
 pub(crate) fn expanded(answer: Expanded) -> xew_written
-    ensures { λ r. ⌜ r ≡ expandedOf answer ⌝ }
+    ensures { λ r. ⌜ r ≡ hostExpanded answer ⌝ }
 {
     match answer {
         Expanded::Roll(length, terms) => xew_written {
@@ -73,7 +73,7 @@ pub(crate) fn expanded(answer: Expanded) -> xew_written
 }
 
 pub(crate) fn listed(answer: Listed) -> xew_written
-    ensures { λ r. ⌜ r ≡ listedOf answer ⌝ }
+    ensures { λ r. ⌜ r ≡ hostListed answer ⌝ }
 {
     match answer {
         Listed::Bytes(length, terms) => xew_written {
@@ -90,7 +90,7 @@ pub(crate) fn listed(answer: Listed) -> xew_written
 }
 
 pub(crate) fn component(c: Component) -> xew_component
-    ensures { λ r. ⌜ r ≡ componentOf c ⌝ }
+    ensures { λ r. ⌜ r ≡ hostComponent c ⌝ }
 {
     let found = c.found;
     let orders = c.orders;
@@ -101,7 +101,7 @@ pub(crate) fn component(c: Component) -> xew_component
 }
 
 pub(crate) fn table(t: Table) -> xew_table
-    ensures { λ r. ⌜ r ≡ tableOf t ⌝ }
+    ensures { λ r. ⌜ r ≡ hostTable t ⌝ }
 {
     let found = t.found;
     let entries = t.entries;
@@ -115,7 +115,7 @@ pub(crate) fn table(t: Table) -> xew_table
 }
 
 pub(crate) fn opened(o: Opened) -> xew_opened
-    ensures { λ r. ⌜ r ≡ openedOf o ⌝ }
+    ensures { λ r. ⌜ r ≡ hostOpened o ⌝ }
 {
     let found = o.found;
     let orders = o.orders;
@@ -155,7 +155,7 @@ fn found_step(s: Step, found: u8, place: usize, refusal: u8) -> xew_step
 }
 
 pub(crate) fn step(s: Step) -> xew_step
-    ensures { λ r. ⌜ r ≡ stepOf s ⌝ }
+    ensures { λ r. ⌜ r ≡ hostStep s ⌝ }
 {
     let found = s.found;
     match found {
@@ -166,7 +166,7 @@ pub(crate) fn step(s: Step) -> xew_step
 }
 
 pub(crate) fn value(answer: Value) -> xew_value
-    ensures { λ r. ⌜ r ≡ valueOf answer ⌝ }
+    ensures { λ r. ⌜ r ≡ hostValue answer ⌝ }
 {
     match answer {
         Value::Is(value) => xew_value {

@@ -3,7 +3,7 @@
 mod answers;
 
 ghost use mathlib.Core.Path.{_≡_};
-ghost use Rattle.xewumbal.specs.Answers.{ExpandAnswered, ListAnswered, JkAnswered};
+ghost use Rattle.xewumbal.specs.Answers.{ExpandCallTold, ListCallTold, JkCallTold};
 ghost use Rattle.xewumbal.specs.Answers.{shell2Answer, shell4Answer, openAnswer, checkAnswer, nextAnswer};
 ghost use Rattle.xewumbal.specs.Answers.{prefactorsAnswer, evaluateAnswer};
 use kind::Kind;
@@ -81,14 +81,14 @@ pub extern "C" fn xew_expand(
     out: &mut [u8],
     start: usize,
 ) -> xew_written
-    ensures { λ r. ⌜ ExpandAnswered kind (now (orders .entry)) (now (out .entry)) start r (now (out .exit)) ⌝ }
+    ensures { λ r. ⌜ ExpandCallTold kind (now (orders .entry)) (now (out .entry)) start r (now (out .exit)) ⌝ }
 {
     answers::expanded(expansion::expand(kind, *orders, out, start))
 }
 
 #[no_mangle]
 pub extern "C" fn xew_shell_list(order: u8, out: &mut [u8], start: usize) -> xew_written
-    ensures { λ r. ⌜ ListAnswered order (now (out .entry)) start r (now (out .exit)) ⌝ }
+    ensures { λ r. ⌜ ListCallTold order (now (out .entry)) start r (now (out .exit)) ⌝ }
 {
     answers::listed(shell::get_ijk_list(order, out, start))
 }
@@ -172,7 +172,7 @@ pub extern "C" fn xew_evaluate(
 
 #[no_mangle]
 pub extern "C" fn xew_jk(n: usize, i: &[f64], d: &[f64], j: &mut [f64], k: &mut [f64]) -> u8
-    ensures { λ r. ⌜ JkAnswered n (now (i .entry)) (now (d .entry)) (now (j .entry)) (now (k .entry)) r (now (j .exit)) (now (k .exit)) ⌝ }
+    ensures { λ r. ⌜ JkCallTold n (now (i .entry)) (now (d .entry)) (now (j .entry)) (now (k .entry)) r (now (j .exit)) (now (k .exit)) ⌝ }
 {
     answers::matrices(jk::JK_inmem(n, i, d, j, k))
 }
