@@ -1,8 +1,8 @@
-"""Prints hosts/expected.txt: the integrals of water in STO-3G, by the method of McMurchie and Davidson
+"""Prints examples/expected.txt: the integrals of water in STO-3G, by the method of McMurchie and Davidson
 (Hermite Gaussians; J. Comput. Phys. 26, 218, 1978) in decimal numbers of 45 digits, or of as many as the argument says.
 Nothing of the library is used. Standard library only; it takes some seconds.
 
-    python3 hosts/expected.py [DIGITS] > hosts/expected.txt
+    python3 examples/expected.py [DIGITS] > examples/expected.txt
 """
 import sys
 from decimal import Decimal as D, getcontext
