@@ -1,79 +1,90 @@
-//! The table: ratios of both sides, beside the goals.
+//! The table: ratios of both sides, natively beside the goals.
 
 use crate::measure::Row;
 
-/// The least ratios that are asked for.
-pub struct Goals {
-    with_boys: f64,
-    without_boys: f64,
-    evaluation: f64,
-}
-
+/// The least ratios that are asked for: of an expansion with Boys orders and without, and of an evaluation.
+const WITH_BOYS: f64 = 10.0;
+const WITHOUT_BOYS: f64 = 6.0;
+const EVALUATION: f64 = 15.0;
 /// The most times that a refusal may take of the largest request that is accepted.
 const REFUSAL: f64 = 3.0;
 
-pub const NATIVE: Goals = Goals {
-    with_boys: 10.0,
-    without_boys: 6.0,
-    evaluation: 15.0,
-};
+/// A table whose rows end in a goal and in whether it is met, where there are goals.
+struct Table {
+    has_goals: bool,
+}
 
-pub const EMULATED: Goals = Goals {
-    with_boys: 40.0,
-    without_boys: 25.0,
-    evaluation: 50.0,
-};
+impl Table {
+    fn head(&self, columns: &str) {
+        let goal = if self.has_goals { " | goal | met" } else { "" };
+        heading(&format!("{}{}", columns, goal));
+    }
 
-fn met(is: bool) -> &'static str {
-    if is {
-        "yes"
-    } else {
-        "no"
+    fn row(&self, cells: &str, goal: f64, is_met: bool) {
+        match (self.has_goals, is_met) {
+            (false, _) => println!("| {} |", cells),
+            (_, true) => println!("| {} | {} | yes |", cells, goal),
+            (_, false) => println!("| {} | {} | no |", cells, goal),
+        }
+    }
+
+    fn print_expansion(&self, rows: &[&Row]) {
+        self.head("expansion | terms | Rust, ns a term | ours, ns a term | ratio");
+        for row in rows {
+            let [theirs, ours] = row.expansion;
+            let goal = match row.request.kind {
+                2 | 4 => WITH_BOYS,
+                _ => WITHOUT_BOYS,
+            };
+            let cells = format!(
+                "{} | {} | {:.1} | {:.1} | {:.1}",
+                row.request.title(),
+                row.terms,
+                theirs / row.terms,
+                ours / row.terms,
+                theirs / ours
+            );
+            self.row(&cells, goal, theirs / ours >= goal);
+        }
+    }
+
+    fn print_evaluation(&self, rows: &[&Row]) {
+        self.head(
+            "evaluation | terms | get_, ns a term | ours, ns a term | xew_check alone | ratio",
+        );
+        for row in rows {
+            let [theirs, ours] = row.evaluation;
+            let cells = format!(
+                "{} | {} | {:.1} | {:.1} | {:.1} | {:.1}",
+                row.request.title(),
+                row.terms,
+                theirs / row.terms,
+                ours / row.terms,
+                row.check / row.terms,
+                theirs / ours
+            );
+            self.row(&cells, EVALUATION, theirs / ours >= EVALUATION);
+        }
+    }
+
+    fn print_refusals(&self, rows: &[&Row], largest: f64) {
+        self.head("refusal 4 | ns a call | times the largest accepted");
+        for row in rows {
+            let took = row.expansion[1];
+            let cells = format!(
+                "{} | {:.0} | {:.2}",
+                row.request.title(),
+                took,
+                took / largest
+            );
+            self.row(&cells, REFUSAL, took / largest <= REFUSAL);
+        }
     }
 }
 
 fn heading(columns: &str) {
     println!("\n| {} |", columns);
     println!("{}|", "|---".repeat(columns.split(" | ").count()));
-}
-
-fn print_expansion(rows: &[&Row], goals: &Goals) {
-    heading("expansion | terms | Rust, ns a term | ours, ns a term | ratio | goal | met");
-    for row in rows {
-        let [theirs, ours] = row.expansion;
-        let goal = match row.request.kind {
-            2 | 4 => goals.with_boys,
-            _ => goals.without_boys,
-        };
-        println!(
-            "| {} | {} | {:.1} | {:.1} | {:.1} | {} | {} |",
-            row.request.title(),
-            row.terms,
-            theirs / row.terms,
-            ours / row.terms,
-            theirs / ours,
-            goal,
-            met(theirs / ours >= goal)
-        );
-    }
-}
-
-fn print_evaluation(rows: &[&Row], goals: &Goals) {
-    heading("evaluation | terms | get_, ns a term | ours, ns a term | xew_check alone | ratio | goal | met");
-    for row in rows {
-        let [theirs, ours] = row.evaluation;
-        println!(
-            "| {} | {} | {:.1} | {:.1} | {:.1} | {:.1} | {} | {} |",
-            row.request.title(),
-            row.terms,
-            theirs / row.terms,
-            ours / row.terms,
-            row.check / row.terms,
-            theirs / ours,
-            goals.evaluation,
-            met(theirs / ours >= goals.evaluation)
-        );
-    }
 }
 
 /// Bytes in a nanosecond are gigabytes in a second.
@@ -90,30 +101,16 @@ fn print_bytes(rows: &[&Row]) {
     }
 }
 
-fn print_refusals(rows: &[&Row], largest: f64) {
-    heading("refusal 4 | ns a call | times the largest accepted | goal | met");
-    for row in rows {
-        let took = row.expansion[1];
-        println!(
-            "| {} | {:.0} | {:.2} | {} | {} |",
-            row.request.title(),
-            took,
-            took / largest,
-            REFUSAL,
-            met(took / largest <= REFUSAL)
-        );
-    }
-}
-
-pub fn print(rows: &[Row], goals: &Goals) {
+pub fn print(rows: &[Row], has_goals: bool) {
+    let table = Table { has_goals };
     let (accepted, refused): (Vec<&Row>, Vec<&Row>) = rows.iter().partition(|row| row.terms > 0.0);
-    print_expansion(&accepted, goals);
-    print_evaluation(&accepted, goals);
+    table.print_expansion(&accepted);
+    table.print_evaluation(&accepted);
     print_bytes(&accepted);
     let most = accepted
         .iter()
         .fold(0.0, |most: f64, row| most.max(row.terms));
     let largest = accepted.iter().find(|row| row.terms == most);
     let time = largest.map_or(f64::NAN, |row| row.expansion[1]);
-    print_refusals(&refused, time);
+    table.print_refusals(&refused, time);
 }
