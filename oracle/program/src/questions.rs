@@ -107,21 +107,7 @@ fn about_roll(random: &mut Random, kind: &str, roll: &[u8]) -> Vec<u8> {
 
 /// Every request of a kind that is within the limits.
 pub fn write_every_request(kind: u8, out: &mut dyn Write) -> io::Result<()> {
-    let triples: Vec<Vec<u8>> = (0..=4)
-        .flat_map(|m| {
-            let list = rust_side::shell_list(m);
-            list.chunks(3).map(<[u8]>::to_vec).collect::<Vec<_>>()
-        })
-        .collect();
-    let centres = second::orders_used(kind) / 3;
-    let count = triples.len().pow(centres as u32);
-    for number in 0..count {
-        let mut orders = vec![0; 12];
-        let mut rest = number;
-        for centre in 0..centres {
-            orders[3 * centre..3 * centre + 3].copy_from_slice(&triples[rest % triples.len()]);
-            rest /= triples.len();
-        }
+    for orders in rolls::every_request(kind) {
         out.write_all(&numbers("expand", kind.into(), &orders))?;
         out.write_all(b"\n")?;
     }
