@@ -50,7 +50,8 @@ need_cargo() {
         need cargo cargo
         return
     fi
-    packages cargo rustc libstd-rust-dev:amd64 gcc-x86-64-linux-gnu libc6:amd64 libc6-dev:amd64 libgcc-s1:amd64 qemu-user
+    packages cargo rustc libstd-rust-dev:amd64 gcc-x86-64-linux-gnu libc6:amd64 libc6-dev:amd64 libgcc-s1:amd64 \
+        qemu-user
     cargo=/usr/bin/cargo
     export RUSTC=/usr/bin/rustc RUSTDOC=/usr/bin/rustdoc CARGO_BUILD_TARGET=x86_64-unknown-linux-gnu
     export CARGO_TARGET_X86_64_UNKNOWN_LINUX_GNU_LINKER=x86_64-linux-gnu-gcc

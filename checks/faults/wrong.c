@@ -1,5 +1,5 @@
-/* Stand-ins that are wrong on purpose, before the library's functions (ld --wrap), so that checks/faults/run self can show
- * that each is caught. WRONG in the environment names the one. */
+/* Stand-ins that are wrong on purpose, before the library's functions (ld --wrap), so that checks/faults/run self can
+ * show that each is caught. WRONG in the environment names the one. */
 #include "../../include/xewumbal.h"
 #include <stdlib.h>
 #include <string.h>
