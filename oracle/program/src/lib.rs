@@ -4,6 +4,7 @@
 pub mod answer;
 pub mod diff;
 pub mod floats;
+pub mod lines;
 pub mod odd_lines;
 pub mod parse;
 pub mod questions;

@@ -1,6 +1,6 @@
 //! Lines at the edges of the question language: malformed ones and the longest.
 
-use crate::questions::with_roll;
+use crate::lines::with_roll;
 use crate::random::Random;
 use crate::rust_side;
 

@@ -1,12 +1,14 @@
 //! Random questions of one kind: ordinary, extreme and wrong ones.
 
 use crate::floats::{self, Taste};
-use crate::parse::{self, Centre, LARGEST_BUFFER, LONGEST_LINE, MOST_BOYS};
+use crate::lines::{append, append_centres, append_float, append_floats, append_room};
+use crate::lines::{numbers, with_roll};
+use crate::parse::{self, LONGEST_LINE, MOST_BOYS};
 use crate::random::Random;
 use crate::{odd_lines, rolls, rust_side, second};
 use std::io::{self, Write};
 
-/// The kinds of question, as `compare` names them.
+/// The kinds of question, as `oracle/ask-both` names them.
 pub const KINDS: [&str; 11] = [
     "shell",
     "component",
@@ -105,94 +107,11 @@ fn about_roll(random: &mut Random, kind: &str, roll: &[u8]) -> Vec<u8> {
 
 /// Every request of a kind that is within the limits.
 pub fn write_every_request(kind: u8, out: &mut dyn Write) -> io::Result<()> {
-    let triples: Vec<Vec<u8>> = (0..=4)
-        .flat_map(|m| {
-            let list = rust_side::shell_list(m);
-            list.chunks(3).map(<[u8]>::to_vec).collect::<Vec<_>>()
-        })
-        .collect();
-    let centres = second::orders_used(kind) / 3;
-    let count = triples.len().pow(centres as u32);
-    for number in 0..count {
-        let mut orders = vec![0; 12];
-        let mut rest = number;
-        for centre in 0..centres {
-            orders[3 * centre..3 * centre + 3].copy_from_slice(&triples[rest % triples.len()]);
-            rest /= triples.len();
-        }
+    for orders in rolls::every_request(kind) {
         out.write_all(&numbers("expand", kind.into(), &orders))?;
         out.write_all(b"\n")?;
     }
     out.flush()
-}
-
-fn numbers(word: &str, first: u64, rest: &[u8]) -> Vec<u8> {
-    let mut line = format!("{} {}", word, first);
-    for number in rest {
-        line += &format!(" {}", number);
-    }
-    line.into_bytes()
-}
-
-fn append(line: &mut Vec<u8>, number: u64) {
-    line.extend_from_slice(format!(" {}", number).as_bytes());
-}
-
-/// A word and a roll.
-pub fn with_roll(word: &str, roll: &[u8]) -> Vec<u8> {
-    let mut line = format!("{} ", word).into_bytes();
-    parse::write_roll(&mut line, roll);
-    line
-}
-
-fn append_float(random: &mut Random, line: &mut Vec<u8>, float: f64) {
-    line.push(b' ');
-    if random.once_in(10) {
-        line.extend_from_slice(format!("{:x}", float.to_bits()).as_bytes());
-    } else {
-        parse::write_float(line, float);
-    }
-}
-
-fn append_centres(random: &mut Random, line: &mut Vec<u8>, centres: &[Centre; 4]) {
-    for centre in centres {
-        for &x in &centre.r {
-            append_float(random, line, x);
-        }
-        append_float(random, line, centre.z);
-    }
-}
-
-/// BUFFER and START around every boundary for an output of `need` bytes.
-fn append_room(random: &mut Random, line: &mut Vec<u8>, need: u64) {
-    let most = LARGEST_BUFFER as u64;
-    let start = match random.below(6) {
-        0 | 1 => 0,
-        2 => random.below(300),
-        3 => random.below(most + 1),
-        4 => random.from_to(most - 50, most + 2),
-        _ => random.one_of(&[1 << 32, (1 << 32) + 1, u64::MAX, u64::MAX - 1, 1 << 63]),
-    };
-    let exact = start.saturating_add(need);
-    let buffer = match random.below(9) {
-        0 => 0,
-        1 => exact.saturating_sub(1),
-        2 | 3 => exact,
-        4 => exact.saturating_add(1),
-        // The start at the end, and one beyond it.
-        5 => start,
-        6 => start.saturating_sub(1),
-        7 => most,
-        _ => random.below(most + 2),
-    };
-    // Mostly within what a question may lend.
-    let buffer = if random.once_in(40) {
-        buffer
-    } else {
-        buffer.min(most)
-    };
-    append(line, buffer);
-    append(line, start);
 }
 
 fn shell(random: &mut Random, at: u64) -> Vec<u8> {
@@ -422,20 +341,6 @@ fn wrong_size(random: &mut Random) -> u64 {
         1 << 63,
         u64::MAX,
     ])
-}
-
-fn append_floats(random: &mut Random, line: &mut Vec<u8>, taste: Taste, count: u64) {
-    // A taste of any bits would spoil every large matrix at once: one such float is enough.
-    let calm = match taste {
-        Taste::Any => Taste::Ordinary,
-        other => other,
-    };
-    let wild = random.below(count.max(1));
-    for at in 0..count {
-        let taste = if at == wild { taste } else { calm };
-        let float = floats::float(random, taste);
-        append_float(random, line, float);
-    }
 }
 
 fn jk(random: &mut Random, at: u64) -> Vec<u8> {

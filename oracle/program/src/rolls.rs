@@ -21,6 +21,24 @@ fn centre_orders(random: &mut Random, most: u64) -> [u8; 3] {
     orders
 }
 
+/// Every request of a kind that is within the limits, the first centre's orders fastest.
+pub fn every_request(kind: u8) -> Vec<[u8; 12]> {
+    let triples: Vec<u8> = (0..=4).flat_map(rust_side::shell_list).collect();
+    let mut requests = vec![[0; 12]];
+    for centre in (0..second::orders_used(kind) / 3).rev() {
+        let mut longer = Vec::new();
+        for request in &requests {
+            for triple in triples.chunks(3) {
+                let mut orders = *request;
+                orders[3 * centre..3 * centre + 3].copy_from_slice(triple);
+                longer.push(orders);
+            }
+        }
+        requests = longer;
+    }
+    requests
+}
+
 /// A request within the limits, each as likely as any other. Of the Coulomb ones three in
 /// five are beyond the cap.
 pub fn any_request(random: &mut Random, kind: u8) -> [u8; 12] {

@@ -5,24 +5,6 @@ use oracle::random::Random;
 use oracle::second::{self, Header, Term};
 use oracle::{floats, rolls, rust_side};
 
-fn every_request(kind: u8) -> Vec<[u8; 12]> {
-    let mut requests = vec![[0; 12]];
-    for centre in 0..second::orders_used(kind) / 3 {
-        let mut longer = Vec::new();
-        for request in &requests {
-            for m in 0..=4 {
-                for triple in rust_side::shell_list(m).chunks(3) {
-                    let mut orders = *request;
-                    orders[3 * centre..3 * centre + 3].copy_from_slice(triple);
-                    longer.push(orders);
-                }
-            }
-        }
-        requests = longer;
-    }
-    requests
-}
-
 fn agreed_terms(kind: u8, orders: &[u8; 12]) -> Vec<Term> {
     let terms = rust_side::terms(kind, orders);
     assert!(
@@ -38,7 +20,7 @@ fn agreed_terms(kind: u8, orders: &[u8; 12]) -> Vec<Term> {
 /// Most terms, longest roll, largest scale.
 fn facts(kind: u8) -> (usize, usize, u32) {
     let mut facts = (0, 0, 0);
-    for orders in every_request(kind) {
+    for orders in rolls::every_request(kind) {
         let terms = agreed_terms(kind, &orders);
         let roll = second::write_roll(kind, &orders, &terms);
         let scale = terms.iter().map(|term| term.scale).max();

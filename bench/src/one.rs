@@ -1,7 +1,8 @@
 //! One call of one request, so many times, for a profiler.
 
+use crate::numbers::Numbers;
 use crate::ours::{self, ROOM};
-use crate::requests::{self, Numbers, Request};
+use crate::requests::{self, Request};
 use crate::rust_side;
 
 fn find(name: &str) -> Result<Request, String> {
@@ -27,7 +28,7 @@ pub fn run(name: &str, call: &str, count: &str) -> Result<(), String> {
             "check" => u64::from(ours::check(&out[..length]).cursor.left),
             "evaluate" => ours::evaluate(&out[..length], &with).value.to_bits(),
             "terms" => rust_side::terms(&request).len() as u64,
-            "get" => rust_side::value(&request, &with).to_bits(),
+            "get" => rust_side::value(&request, &with.centres).to_bits(),
             _ => return Err("the calls are: expand check evaluate terms get".to_string()),
         }
     }

@@ -1,14 +1,16 @@
-"""Prints hosts/expected.txt: the integrals of water in STO-3G, by the method of McMurchie and Davidson
+"""Prints examples/expected.txt: the integrals of water in STO-3G, by the method of McMurchie and Davidson
 (Hermite Gaussians; J. Comput. Phys. 26, 218, 1978) in decimal numbers of 45 digits, or of as many as the argument says.
 Nothing of the library is used. Standard library only; it takes some seconds.
 
-    python3 hosts/expected.py [DIGITS] > hosts/expected.txt
+    python3 examples/expected.py [DIGITS] > examples/expected.txt
 """
 import sys
 from decimal import Decimal as D, getcontext
 from functools import lru_cache
 from itertools import combinations_with_replacement, product
 
+if len(sys.argv) > 2 or not all(word.isdigit() and int(word) > 0 for word in sys.argv[1:]):
+    sys.exit("usage: python3 examples/expected.py [DIGITS] > examples/expected.txt")
 getcontext().prec = int(sys.argv[1]) if len(sys.argv) > 1 else 45
 PI = D("3.1415926535897932384626433832795028841971693993751058209749445923078164062862")
 

@@ -1,7 +1,7 @@
 //! The unchanged Rust: its terms, its values and its aux.
 
-use crate::ours::Centre;
-use crate::requests::{Numbers, Request};
+use crate::raw::Centre;
+use crate::requests::Request;
 use rchem::integrals::os86;
 use rchem::Term;
 
@@ -36,8 +36,8 @@ pub fn aux(kind: u8, centres: &[Centre; 4]) -> f64 {
 }
 
 /// The get_ function, which expands by itself. It takes the Boys numbers that were lent.
-pub fn value(request: &Request, with: &Numbers) -> f64 {
-    let [a, b, c, d] = &with.centres;
+pub fn value(request: &Request, centres: &[Centre; 4]) -> f64 {
+    let [a, b, c, d] = centres;
     let (za, zb, zc, zd) = (a.exponent, b.exponent, c.exponent, d.exponent);
     let (ra, rb, rc, rd) = (place(a), place(b), place(c), place(d));
     let o = &request.orders;

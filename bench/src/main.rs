@@ -1,10 +1,16 @@
-//! The library and the unchanged Rust side by side. ./bench calls it: `list` the requests, `measure` each in runs of its
-//! own, then the table or the picture from what was measured, on standard input.
+//! The library and the unchanged Rust side by side. bench/run calls it: `list` the requests, `measure` each in runs of
+//! its own, then the table or the picture from what was measured, on standard input.
 
 mod measure;
+mod numbers;
 mod one;
 mod ours;
 mod picture;
+// The file alone: the binding's enums are left out of what is measured.
+#[rustfmt::skip]
+#[allow(dead_code)]
+#[path = "../../bindings/rust/src/raw.rs"]
+mod raw;
 mod requests;
 mod rust_side;
 mod same;
@@ -16,7 +22,7 @@ use requests::Request;
 use std::io::{stdin, BufRead};
 use std::process::exit;
 
-/// As include/xewumbal.h has them; the structs in ours.rs take them.
+/// As include/xewumbal.h has them; the structs of the binding take them.
 const ORDERS: usize = 12;
 const PREFACTORS: usize = 16;
 const TABLE: usize = 23;
@@ -50,11 +56,11 @@ fn run(words: &[&str]) -> Result<(), String> {
             let request = Request::of_line(&request.join(" ")).ok_or("no request")?;
             return measure::print(&request, time);
         }
-        ["native"] => table::print(&rows()?, &table::NATIVE),
-        ["emulated"] => table::print(&rows()?, &table::EMULATED),
+        ["native"] => table::print(&rows()?, true),
+        ["emulated"] => table::print(&rows()?, false),
         ["picture"] => picture::print(&rows()?),
         ["one", name, call, count] => return one::run(name, call, count),
-        _ => return Err("./bench says how this is called".to_string()),
+        _ => return Err("bench/run says how this is called".to_string()),
     }
     Ok(())
 }
@@ -63,7 +69,7 @@ fn main() {
     let args: Vec<String> = std::env::args().skip(1).collect();
     let words: Vec<&str> = args.iter().map(String::as_str).collect();
     if let Err(message) = run(&words) {
-        eprintln!("speed: {}", message);
+        eprintln!("bench: {}", message);
         exit(1);
     }
 }

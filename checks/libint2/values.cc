@@ -318,7 +318,7 @@ int report() {
 int main(int count, char **words) {
     const bool wrong = count == 2 && std::strcmp(words[1], "wrong") == 0;
     if (count > 1 && !wrong) {
-        std::fprintf(stderr, "usage: compare [wrong]\n");
+        std::fprintf(stderr, "usage: values [wrong]\n");
         return 2;
     }
     std::vector<Shell> shells; // by atom, then by order

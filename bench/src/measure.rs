@@ -1,7 +1,8 @@
 //! One request, measured on both sides in one run.
 
+use crate::numbers::Numbers;
 use crate::ours::{self, ROOM};
-use crate::requests::{self, Numbers, Request};
+use crate::requests::{self, Request};
 use crate::timing::{in_turn, Call};
 use crate::{rust_side, same};
 use std::convert::TryInto;
@@ -45,7 +46,7 @@ fn accepted(request: &Request, time: Duration) -> Result<[f64; 8], String> {
     );
     let [get, evaluate, check, copy] = in_turn(
         [
-            Call::new(|| rust_side::value(request, &with).to_bits()),
+            Call::new(|| rust_side::value(request, &with.centres).to_bits()),
             Call::new(|| ours::evaluate(&roll, &with).value.to_bits()),
             Call::new(|| u64::from(ours::check(&roll).cursor.left)),
             Call::new(|| {

@@ -1,7 +1,8 @@
 //! Both sides have to give the same terms and the same bits.
 
+use crate::numbers::Numbers;
 use crate::ours::{self, Step};
-use crate::requests::{Numbers, Request};
+use crate::requests::Request;
 use crate::rust_side;
 use rchem::Term;
 
@@ -55,7 +56,7 @@ pub fn terms(request: &Request, roll: &[u8]) -> Result<u32, String> {
 /// The value from the roll, bit for bit the one of the get_ function.
 pub fn value(request: &Request, roll: &[u8], with: &Numbers) -> Result<(), String> {
     let ours = ours::evaluate(roll, with);
-    let theirs = rust_side::value(request, with);
+    let theirs = rust_side::value(request, &with.centres);
     if ours.refusal != 0 || ours.value.to_bits() != theirs.to_bits() {
         return Err(format!(
             "{}: the two sides differ in the value",

@@ -1,7 +1,7 @@
 /* stack [STEP]: how many bytes of stack the deepest calls of each exported function take. The calls run on a stack of
  * their own, painted before; the lowest byte that changed tells. Every STEP-th Coulomb request is expanded (97). */
 #define _GNU_SOURCE
-#include "../include/xewumbal.h"
+#include "../../include/xewumbal.h"
 #include <stdio.h>
 #include <stdlib.h>
 #include <string.h>

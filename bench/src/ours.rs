@@ -1,14 +1,9 @@
 //! The exported functions, as the Rust binding declares them.
 
-use crate::requests::{Numbers, Request};
-pub use raw::{check, next, Centre, Step};
-use raw::{Value, Written};
-
-// The file alone: the binding's enums are left out of what is measured.
-#[rustfmt::skip]
-#[allow(dead_code)]
-#[path = "../../bindings/rust/src/raw.rs"]
-mod raw;
+use crate::numbers::Numbers;
+use crate::raw::{self, Value, Written};
+pub use crate::raw::{check, next, Step};
+use crate::requests::Request;
 
 /// Any roll fits into so many bytes.
 pub const ROOM: usize = 1 << 20;

@@ -1,6 +1,6 @@
-/* Stand-ins that are wrong on purpose, before the library's functions (ld --wrap), so that faults/run self can show
- * that each is caught. WRONG in the environment names the one. */
-#include "../include/xewumbal.h"
+/* Stand-ins that are wrong on purpose, before the library's functions (ld --wrap), so that checks/faults/run self can
+ * show that each is caught. WRONG in the environment names the one. */
+#include "../../include/xewumbal.h"
 #include <stdlib.h>
 #include <string.h>
 

@@ -1,7 +1,5 @@
-//! What is measured, and the numbers that both sides get.
+//! What is measured.
 
-use crate::ours::Centre;
-use crate::rust_side;
 use std::convert::TryFrom;
 
 #[derive(Clone, PartialEq)]
@@ -11,7 +9,7 @@ pub struct Request {
     pub orders: [u8; 12],
 }
 
-pub const KINDS: [&str; 5] = ["overlap", "kinetic", "nuclear", "moment", "Coulomb"];
+const KINDS: [&str; 5] = ["overlap", "kinetic", "nuclear", "moment", "Coulomb"];
 
 impl Request {
     pub fn new(name: &str, kind: u8, orders: [u8; 12]) -> Request {
@@ -94,35 +92,4 @@ pub fn refused() -> Vec<Request> {
         Request::new("just-over", 4, [0, 0, 2, 0, 3, 0, 0, 2, 0, 0, 3, 1]),
         Request::along_x("most", 4, [4; 4]),
     ]
-}
-
-/// What a host gives beside a request.
-pub struct Numbers {
-    pub centres: [Centre; 4],
-    pub aux: f64,
-    pub boys: Vec<f64>,
-}
-
-impl Numbers {
-    pub fn of(request: &Request) -> Numbers {
-        let centre = |x, y, z, exponent| Centre { x, y, z, exponent };
-        let centres = [
-            centre(0.1, -0.2, 0.3, 1.1),
-            centre(0.7, 0.4, -0.5, 0.9),
-            centre(-0.6, 0.8, 0.2, 1.7),
-            centre(0.5, -0.9, 1.3, 0.6),
-        ];
-        let l: u8 = request.orders.iter().sum();
-        let count = match request.kind {
-            2 | 4 => usize::from(l) + 1,
-            _ => 0,
-        };
-        let numbers = Numbers {
-            centres,
-            aux: rust_side::aux(request.kind, &centres),
-            boys: (0..count).map(|n| 0.8 / (2 * n + 1) as f64).collect(),
-        };
-        boys::lend(&numbers.boys);
-        numbers
-    }
 }

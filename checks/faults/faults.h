@@ -1,8 +1,8 @@
-/* What the files of faults/ share. */
+/* What the files of checks/faults share. */
 #ifndef FAULTS_H
 #define FAULTS_H
 
-#include "../include/xewumbal.h"
+#include "../../include/xewumbal.h"
 #include <stdbool.h>
 
 /* memory.c: memory between unreadable pages. The library sees a mapping of its own, which is read-only unless it is

@@ -1,0 +1,116 @@
+//! The table: ratios of both sides, natively beside the goals.
+
+use crate::measure::Row;
+
+/// The least ratios that are asked for: of an expansion with Boys orders and without, and of an evaluation.
+const WITH_BOYS: f64 = 10.0;
+const WITHOUT_BOYS: f64 = 6.0;
+const EVALUATION: f64 = 15.0;
+/// The most times that a refusal may take of the largest request that is accepted.
+const REFUSAL: f64 = 3.0;
+
+/// A table whose rows end in a goal and in whether it is met, where there are goals.
+struct Table {
+    has_goals: bool,
+}
+
+impl Table {
+    fn head(&self, columns: &str) {
+        let goal = if self.has_goals { " | goal | met" } else { "" };
+        heading(&format!("{}{}", columns, goal));
+    }
+
+    fn row(&self, cells: &str, goal: f64, is_met: bool) {
+        match (self.has_goals, is_met) {
+            (false, _) => println!("| {} |", cells),
+            (_, true) => println!("| {} | {} | yes |", cells, goal),
+            (_, false) => println!("| {} | {} | no |", cells, goal),
+        }
+    }
+
+    fn print_expansion(&self, rows: &[&Row]) {
+        self.head("expansion | terms | Rust, ns a term | ours, ns a term | ratio");
+        for row in rows {
+            let [theirs, ours] = row.expansion;
+            let goal = match row.request.kind {
+                2 | 4 => WITH_BOYS,
+                _ => WITHOUT_BOYS,
+            };
+            let cells = format!(
+                "{} | {} | {:.1} | {:.1} | {:.1}",
+                row.request.title(),
+                row.terms,
+                theirs / row.terms,
+                ours / row.terms,
+                theirs / ours
+            );
+            self.row(&cells, goal, theirs / ours >= goal);
+        }
+    }
+
+    fn print_evaluation(&self, rows: &[&Row]) {
+        self.head(
+            "evaluation | terms | get_, ns a term | ours, ns a term | xew_check alone | ratio",
+        );
+        for row in rows {
+            let [theirs, ours] = row.evaluation;
+            let cells = format!(
+                "{} | {} | {:.1} | {:.1} | {:.1} | {:.1}",
+                row.request.title(),
+                row.terms,
+                theirs / row.terms,
+                ours / row.terms,
+                row.check / row.terms,
+                theirs / ours
+            );
+            self.row(&cells, EVALUATION, theirs / ours >= EVALUATION);
+        }
+    }
+
+    fn print_refusals(&self, rows: &[&Row], largest: f64) {
+        self.head("refusal 4 | ns a call | times the largest accepted");
+        for row in rows {
+            let took = row.expansion[1];
+            let cells = format!(
+                "{} | {:.0} | {:.2}",
+                row.request.title(),
+                took,
+                took / largest
+            );
+            self.row(&cells, REFUSAL, took / largest <= REFUSAL);
+        }
+    }
+}
+
+fn heading(columns: &str) {
+    println!("\n| {} |", columns);
+    println!("{}|", "|---".repeat(columns.split(" | ").count()));
+}
+
+/// Bytes in a nanosecond are gigabytes in a second.
+fn print_bytes(rows: &[&Row]) {
+    heading("bytes | roll, bytes | written, MB a second | copied, MB a second");
+    for row in rows {
+        println!(
+            "| {} | {} | {:.0} | {:.0} |",
+            row.request.title(),
+            row.bytes,
+            1000.0 * row.bytes / row.expansion[1],
+            1000.0 * row.bytes / row.copy
+        );
+    }
+}
+
+pub fn print(rows: &[Row], has_goals: bool) {
+    let table = Table { has_goals };
+    let (accepted, refused): (Vec<&Row>, Vec<&Row>) = rows.iter().partition(|row| row.terms > 0.0);
+    table.print_expansion(&accepted);
+    table.print_evaluation(&accepted);
+    print_bytes(&accepted);
+    let most = accepted
+        .iter()
+        .fold(0.0, |most: f64, row| most.max(row.terms));
+    let largest = accepted.iter().find(|row| row.terms == most);
+    let time = largest.map_or(f64::NAN, |row| row.expansion[1]);
+    table.print_refusals(&refused, time);
+}

@@ -1,0 +1,88 @@
+//! The parts of a question's line: numbers, floats, rolls, centres, and the room for an output.
+
+use crate::floats::{self, Taste};
+use crate::parse::{self, Centre, LARGEST_BUFFER};
+use crate::random::Random;
+
+pub fn numbers(word: &str, first: u64, rest: &[u8]) -> Vec<u8> {
+    let mut line = format!("{} {}", word, first);
+    for number in rest {
+        line += &format!(" {}", number);
+    }
+    line.into_bytes()
+}
+
+pub fn append(line: &mut Vec<u8>, number: u64) {
+    line.extend_from_slice(format!(" {}", number).as_bytes());
+}
+
+/// A word and a roll.
+pub fn with_roll(word: &str, roll: &[u8]) -> Vec<u8> {
+    let mut line = format!("{} ", word).into_bytes();
+    parse::write_roll(&mut line, roll);
+    line
+}
+
+pub fn append_float(random: &mut Random, line: &mut Vec<u8>, float: f64) {
+    line.push(b' ');
+    if random.once_in(10) {
+        line.extend_from_slice(format!("{:x}", float.to_bits()).as_bytes());
+    } else {
+        parse::write_float(line, float);
+    }
+}
+
+pub fn append_centres(random: &mut Random, line: &mut Vec<u8>, centres: &[Centre; 4]) {
+    for centre in centres {
+        for &x in &centre.r {
+            append_float(random, line, x);
+        }
+        append_float(random, line, centre.z);
+    }
+}
+
+/// BUFFER and START around every boundary for an output of `need` bytes.
+pub fn append_room(random: &mut Random, line: &mut Vec<u8>, need: u64) {
+    let most = LARGEST_BUFFER as u64;
+    let start = match random.below(6) {
+        0 | 1 => 0,
+        2 => random.below(300),
+        3 => random.below(most + 1),
+        4 => random.from_to(most - 50, most + 2),
+        _ => random.one_of(&[1 << 32, (1 << 32) + 1, u64::MAX, u64::MAX - 1, 1 << 63]),
+    };
+    let exact = start.saturating_add(need);
+    let buffer = match random.below(9) {
+        0 => 0,
+        1 => exact.saturating_sub(1),
+        2 | 3 => exact,
+        4 => exact.saturating_add(1),
+        // The start at the end, and one beyond it.
+        5 => start,
+        6 => start.saturating_sub(1),
+        7 => most,
+        _ => random.below(most + 2),
+    };
+    // Mostly within what a question may lend.
+    let buffer = if random.once_in(40) {
+        buffer
+    } else {
+        buffer.min(most)
+    };
+    append(line, buffer);
+    append(line, start);
+}
+
+pub fn append_floats(random: &mut Random, line: &mut Vec<u8>, taste: Taste, count: u64) {
+    // A taste of any bits would spoil every large matrix at once: one such float is enough.
+    let calm = match taste {
+        Taste::Any => Taste::Ordinary,
+        other => other,
+    };
+    let wild = random.below(count.max(1));
+    for at in 0..count {
+        let taste = if at == wild { taste } else { calm };
+        let float = floats::float(random, taste);
+        append_float(random, line, float);
+    }
+}
