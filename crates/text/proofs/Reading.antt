@@ -10,11 +10,11 @@ use borrow.Author.Tests.{lt-ltb, le-ltb, le-leb, lt-leb, eq-eqb, ne-eqb}
 use lib.Dec.{ltb, leb, eqb}
 use lib.ListN.{length, getD, drop, drop-of-length-le}
 use lib.Seq.{drop-cons}
+use Rattle.laws.proofs.Cases.{tested}
 use Rattle.text.specs.declared.Parsed.{Parsed}
 use Rattle.text.specs.declared.Parsed.the-variants.{Is, Not}
 use Rattle.text.specs.Digits.{worth, valueFrom, decimalOf}
-use Rattle.text.specs.Reading.{runOf, numberOf, decimalAt, hexAt}
-use Rattle.text.proofs.Writing.{tested}
+use Rattle.text.specs.Reading.{runOf, valueAt, decimalAt, hexAt}
 
 run-more : (s : List ℕ) (base i d : ℕ) → i < length s → d ≡ worth (getD s i 0) → d < base
     → runOf base (drop i s) ≡ getD s i 0 ∷ runOf base (drop (i + 1) s)
@@ -48,8 +48,8 @@ upto-more s base at i n d u h e k fits =
     }
 
 read-whole : (s : List ℕ) (base at i n : ℕ) → Upto s base at i n → runOf base (drop i s) ≡ []
-    → Is n i ≡ numberOf base at (runOf base (drop at s))
-unfolding numberOf
+    → Is n i ≡ valueAt (runOf base (drop at s)) at base
+unfolding valueAt
 read-whole s base at i n u none =
     let v : n ≡ valueFrom base 0 (runOf base (drop at s)) = sym (ap (valueFrom base n) none) ∙ u .value in
     let p : i ≡ at + length (runOf base (drop at s)) = omega (arith, u .place, ap length none) in
@@ -61,8 +61,8 @@ value-grows base v (x ∷ xs) h =
     le-trans (let k : v ≤ v * base = le-mul-of-pos-right v h in omega arith) (value-grows base (v * base + worth x) xs h)
 
 read-large : (s : List ℕ) (base at i n d : ℕ) → Upto s base at i n → i < length s → d ≡ worth (getD s i 0) → d < base
-    → 2 ^ 64 ≤ n * base + d → Not ≡ numberOf base at (runOf base (drop at s))
-unfolding numberOf
+    → 2 ^ 64 ≤ n * base + d → Not ≡ valueAt (runOf base (drop at s)) at base
+unfolding valueAt
 read-large s base at i n d u h e k large =
     let more : runOf base (drop i s) ≡ getD s i 0 ∷ runOf base (drop (i + 1) s) = run-more s base i d h e k in
     let v : valueFrom base (n * base + worth (getD s i 0)) (runOf base (drop (i + 1) s)) ≡ valueFrom base 0 (runOf base (drop at s)) =
@@ -72,10 +72,10 @@ read-large s base at i n d u h e k large =
     rw (le-ltb (valueFrom base 0 (runOf base (drop at s))) (2 ^ 64) (omega (arith, e)))
 
 pub read-stop : (s : List ℕ) (base at i n d : ℕ) → Upto s base at i n → i < length s → d ≡ worth (getD s i 0) → base ≤ d
-    → Is n i ≡ numberOf base at (runOf base (drop at s))
+    → Is n i ≡ valueAt (runOf base (drop at s)) at base
 read-stop s base at i n d u h e k = read-whole s base at i n u (run-end s base i d h e k)
 
-pub read-past : (s : List ℕ) (base at i n : ℕ) → Upto s base at i n → length s ≤ i → Is n i ≡ numberOf base at (runOf base (drop at s))
+pub read-past : (s : List ℕ) (base at i n : ℕ) → Upto s base at i n → length s ≤ i → Is n i ≡ valueAt (runOf base (drop at s)) at base
 read-past s base at i n u h = read-whole s base at i n u (run-past s base i h)
 
 -- ---- a digit more fits 64 bits, or the number does not
@@ -98,38 +98,38 @@ pub upto-again : (s : List ℕ) (base at i n d : ℕ) → Upto s base at i n →
 upto-again s base at i n d u h e k b small fits = upto-more s base at i n d u h e k (digit-fits base n d b small fits)
 
 pub read-over : (s : List ℕ) (base at i n d : ℕ) → Upto s base at i n → i < length s → d ≡ worth (getD s i 0) → d < base
-    → 1 < base → d ≤ 16 → (18446744073709551615 - d) / base < n → Not ≡ numberOf base at (runOf base (drop at s))
+    → 1 < base → d ≤ 16 → (18446744073709551615 - d) / base < n → Not ≡ valueAt (runOf base (drop at s)) at base
 read-over s base at i n d u h e k b small over = read-large s base at i n d u h e k (digit-over base n d b small over)
 
 -- ---- a run that was read, as a decimal and as a hexadecimal number
 
-is-value : (base at n next : ℕ) (run : List ℕ) (r : Parsed) → r ≡ numberOf base at run → r ≡ Is n next → n ≡ valueFrom base 0 run
-unfolding numberOf
+is-value : (base at n next : ℕ) (run : List ℕ) (r : Parsed) → r ≡ valueAt run at base → r ≡ Is n next → n ≡ valueFrom base 0 run
+unfolding valueAt
 is-value base at n next run r e i =
     tested (ltb (valueFrom base 0 run) (2 ^ 64))
     (λ t. let k : r ≡ Is (valueFrom base 0 run) (at + length run) = e ∙ rw t in cc)
     (λ f. let k : r ≡ Not = e ∙ rw f in cc)
 
-is-place : (base at n next : ℕ) (run : List ℕ) (r : Parsed) → r ≡ numberOf base at run → r ≡ Is n next → next ≡ at + length run
-unfolding numberOf
+is-place : (base at n next : ℕ) (run : List ℕ) (r : Parsed) → r ≡ valueAt run at base → r ≡ Is n next → next ≡ at + length run
+unfolding valueAt
 is-place base at n next run r e i =
     tested (ltb (valueFrom base 0 run) (2 ^ 64))
     (λ t. let k : r ≡ Is (valueFrom base 0 run) (at + length run) = e ∙ rw t in cc)
     (λ f. let k : r ≡ Not = e ∙ rw f in cc)
 
-pub after-start : (base at n next : ℕ) (run : List ℕ) (r : Parsed) → r ≡ numberOf base at run → r ≡ Is n next → at ≤ next
+pub after-start : (base at n next : ℕ) (run : List ℕ) (r : Parsed) → r ≡ valueAt run at base → r ≡ Is n next → at ≤ next
 after-start base at n next run r e i = let p : next ≡ at + length run = is-place base at n next run r e i in omega arith
 
 either-not : (b : Bool) → Not ≡ cond b Not Not
 either-not true = refl
 either-not false = refl
 
-pub decimal-not : (s : List ℕ) (at : ℕ) (r : Parsed) → r ≡ numberOf 10 at (runOf 10 (drop at s)) → r ≡ Not → Not ≡ decimalAt s at
+pub decimal-not : (s : List ℕ) (at : ℕ) (r : Parsed) → r ≡ valueAt (runOf 10 (drop at s)) at 10 → r ≡ Not → Not ≡ decimalAt s at
 unfolding decimalAt
 decimal-not s at r e h =
     rw (← (sym h ∙ e)) (either-not (eqb (length (decimalOf (valueFrom 10 0 (runOf 10 (drop at s))))) (length (runOf 10 (drop at s)))))
 
-pub decimal-is : (s : List ℕ) (at n next k : ℕ) (r : Parsed) → r ≡ numberOf 10 at (runOf 10 (drop at s)) → r ≡ Is n next
+pub decimal-is : (s : List ℕ) (at n next k : ℕ) (r : Parsed) → r ≡ valueAt (runOf 10 (drop at s)) at 10 → r ≡ Is n next
     → k ≡ length (decimalOf n) → k ≡ next - at → Is n next ≡ decimalAt s at
 unfolding decimalAt
 decimal-is s at n next k r e i places same =
@@ -137,7 +137,7 @@ decimal-is s at n next k r e i places same =
     let p : next ≡ at + length (runOf 10 (drop at s)) = is-place 10 at n next _ r e i in
     sym i ∙ e ∙ rw (← v) (rw (eq-eqb (length (decimalOf n)) (length (runOf 10 (drop at s))) (omega arith)))
 
-pub decimal-long-not : (s : List ℕ) (at n next k : ℕ) (r : Parsed) → r ≡ numberOf 10 at (runOf 10 (drop at s)) → r ≡ Is n next
+pub decimal-long-not : (s : List ℕ) (at n next k : ℕ) (r : Parsed) → r ≡ valueAt (runOf 10 (drop at s)) at 10 → r ≡ Is n next
     → k ≡ length (decimalOf n) → (k ≡ next - at → ⊥) → Not ≡ decimalAt s at
 unfolding decimalAt
 decimal-long-not s at n next k r e i places other =
@@ -145,27 +145,27 @@ decimal-long-not s at n next k r e i places other =
     let p : next ≡ at + length (runOf 10 (drop at s)) = is-place 10 at n next _ r e i in
     rw (← v) (rw (ne-eqb (length (decimalOf n)) (length (runOf 10 (drop at s))) (λ q. other (omega arith))))
 
-pub hex-not : (s : List ℕ) (at : ℕ) (r : Parsed) → r ≡ numberOf 16 at (runOf 16 (drop at s)) → r ≡ Not → Not ≡ hexAt s at
+pub hex-not : (s : List ℕ) (at : ℕ) (r : Parsed) → r ≡ valueAt (runOf 16 (drop at s)) at 16 → r ≡ Not → Not ≡ hexAt s at
 unfolding hexAt
 hex-not s at r e h =
     rw (← (sym h ∙ e), ← (either-not (leb (length (runOf 16 (drop at s))) 16)))
     (either-not (leb 1 (length (runOf 16 (drop at s)))))
 
-pub hex-none : (s : List ℕ) (at n next : ℕ) (r : Parsed) → r ≡ numberOf 16 at (runOf 16 (drop at s)) → r ≡ Is n next → next ≡ at
+pub hex-none : (s : List ℕ) (at n next : ℕ) (r : Parsed) → r ≡ valueAt (runOf 16 (drop at s)) at 16 → r ≡ Is n next → next ≡ at
     → Not ≡ hexAt s at
 unfolding hexAt
 hex-none s at n next r e i none =
     let p : next ≡ at + length (runOf 16 (drop at s)) = is-place 16 at n next _ r e i in
     rw (lt-leb 1 (length (runOf 16 (drop at s))) (omega arith))
 
-pub hex-many : (s : List ℕ) (at n next : ℕ) (r : Parsed) → r ≡ numberOf 16 at (runOf 16 (drop at s)) → r ≡ Is n next → 16 < next - at
+pub hex-many : (s : List ℕ) (at n next : ℕ) (r : Parsed) → r ≡ valueAt (runOf 16 (drop at s)) at 16 → r ≡ Is n next → 16 < next - at
     → Not ≡ hexAt s at
 unfolding hexAt
 hex-many s at n next r e i many =
     let p : next ≡ at + length (runOf 16 (drop at s)) = is-place 16 at n next _ r e i in
     rw (le-leb 1 (length (runOf 16 (drop at s))) (omega arith), lt-leb (length (runOf 16 (drop at s))) 16 (omega arith))
 
-pub hex-is : (s : List ℕ) (at n next : ℕ) (r : Parsed) → r ≡ numberOf 16 at (runOf 16 (drop at s)) → r ≡ Is n next
+pub hex-is : (s : List ℕ) (at n next : ℕ) (r : Parsed) → r ≡ valueAt (runOf 16 (drop at s)) at 16 → r ≡ Is n next
     → (next ≡ at → ⊥) → next - at ≤ 16 → Is n next ≡ hexAt s at
 unfolding hexAt
 hex-is s at n next r e i some few =

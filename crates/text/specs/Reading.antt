@@ -18,17 +18,17 @@ runOf base (b ∷ bs) =
     ]
 
 -- the number that digits at a place are worth, with the place after them, below 2^64
-unfoldable pub numberOf : ℕ → ℕ → List ℕ → Parsed
-numberOf base at run = cond (ltb (valueFrom base 0 run) (2 ^ 64)) (Is (valueFrom base 0 run) (at + length run)) Not
+unfoldable pub valueAt : List ℕ → ℕ → ℕ → Parsed
+valueAt run at base = cond (ltb (valueFrom base 0 run) (2 ^ 64)) (Is (valueFrom base 0 run) (at + length run)) Not
 
 -- there are digits, and they have no leading zeros: as many as the number has
 unfoldable pub decimalAt : List ℕ → ℕ → Parsed
 decimalAt s at =
     let run : List ℕ = runOf 10 (drop at s) in
-    cond (eqb (length (decimalOf (valueFrom 10 0 run))) (length run)) (numberOf 10 at run) Not
+    cond (eqb (length (decimalOf (valueFrom 10 0 run))) (length run)) (valueAt run at 10) Not
 
 -- there are one to sixteen digits
 unfoldable pub hexAt : List ℕ → ℕ → Parsed
 hexAt s at =
     let run : List ℕ = runOf 16 (drop at s) in
-    cond (leb 1 (length run)) (cond (leb (length run) 16) (numberOf 16 at run) Not) Not
+    cond (leb 1 (length run)) (cond (leb (length run) 16) (valueAt run at 16) Not) Not
