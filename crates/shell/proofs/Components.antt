@@ -7,15 +7,15 @@ use borrow.Author.Tests.{lt-ltb, le-ltb, ltb-false}
 use lib.Dec.{ltb}
 use lib.ListN.{replicate}
 use Rattle.kind.specs.Limits.{mostOrder}
-use Rattle.laws.proofs.Cases.{neither}
+use Rattle.laws.proofs.Cases.{or-false-both}
 use Rattle.shell.specs.declared.Component.{Component}
 use Rattle.shell.specs.Shells.{descending, triples, beside, pairs, quadruples, refused, component, shell2Of, shell4Of}
 
 pub low-first : (a b : ℕ) (r : Bool) → r ≡ (ltb mostOrder a || ltb mostOrder b) → r ≡ false → a ≤ mostOrder
-low-first a b r is e = ltb-false mostOrder a (neither (ltb mostOrder a) (ltb mostOrder b) (sym is ∙ e) .0)
+low-first a b r is e = ltb-false mostOrder a (or-false-both (ltb mostOrder a) (ltb mostOrder b) (sym is ∙ e) .0)
 
 pub low-second : (a b : ℕ) (r : Bool) → r ≡ (ltb mostOrder a || ltb mostOrder b) → r ≡ false → b ≤ mostOrder
-low-second a b r is e = ltb-false mostOrder b (neither (ltb mostOrder a) (ltb mostOrder b) (sym is ∙ e) .1)
+low-second a b r is e = ltb-false mostOrder b (or-false-both (ltb mostOrder a) (ltb mostOrder b) (sym is ∙ e) .1)
 
 pub high-first : (a b : ℕ) → mostOrder < a → true ≡ (ltb mostOrder a || ltb mostOrder b)
 high-first a b above = simp (lt-ltb mostOrder a above)
