@@ -1,8 +1,8 @@
--- `checked` meets its contract: a law for each way out. Assumes nothing.
+-- `checked_table` meets its contract: a law for each way out. Assumes nothing.
 use Rattle.geometry.proofs.Checks.{refused-float, refused-exponent, refused-geometry, passed}
 use borrow.Author.Needs.{needs}
-use Rattle.geometry.proofs.checked.Statement.{statement}
-use Rattle.geometry.proofs.checked.Tie as tie
+use Rattle.geometry.proofs.checked_table.Statement.{statement}
+use Rattle.geometry.proofs.checked_table.Tie as tie
 
 used-finite-requires : tie.Need-used-finite-requires
 used-finite-requires c κs = search needs
@@ -40,8 +40,8 @@ returns-3 c = search refused-geometry
 returns-4 : tie.Need-returns-4
 returns-4 c = search passed
 
-pub checked-spec : {M : Type 1} → statement M
-checked-spec =
+pub checked-table-spec : {M : Type 1} → statement M
+checked-table-spec =
     tie.close
     (tie.spec
     used-finite-requires
