@@ -23,13 +23,13 @@ use Rattle.roll.specs.Answers.{openOf, checkOf, stepOf as stepBelow}
 use Rattle.geometry.specs.declared.Centre.{Centre}
 use Rattle.geometry.specs.declared.Tabled.the-variants as given
 use Rattle.geometry.specs.declared.Table.{Table}
-use Rattle.geometry.specs.Checks.{prefactorsOf}
+use Rattle.geometry.specs.Checks.{prefactorTableOf}
 use Rattle.geometry.specs.Floats.{zero}
 use Rattle.integrals.specs.declared.Value.{Value}
 use Rattle.integrals.specs.declared.Value.the-variants as value
 use Rattle.integrals.specs.Evaluation.{evaluateOf}
 use Rattle.jk.specs.declared.Answer.{Answer}
-use Rattle.jk.specs.Outcome.{Outcome, outcome, jkOf, numberOf as jkNumber}
+use Rattle.jk.specs.Outcome.{Outcome, outcome, jkOf, refusalOf as jkNumber}
 use Rattle.xewumbal.specs.declared.xew_centre.{«xew_centre»}
 use Rattle.xewumbal.specs.declared.xew_written.{«xew_written»}
 use Rattle.xewumbal.specs.declared.xew_value.{«xew_value»}
@@ -120,10 +120,10 @@ unfolding nextAnswer
 next-answered c roll below s x at told is = is ∙ ap stepOf (told ∙ ap (λ (b : Cursor). stepBelow b roll) at)
 
 module _ (a b c d : «xew_centre») (p q r s : Centre) where
-  pub prefactors-answered : (kind : ℕ) (t : Table) (x : «xew_table») → p ≡ centreOf a → q ≡ centreOf b → r ≡ centreOf c → s ≡ centreOf d → t ≡ prefactorsOf kind p q r s → x ≡ tableOf t → x ≡ prefactorsAnswer kind a b c d
+  pub prefactors-answered : (kind : ℕ) (t : Table) (x : «xew_table») → p ≡ centreOf a → q ≡ centreOf b → r ≡ centreOf c → s ≡ centreOf d → t ≡ prefactorTableOf kind p q r s → x ≡ tableOf t → x ≡ prefactorsAnswer kind a b c d
   unfolding prefactorsAnswer
   prefactors-answered kind t x pa qb rc sd told is =
-      let same : t ≡ prefactorsOf kind (centreOf a) (centreOf b) (centreOf c) (centreOf d) = cc (told, pa, qb, rc, sd) in
+      let same : t ≡ prefactorTableOf kind (centreOf a) (centreOf b) (centreOf c) (centreOf d) = cc (told, pa, qb, rc, sd) in
       is ∙ ap tableOf same
 
   pub evaluate-answered : (roll : List ℕ) (aux : Float) (boys : List Float) (v : Value) (x : «xew_value») → p ≡ centreOf a → q ≡ centreOf b → r ≡ centreOf c → s ≡ centreOf d → v ≡ evaluateOf roll p q r s aux boys → x ≡ valueOf v → x ≡ evaluateAnswer roll a b c d aux boys

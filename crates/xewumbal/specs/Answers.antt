@@ -23,10 +23,10 @@ use Rattle.roll.specs.declared.Opened.{Opened}
 use Rattle.roll.specs.Answers.{openOf, checkOf, stepOf as stepBelow}
 use Rattle.geometry.specs.declared.Centre.{Centre}
 use Rattle.geometry.specs.declared.Table.{Table}
-use Rattle.geometry.specs.Checks.{prefactorsOf, numberOf as tableNumber}
+use Rattle.geometry.specs.Checks.{prefactorTableOf, refusalOf as tableNumber}
 use Rattle.integrals.specs.declared.Value.{Value}
 use Rattle.integrals.specs.Evaluation.{evaluateOf, floatOf, placeOf, numberOf as valueNumber}
-use Rattle.jk.specs.Outcome.{jkOf, numberOf as jkNumber}
+use Rattle.jk.specs.Outcome.{jkOf, refusalOf as jkNumber}
 use Rattle.xewumbal.specs.declared.xew_centre.{«xew_centre»}
 use Rattle.xewumbal.specs.declared.xew_written.{«xew_written»}
 use Rattle.xewumbal.specs.declared.xew_value.{«xew_value»}
@@ -134,7 +134,7 @@ abbrev pub tableOf : Table → «xew_table»
 tableOf t = record { entries = t .entries; refusal = tableNumber (t .found) }
 
 unfoldable pub prefactorsAnswer : ℕ → «xew_centre» → «xew_centre» → «xew_centre» → «xew_centre» → «xew_table»
-prefactorsAnswer kind a b c d = tableOf (prefactorsOf kind (centreOf a) (centreOf b) (centreOf c) (centreOf d))
+prefactorsAnswer kind a b c d = tableOf (prefactorTableOf kind (centreOf a) (centreOf b) (centreOf c) (centreOf d))
 
 -- ---- xew_evaluate: the integral, and a refusal with its place
 
