@@ -120,25 +120,25 @@ decimal-number m n e = sym (decimal-value m) ∙ ap (valueFrom 10 0) e ∙ decim
 
 -- ---- reading back
 
-run-digit : (base d : ℕ) (rest : List ℕ) → base ≤ 16 → d < base → runOf base (glyph d ∷ rest) ≡ glyph d ∷ runOf base rest
+run-digit : (base d : ℕ) (rest : List ℕ) → base ≤ 16 → d < base → runOf (glyph d ∷ rest) base ≡ glyph d ∷ runOf rest base
 run-digit base d rest b h = rw (worth-glyph d (omega arith), runOf) (rw (lt-ltb d base h))
 
-run-digits : (base k n : ℕ) (rest : List ℕ) → 1 < base → base ≤ 16 → runOf base (digits base k n ++ rest) ≡ digits base k n ++ runOf base rest
+run-digits : (base k n : ℕ) (rest : List ℕ) → 1 < base → base ≤ 16 → runOf (digits base k n ++ rest) base ≡ digits base k n ++ runOf rest base
 run-digits base zero n rest a b = refl
 run-digits base (suc k) n rest a b =
     rw (append-assoc, append-assoc)
     (run-digits base k (n / base) (glyph (n % base) ∷ rest) a b
     ∙ ap (λ (l : List ℕ). digits base k (n / base) ++ l) (run-digit base (n % base) rest b (mod-lt n (omega arith))))
 
-run-decimal : (n : ℕ) (rest : List ℕ) → runOf 10 (decimalOf n ++ rest) ≡ decimalOf n ++ runOf 10 rest
+run-decimal : (n : ℕ) (rest : List ℕ) → runOf (decimalOf n ++ rest) 10 ≡ decimalOf n ++ runOf rest 10
 run-decimal n rest = rw (decimal-digits n) at (run-digits 10 (length (decimalOf n)) n rest (omega arith) (omega arith))
 
 -- a decimal that stands at a place, with no digit after it, reads as its number and the place after it
-pub decimal-back : (before rest : List ℕ) (n : ℕ) → n < 2 ^ 64 → runOf 10 rest ≡ []
+pub decimal-back : (before rest : List ℕ) (n : ℕ) → n < 2 ^ 64 → runOf rest 10 ≡ []
     → decimalAt (before ++ (decimalOf n ++ rest)) (length before) ≡ Is n (length before + length (decimalOf n))
 unfolding decimalAt valueAt
 decimal-back before rest n small none =
-    let run : runOf 10 (drop (length before) (before ++ (decimalOf n ++ rest))) ≡ decimalOf n =
+    let run : runOf (drop (length before) (before ++ (decimalOf n ++ rest))) 10 ≡ decimalOf n =
     rw (drop-append-seam before (decimalOf n ++ rest)) (run-decimal n rest ∙ rw none (append-nil (decimalOf n))) in
     rw (run, decimal-value n, eq-eqb (length (decimalOf n)) (length (decimalOf n)) refl, lt-ltb n (2 ^ 64) small)
 
@@ -151,10 +151,10 @@ value-digits base (suc k) n a b h =
     ∙ rw (value-digits base k (n / base) a b below, worth-glyph (n % base) last) (div-add-mod' n base)
 
 -- so does a word in sixteen hexadecimal digits
-pub word-back : (before rest : List ℕ) (n : ℕ) → n < 2 ^ 64 → runOf 16 rest ≡ []
+pub word-back : (before rest : List ℕ) (n : ℕ) → n < 2 ^ 64 → runOf rest 16 ≡ []
     → hexAt (before ++ (digits 16 16 n ++ rest)) (length before) ≡ Is n (length before + 16)
 unfolding hexAt valueAt
 word-back before rest n small none =
-    let run : runOf 16 (drop (length before) (before ++ (digits 16 16 n ++ rest))) ≡ digits 16 16 n =
+    let run : runOf (drop (length before) (before ++ (digits 16 16 n ++ rest))) 16 ≡ digits 16 16 n =
     rw (drop-append-seam before (digits 16 16 n ++ rest)) (run-digits 16 16 n rest (omega arith) (omega arith) ∙ rw none (append-nil (digits 16 16 n))) in
     rw (run, length-digits 16 16 n, value-digits 16 16 n (omega arith) (omega arith) small, lt-ltb n (2 ^ 64) small)

@@ -14,7 +14,7 @@ use lib.Seq.{sets, drop-cons}
 use Rattle.laws.specs.Placed.{roomFor}
 use Rattle.laws.proofs.Cases.{tested}
 use Rattle.laws.proofs.Lists.{sets-last}
-use Rattle.laws.proofs.Parts.{sets-placed}
+use Rattle.laws.proofs.Parts.{room-placed, no-room-placed}
 use Rattle.text.specs.declared.Written.the-variants.{To, NoRoom}
 use Rattle.text.specs.Digits.{glyph, digits}
 use Rattle.text.specs.Writing.{WrittenTold}
@@ -82,14 +82,14 @@ wrote-bytes before after text at t stored e h =
     let room : roomFor before at (length text) ≡ true = sym e ∙ h in
     record {
       answer = rw room;
-      out = stored ∙ sets-placed text before at (leb-true _ _ room) ∙ rw room;
+      out = stored ∙ room-placed text before at room;
     }
 
 pub wrote-none : (before text : List ℕ) (at : ℕ) (t : Bool) → t ≡ leb (at + length text) (length before) → t ≡ false
     → WrittenTold before at text NoRoom before
 wrote-none before text at t e h =
     let room : roomFor before at (length text) ≡ false = sym e ∙ h in
-    record { answer = rw room; out = rw room }
+    record { answer = rw room; out = no-room-placed text before at room }
 
 pub wrote-digits : (before after : List ℕ) (base k n at : ℕ) (t : Bool) → after ≡ sets before at (digits base k n)
     → t ≡ leb (at + k) (length before) → t ≡ true → WrittenTold before at (digits base k n) (To (at + k)) after

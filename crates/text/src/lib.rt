@@ -182,7 +182,7 @@ fn worth(byte: u8) -> u64
 // The digits of `base` from `at` on: their number and the place after them.
 fn read_run(s: &[u8], at: usize, base: u64) -> Parsed
     requires { ⌜ (1 < base) × (base ≤ 16) ⌝ }
-    ensures { λ r. ⌜ r ≡ valueAt (runOf base (drop at (now (s .entry)))) at base ⌝ }
+    ensures { λ r. ⌜ r ≡ valueAt (runOf (drop at (now (s .entry))) base) at base ⌝ }
 {
     let mut n: u64 = 0;
     let mut i = at;
