@@ -48,12 +48,12 @@ unfolding beside flatMap
 beside-one [] z = refl
 beside-one (x ∷ xs) z = ap (λ (l : List (List ℕ)). (x ++ z) ∷ l) (beside-one xs z)
 
-nothing : pairs 0 0 ≡ replicate 6 0 ∷ []
+pairs-of-zero : pairs 0 0 ≡ replicate 6 0 ∷ []
 unfolding beside flatMap triples descending
-nothing = refl
+pairs-of-zero = refl
 
 pub pair-of-four : (a b number : ℕ) (x : Component) → x ≡ shell4Of a b 0 0 number → x ≡ shell2Of a b number
 unfolding shell4Of shell2Of
 pair-of-four a b number x answer =
-    let list : quadruples a b 0 0 ≡ map (λ (pair : List ℕ). pair ++ replicate 6 0) (pairs a b) = ap (beside (pairs a b)) nothing ∙ beside-one (pairs a b) (replicate 6 0) in
+    let list : quadruples a b 0 0 ≡ map (λ (pair : List ℕ). pair ++ replicate 6 0) (pairs a b) = ap (beside (pairs a b)) pairs-of-zero ∙ beside-one (pairs a b) (replicate 6 0) in
     rw answer (rw (list, or-false (ltb mostOrder a || ltb mostOrder b)))

@@ -2,7 +2,7 @@
 use borrow.Author.Needs.{needs}
 use Rattle.kind.proofs.Kind.most_prefactors.Statement.{statement}
 use Rattle.kind.proofs.Kind.most_prefactors.Tie as tie
-use Rattle.kind.proofs.Laws.{most-kinetic}
+use Rattle.kind.proofs.KindNumber.{most-kinetic}
 
 enum-told : tie.Need-enum-told
 enum-told c = search needs
