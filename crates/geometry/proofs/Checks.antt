@@ -1,9 +1,8 @@
 -- The prefactor table that is handed out: one law for each way out of the checks.
 use Prim.Native.Nat.{ℕ}
 use mathlib.Core.Path.{_≡_, sym, ap, _∙_}
-use mathlib.Core.Bool.{Bool, true, false, not, _&&_}
+use mathlib.Core.Bool.{Bool, true, false, _&&_}
 use mathlib.Core.List.{List, _++_}
-use borrow.Author.Tests.{not-true, not-false}
 use lib.Ieee.{Float}
 use Rattle.laws.specs.Unless.{unless}
 use Rattle.kind.specs.declared.Kind.{Kind}
@@ -21,13 +20,13 @@ use Rattle.geometry.specs.Checks.{usedFinite, exponentsAboveZero, finite
 use Rattle.geometry.proofs.FiniteFloats.{finite-both, finite-places}
 
 module _ (k : Kind) (a b c d : Centre) where
-  pub refused-float : (s : Bool) (r : Table) → s ≡ usedFinite k a b c d → not s ≡ true → r ≡ refused 8 → r ≡ checkedTable k a b c d
+  pub refused-float : (s : Bool) (r : Table) → s ≡ usedFinite k a b c d → s ≡ false → r ≡ refused 8 → r ≡ checkedTable k a b c d
   unfolding checkedTable unless
-  refused-float s r e p f = rw (← e, not-true s p) f
+  refused-float s r e p f = rw (← e, p) f
 
-  pub refused-exponent : (s t : Bool) (r : Table) → s ≡ usedFinite k a b c d → not s ≡ false → t ≡ exponentsAboveZero k a b c d → not t ≡ true → r ≡ refused 9 → r ≡ checkedTable k a b c d
+  pub refused-exponent : (s t : Bool) (r : Table) → s ≡ usedFinite k a b c d → s ≡ true → t ≡ exponentsAboveZero k a b c d → t ≡ false → r ≡ refused 9 → r ≡ checkedTable k a b c d
   unfolding checkedTable unless
-  refused-exponent s t r e p f q g = rw (← e, not-false s p, ← f, not-true t q) g
+  refused-exponent s t r e p f q g = rw (← e, p, ← f, q) g
 
   -- the zeros in the places left change nothing
   pub finite-table : (xs : List Float) (u : Bool) → xs ≡ inPlaces tablePlaces (prefac k a b c d) → u ≡ finiteWith k a b c d xs → u ≡ geometryFinite k a b c d
@@ -41,13 +40,13 @@ module _ (k : Kind) (a b c d : Centre) where
       ∙ ap (λ (v : Bool). allFinite own && v) (finite-places tablePlaces table)
       ∙ sym (finite-both own table)
 
-  pub refused-geometry : (s t u : Bool) (xs : List Float) (r : Table) → s ≡ usedFinite k a b c d → not s ≡ false → t ≡ exponentsAboveZero k a b c d → not t ≡ false → xs ≡ inPlaces tablePlaces (prefac k a b c d) → u ≡ finiteWith k a b c d xs → not u ≡ true → r ≡ refused 11 → r ≡ checkedTable k a b c d
+  pub refused-geometry : (s t u : Bool) (xs : List Float) (r : Table) → s ≡ usedFinite k a b c d → s ≡ true → t ≡ exponentsAboveZero k a b c d → t ≡ true → xs ≡ inPlaces tablePlaces (prefac k a b c d) → u ≡ finiteWith k a b c d xs → u ≡ false → r ≡ refused 11 → r ≡ checkedTable k a b c d
   unfolding checkedTable unless
-  refused-geometry s t u xs r e p f q i g o h = let j = finite-table xs u i g in rw (← e, not-false s p, ← f, not-false t q, ← j, not-true u o) h
+  refused-geometry s t u xs r e p f q i g o h = let j = finite-table xs u i g in rw (← e, p, ← f, q, ← j, o) h
 
-  pub passed : (s t u : Bool) (xs : List Float) → s ≡ usedFinite k a b c d → not s ≡ false → t ≡ exponentsAboveZero k a b c d → not t ≡ false → xs ≡ inPlaces tablePlaces (prefac k a b c d) → u ≡ finiteWith k a b c d xs → not u ≡ false → record { found = Given; entries = xs } ≡ checkedTable k a b c d
+  pub passed : (s t u : Bool) (xs : List Float) → s ≡ usedFinite k a b c d → s ≡ true → t ≡ exponentsAboveZero k a b c d → t ≡ true → xs ≡ inPlaces tablePlaces (prefac k a b c d) → u ≡ finiteWith k a b c d xs → u ≡ true → record { found = Given; entries = xs } ≡ checkedTable k a b c d
   unfolding checkedTable unless
-  passed s t u xs e p f q h g o = let j = finite-table xs u h g in rw (← e, not-false s p, ← f, not-false t q, ← j, not-false u o) (ap (λ (ys : List Float). record { found = Given; entries = ys }) h)
+  passed s t u xs e p f q h g o = let j = finite-table xs u h g in rw (← e, p, ← f, q, ← j, o) (ap (λ (ys : List Float). record { found = Given; entries = ys }) h)
 
   pub named : (kind : ℕ) (n : Named) (r : Table) → n ≡ kindOf kind → n ≡ Is k → r ≡ checkedTable k a b c d → r ≡ prefactorTableOf kind a b c d
   unfolding prefactorTableOf namedTableOf

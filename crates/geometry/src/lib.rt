@@ -242,20 +242,20 @@ fn refused(number: u8) -> Table
 fn checked_table(kind: Kind, a: Centre, b: Centre, c: Centre, d: Centre) -> Table
     ensures { λ r. ⌜ r ≡ checkedTable kind a b c d ⌝ }
 {
-    if !used_finite(kind, a, b, c, d) {
-        return refused(8);
-    }
-    if !exponents_above_zero(kind, a, b, c, d) {
+    if used_finite(kind, a, b, c, d) {
+        if exponents_above_zero(kind, a, b, c, d) {
+            let entries = prefac(kind, a, b, c, d);
+            if geometry_finite(kind, a, b, c, d, &entries) {
+                return Table {
+                    found: Tabled::Given,
+                    entries,
+                };
+            }
+            return refused(11);
+        }
         return refused(9);
     }
-    let entries = prefac(kind, a, b, c, d);
-    if !geometry_finite(kind, a, b, c, d, &entries) {
-        return refused(11);
-    }
-    Table {
-        found: Tabled::Given,
-        entries,
-    }
+    refused(8)
 }
 
 // The prefactor table of a kind's number, or 1, 8, 9 or 11.
