@@ -14,7 +14,7 @@ use Rattle.kind.specs.declared.Kind.the-variants.{Overlap, Kinetic, Nuclear, Mo
 use Rattle.kind.specs.Kinds.{numberOf, ordersOf}
 use Rattle.kind.specs.Limits.{mostOrder, mostL·any, mostTerms, requestOrders}
 use Rattle.laws.proofs.Lists.{sets-append}
-use Rattle.laws.proofs.Cases.{neither}
+use Rattle.laws.proofs.Cases.{or-false-both}
 use Rattle.kind.proofs.Within.{orders-within, number-within}
 use Rattle.term.specs.Terms.{Term}
 use Rattle.number.specs.Numbers.{bytesOf, lengthOf}
@@ -57,7 +57,7 @@ module _ (os : List ℕ) (twelve : length os ≡ requestOrders) where
   two-sums : (k : Kind) → stage k ≤ 1 → (above os A || above os B) ≡ false → ltb 0 (total (drop 6 os)) ≡ false → Sums k os
   two-sums k s e u =
       let t = all-total in
-      let n = neither (above os A) (above os B) e in
+      let n = or-false-both (above os A) (above os B) e in
       let a = ltb-false mostOrder (sumOf os A) (n .0) in
       let b = ltb-false mostOrder (sumOf os B) (n .1) in
       let r = ltb-false 0 (total (drop 6 os)) u in
@@ -72,8 +72,8 @@ module _ (os : List ℕ) (twelve : length os ≡ requestOrders) where
   sums Nuclear e u = two-sums Nuclear (omega arith) e u
   sums Moment e u =
       let t = all-total in
-      let m = neither (above os A || above os B) (above os C) e in
-      let n = neither (above os A) (above os B) (m .0) in
+      let m = or-false-both (above os A || above os B) (above os C) e in
+      let n = or-false-both (above os A) (above os B) (m .0) in
       let a = ltb-false mostOrder (sumOf os A) (n .0) in
       let b = ltb-false mostOrder (sumOf os B) (n .1) in
       let c = ltb-false mostOrder (sumOf os C) (m .1) in
@@ -83,9 +83,9 @@ module _ (os : List ℕ) (twelve : length os ≡ requestOrders) where
       record { of-a = a; of-b = b; of-c = c; of-d = omega arith; deep = omega arith }
   sums Coulomb e u =
       let t = all-total in
-      let q = neither ((above os A || above os B) || above os C) (above os D) e in
-      let m = neither (above os A || above os B) (above os C) (q .0) in
-      let n = neither (above os A) (above os B) (m .0) in
+      let q = or-false-both ((above os A || above os B) || above os C) (above os D) e in
+      let m = or-false-both (above os A || above os B) (above os C) (q .0) in
+      let n = or-false-both (above os A) (above os B) (m .0) in
       let a = ltb-false mostOrder (sumOf os A) (n .0) in
       let b = ltb-false mostOrder (sumOf os B) (n .1) in
       let c = ltb-false mostOrder (sumOf os C) (m .1) in

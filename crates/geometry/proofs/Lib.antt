@@ -1,3 +1,4 @@
-pub mod Laws
+pub mod FiniteFloats
+pub mod Numbered
 pub mod Checks
 pub mod Only

@@ -14,7 +14,7 @@ use Rattle.geometry.specs.declared.Table.{Table}
 use Rattle.geometry.specs.Floats.{allFinite, inPlaces}
 use Rattle.geometry.specs.Geometry.{pointOf, biCenter, r12Squared}
 use Rattle.geometry.specs.Tables.{prefac}
-use Rattle.geometry.specs.Checks.{usedFinite, exponentsAboveZero, finiteWith, prefactorsOf}
+use Rattle.geometry.specs.Checks.{usedFinite, exponentsAboveZero, finiteWith, prefactorTableOf}
 
 pub point-only : (c : Centre) {p q : Point} → p ≡ pointOf c → q ≡ pointOf c → p ≡ q
 point-only c = only
@@ -44,5 +44,5 @@ module _ (k : Kind) (a b c d : Centre) where
   pub geometry-finite-only : (entries : List Float) {p q : Bool} → p ≡ finiteWith k a b c d entries → q ≡ finiteWith k a b c d entries → p ≡ q
   geometry-finite-only entries = only
 
-pub prefactors-only : (kind : ℕ) (a b c d : Centre) {p q : Table} → p ≡ prefactorsOf kind a b c d → q ≡ prefactorsOf kind a b c d → p ≡ q
+pub prefactors-only : (kind : ℕ) (a b c d : Centre) {p q : Table} → p ≡ prefactorTableOf kind a b c d → q ≡ prefactorTableOf kind a b c d → p ≡ q
 prefactors-only kind a b c d = only

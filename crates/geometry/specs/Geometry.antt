@@ -72,12 +72,12 @@ abbrev pub coulombNumbers : Centre → Centre → Centre → Centre → List Flo
 coulombNumbers a b c d =
     zOf a b ∷ zOf c d ∷ coordinates (rpOf a b) ++ coordinates (rpOf c d) ++ coordinates (rwOf a b c d) ++ (rhoOf a b c d ∷ tOf a b c d ∷ [])
 
-unfoldable pub numbers : Kind → Centre → Centre → Centre → Centre → List Float
-numbers Overlap a b c d = pairNumbers a b
-numbers Kinetic a b c d = pairNumbers a b
-numbers Nuclear a b c d = nuclearNumbers a b c
-numbers Moment a b c d = momentNumbers a b
-numbers Coulomb a b c d = coulombNumbers a b c d
+unfoldable pub geometryNumbers : Kind → Centre → Centre → Centre → Centre → List Float
+geometryNumbers Overlap a b c d = pairNumbers a b
+geometryNumbers Kinetic a b c d = pairNumbers a b
+geometryNumbers Nuclear a b c d = nuclearNumbers a b c
+geometryNumbers Moment a b c d = momentNumbers a b
+geometryNumbers Coulomb a b c d = coulombNumbers a b c d
 
 -- room for the most geometry numbers of any kind, Coulomb's
 abbrev pub numberPlaces : ℕ

@@ -4,9 +4,9 @@ ghost use mathlib.Core.List.{[], _∷_, _++_};
 ghost use lib.Ieee.Scale.{finite};
 ghost use Rattle.kind.specs.Limits.{tablePlaces};
 ghost use Rattle.geometry.specs.Floats.{aboveZero, allFinite, allAboveZero, inPlaces};
-ghost use Rattle.geometry.specs.Geometry.{pointOf, biCenter, r12Squared, rpOf};
+ghost use Rattle.geometry.specs.Geometry.{pointOf, coordinates, biCenter, r12Squared, rpOf};
 ghost use Rattle.geometry.specs.Tables.{prefac};
-ghost use Rattle.geometry.specs.Checks.{place, whole, usedFinite, exponentsAboveZero, finiteWith, refused, checked, prefactorsOf};
+ghost use Rattle.geometry.specs.Checks.{whole, usedFinite, exponentsAboveZero, finiteWith, refused, checkedTable, prefactorTableOf};
 use kind::Kind;
 use kind::Named;
 
@@ -126,8 +126,8 @@ pub fn prefac(kind: Kind, a: Centre, b: Centre, c: Centre, d: Centre) -> [f64; K
 }
 
 // A centre whose exponent is not used.
-fn place_finite(c: Centre) -> bool
-    ensures { λ r. ⌜ r ≡ allFinite (place c) ⌝ }
+fn point_finite(c: Centre) -> bool
+    ensures { λ r. ⌜ r ≡ allFinite (coordinates (pointOf c)) ⌝ }
 {
     let floats = [c.x, c.y, c.z];
     all_finite(&floats)
@@ -150,10 +150,10 @@ fn pair_finite(a: Centre, b: Centre) -> bool
 }
 
 fn three_finite(a: Centre, b: Centre, c: Centre) -> bool
-    ensures { λ r. ⌜ r ≡ allFinite ((whole a ++ whole b) ++ place c) ⌝ }
+    ensures { λ r. ⌜ r ≡ allFinite ((whole a ++ whole b) ++ coordinates (pointOf c)) ⌝ }
 {
     if pair_finite(a, b) {
-        return place_finite(c);
+        return point_finite(c);
     }
     false
 }
@@ -239,31 +239,31 @@ fn refused(number: u8) -> Table
 }
 
 // Checks 8, 9 and 11 in their order, then the table.
-fn checked(kind: Kind, a: Centre, b: Centre, c: Centre, d: Centre) -> Table
-    ensures { λ r. ⌜ r ≡ checked kind a b c d ⌝ }
+fn checked_table(kind: Kind, a: Centre, b: Centre, c: Centre, d: Centre) -> Table
+    ensures { λ r. ⌜ r ≡ checkedTable kind a b c d ⌝ }
 {
-    if !used_finite(kind, a, b, c, d) {
-        return refused(8);
-    }
-    if !exponents_above_zero(kind, a, b, c, d) {
+    if used_finite(kind, a, b, c, d) {
+        if exponents_above_zero(kind, a, b, c, d) {
+            let entries = prefac(kind, a, b, c, d);
+            if geometry_finite(kind, a, b, c, d, &entries) {
+                return Table {
+                    found: Tabled::Given,
+                    entries,
+                };
+            }
+            return refused(11);
+        }
         return refused(9);
     }
-    let entries = prefac(kind, a, b, c, d);
-    if !geometry_finite(kind, a, b, c, d, &entries) {
-        return refused(11);
-    }
-    Table {
-        found: Tabled::Given,
-        entries,
-    }
+    refused(8)
 }
 
 // The prefactor table of a kind's number, or 1, 8, 9 or 11.
 pub fn prefactors(kind: u8, a: Centre, b: Centre, c: Centre, d: Centre) -> Table
-    ensures { λ r. ⌜ r ≡ prefactorsOf kind a b c d ⌝ }
+    ensures { λ r. ⌜ r ≡ prefactorTableOf kind a b c d ⌝ }
 {
     match Kind::of(kind) {
-        Named::Is(k) => checked(k, a, b, c, d),
+        Named::Is(k) => checked_table(k, a, b, c, d),
         Named::Unknown => refused(1),
     }
 }

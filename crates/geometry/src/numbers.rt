@@ -1,7 +1,7 @@
 // The geometry numbers of each kind, each as os86.rs writes it.
 ghost use mathlib.Core.Path.{_≡_};
 ghost use Rattle.geometry.specs.Floats.{inPlaces};
-ghost use Rattle.geometry.specs.Geometry.{pairNumbers, nuclearNumbers, momentNumbers, coulombNumbers, numbers, numberPlaces};
+ghost use Rattle.geometry.specs.Geometry.{pairNumbers, nuclearNumbers, momentNumbers, coulombNumbers, geometryNumbers, numberPlaces};
 use super::Centre;
 use super::bi_center_of;
 use super::get_bi_center;
@@ -118,7 +118,7 @@ pub(crate) fn geometry_numbers(
     c: Centre,
     d: Centre,
 ) -> [f64; NUMBERS]
-    ensures { λ r. ⌜ r ≡ inPlaces numberPlaces (numbers kind a b c d) ⌝ }
+    ensures { λ r. ⌜ r ≡ inPlaces numberPlaces (geometryNumbers kind a b c d) ⌝ }
 {
     match kind {
         Kind::Overlap => pair_numbers(a, b),

@@ -3,7 +3,7 @@ ghost use mathlib.Core.Path.{_≡_};
 ghost use Rattle.kind.specs.Limits.{tablePlaces};
 ghost use Rattle.geometry.specs.Floats.{_⊕_, _⊗_, _⊘_, inPlaces};
 ghost use Rattle.geometry.specs.Geometry.{biCenter, zOf, eOf, rpOf};
-ghost use Rattle.geometry.specs.Tables.{overlapTable, kineticTable, nuclearTable, momentTable, coulombTable};
+ghost use Rattle.geometry.specs.Tables.{values, overlapTable, kineticTable, nuclearTable, momentTable, coulombTable};
 use super::Centre;
 use super::Point;
 use super::bi_center_of;
@@ -11,7 +11,7 @@ use super::get_bi_center;
 use kind::Kind;
 
 pub(crate) fn overlap_table(rp: Point, z: f64, a: Centre, b: Centre) -> [f64; Kind::TABLE]
-    ensures { λ r. ⌜ r ≡ inPlaces tablePlaces (overlapTable rp z a b) ⌝ }
+    ensures { λ r. ⌜ r ≡ inPlaces tablePlaces (values (overlapTable rp z a b)) ⌝ }
 {
     [
         rp.x - a.x,
@@ -41,7 +41,7 @@ pub(crate) fn overlap_table(rp: Point, z: f64, a: Centre, b: Centre) -> [f64; Ki
 }
 
 pub(crate) fn kinetic_table(rp: Point, z: f64, a: Centre, b: Centre) -> [f64; Kind::TABLE]
-    ensures { λ r. ⌜ r ≡ inPlaces tablePlaces (kineticTable rp z (eOf a b) a b) ⌝ }
+    ensures { λ r. ⌜ r ≡ inPlaces tablePlaces (values (kineticTable rp z (eOf a b) a b)) ⌝ }
 {
     let za = a.exponent;
     let zb = b.exponent;
@@ -80,7 +80,7 @@ pub(crate) fn nuclear_table(
     b: Centre,
     c: Centre,
 ) -> [f64; Kind::TABLE]
-    ensures { λ r. ⌜ r ≡ inPlaces tablePlaces (nuclearTable rp z a b c) ⌝ }
+    ensures { λ r. ⌜ r ≡ inPlaces tablePlaces (values (nuclearTable rp z a b c)) ⌝ }
 {
     [
         rp.x - a.x,
@@ -110,7 +110,7 @@ pub(crate) fn nuclear_table(
 }
 
 pub(crate) fn moment_table(rp: Point, z: f64, a: Centre, b: Centre, c: Centre) -> [f64; Kind::TABLE]
-    ensures { λ r. ⌜ r ≡ inPlaces tablePlaces (momentTable rp z a b c) ⌝ }
+    ensures { λ r. ⌜ r ≡ inPlaces tablePlaces (values (momentTable rp z a b c)) ⌝ }
 {
     [
         rp.x - a.x,
@@ -139,20 +139,25 @@ pub(crate) fn moment_table(rp: Point, z: f64, a: Centre, b: Centre, c: Centre) -
     ]
 }
 
-fn coulomb_entries(
+// The geometry numbers that Coulomb's table is made of: of A with B, of C with D, and of both pairs.
+struct Pairs {
     rp: Point,
     rq: Point,
     rw: Point,
     z: f64,
     n: f64,
     rho: f64,
-    a: Centre,
-    b: Centre,
-    c: Centre,
-    d: Centre,
-) -> [f64; Kind::TABLE]
-    ensures { λ r. ⌜ r ≡ coulombTable rp rq rw z n rho a b c d ⌝ }
+}
+
+fn coulomb_entries(p: Pairs, a: Centre, b: Centre, c: Centre, d: Centre) -> [f64; Kind::TABLE]
+    ensures { λ r. ⌜ r ≡ values (coulombTable (p .rp) (p .rq) (p .rw) (p .z) (p .n) (p .rho) a b c d) ⌝ }
 {
+    let rp = p.rp;
+    let rq = p.rq;
+    let rw = p.rw;
+    let z = p.z;
+    let n = p.n;
+    let rho = p.rho;
     [
         rp.x - a.x,
         rp.x - b.x,
@@ -188,11 +193,19 @@ pub(crate) fn coulomb_table(
     c: Centre,
     d: Centre,
 ) -> [f64; Kind::TABLE]
-    ensures { λ r. ⌜ r ≡ inPlaces tablePlaces (coulombTable rp (rpOf c d) (biCenter z (zOf c d) rp (rpOf c d)) z (zOf c d) (z ⊗ zOf c d ⊘ (z ⊕ zOf c d)) a b c d) ⌝ }
+    ensures { λ r. ⌜ r ≡ inPlaces tablePlaces (values (coulombTable rp (rpOf c d) (biCenter z (zOf c d) rp (rpOf c d)) z (zOf c d) (z ⊗ zOf c d ⊘ (z ⊕ zOf c d)) a b c d)) ⌝ }
 {
     let n = c.exponent + d.exponent;
     let rq = bi_center_of(c, d);
     let rw = get_bi_center(z, n, rp, rq);
     let rho = z * n / (z + n);
-    coulomb_entries(rp, rq, rw, z, n, rho, a, b, c, d)
+    let p = Pairs {
+        rp,
+        rq,
+        rw,
+        z,
+        n,
+        rho,
+    };
+    coulomb_entries(p, a, b, c, d)
 }

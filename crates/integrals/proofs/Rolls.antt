@@ -8,7 +8,7 @@ use Rattle.kind.specs.declared.Kind.{Kind}
 use Rattle.kind.specs.Kinds.{numberOf, kindOf}
 use Rattle.kind.specs.declared.Named.{Named}
 use Rattle.kind.specs.declared.Named.the-variants as named
-use Rattle.kind.proofs.Laws.{kind-number}
+use Rattle.kind.proofs.KindNumber.{kind-number}
 use lib.Ieee.{Float}
 use Rattle.geometry.specs.declared.Centre.{Centre}
 use Rattle.roll.specs.declared.Cursor.{Cursor}

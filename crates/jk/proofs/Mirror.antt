@@ -10,10 +10,12 @@ use mir.Val.{Fits}
 use lib.Ieee.{Float, nan}
 use lib.ListN.{length, getD, set, take, length-set, length-take}
 use lib.Seq.{getD-set-same, getD-set-other, getD-take, length-take-le, ext-getD}
+use Rattle.laws.proofs.Counting.{row-room, place-below}
 use Rattle.kind.specs.Limits.{mostSize}
 use Rattle.jk.specs.declared.Matrix.{Matrix}
-use Rattle.jk.specs.Sums.{entryOf, mirroredOf, matrixOf, listFrom, Shaped, FromOn, mostRows}
-use Rattle.jk.proofs.Sizes.{place-below, row-room, square-small}
+use Rattle.jk.specs.Sums.{entryOf, mirroredOf, matrixOf, listFrom}
+use Rattle.jk.specs.inner.Rows.{ShapedMay, FromOn, mostRows}
+use Rattle.jk.proofs.Sizes.{square-small}
 
 -- a place of the matrix has its row and its column
 pub row-of : (n p : ℕ) → p < n * n → 0 < n → p / n < n
@@ -47,7 +49,7 @@ module _ (m : Matrix) (n : ℕ) (i d : List Float) where
   unfolding mirroredOf
   mirror mu nu = rw (max-comm nu mu, min-comm nu mu)
 
-module _ (m : Matrix) (n : ℕ) (i d done : List Float) (p r : ℕ) (shaped : Shaped n i d) (inside : p < n * n) (stands : FromOn m n i d done (p + 1)) (place : r ≡ p % n * n + p / n) where
+module _ (m : Matrix) (n : ℕ) (i d done : List Float) (p r : ℕ) (shaped : ShapedMay n i d) (inside : p < n * n) (stands : FromOn m n i d done (p + 1)) (place : r ≡ p % n * n + p / n) where
   pub mirror-below : r < length done
   mirror-below = omega (arith, stands .room, mirrored-below n p r place inside (shaped .some), square-small n (shaped .small))
 

@@ -5,11 +5,12 @@ use mathlib.Core.Bool.{Bool, true, false, _&&_}
 use mathlib.Core.List.{List}
 use lib.Ieee.{Float}
 use lib.ListN.{length}
+use Rattle.laws.specs.Unless.{unless}
 use Rattle.geometry.specs.Floats.{allFinite}
 use Rattle.jk.specs.declared.Matrix.the-variants.{J, K}
 use Rattle.jk.specs.declared.Answer.the-variants.{Done, Refused}
 use Rattle.jk.specs.Sums.{matrixOf}
-use Rattle.jk.specs.Outcome.{Outcome, outcome, sizedOf, unless, summedOf, jkOf}
+use Rattle.jk.specs.Outcome.{Outcome, outcome, sizedOf, summedOf, jkOf}
 
 module _ (n : ℕ) (i d j k : List Float) (s : Bool) where
   pub written : (xs ys : List Float) (a b : List Float) → s ≡ (allFinite xs && allFinite ys) → s ≡ true → xs ≡ matrixOf J n i d → ys ≡ matrixOf K n i d → a ≡ xs → b ≡ ys → outcome Done a b ≡ summedOf n i d j k

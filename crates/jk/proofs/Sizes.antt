@@ -1,8 +1,8 @@
--- Sizes: a place lies below the count of its rows times their length, and every number stays small.
+-- Sizes: every number stays small, and what check 12 says of them.
 use Prim.Native.Nat.{ℕ, _+_, _*_, _^_, _<_, _≤_}
-use mathlib.Core.Path.{_≡_, refl, sym, ap, _∙_}
+use mathlib.Core.Path.{_≡_, sym, _∙_}
 use mathlib.Core.Bool.{Bool, true, false, _&&_}
-use native.Mathlib.Nat.{suc-mul, mul-le-mul, mul-le-mul-right, pow-suc, pow-zero, one-mul, mul-assoc, add-le-add, le-trans, le-of-lt}
+use native.Mathlib.Nat.{mul-le-mul, mul-assoc, add-le-add, le-trans, le-of-lt}
 use native.Mathlib.Omega.{arith}
 use borrow.Author.Tests.{le-leb, lt-leb, eq-eqb, ne-eqb, leb-true, eqb-true}
 use mathlib.Core.List.{List}
@@ -11,35 +11,28 @@ use lib.ListN.{length}
 use lib.Dec.{leb, eqb, lit<}
 use mir.Syntax.{w64}
 use mir.Val.{Fits}
+use Rattle.laws.proofs.Cases.{and-true-both}
+use Rattle.laws.proofs.Counting.{row-room, place-below, pow-two, pow-four, fits-below}
 use Rattle.kind.specs.Limits.{mostSize}
 use Rattle.jk.specs.Outcome.{longOf, sizedOf}
-use Rattle.jk.specs.Sums.{rowOf, mostRows, Shaped}
+use Rattle.jk.specs.inner.Rows.{rowOf, mostRows, ShapedMay}
 use Rattle.jk.specs.declared.Matrix.{Matrix}
 use Rattle.jk.specs.declared.Matrix.the-variants.{J, K}
-
-pub row-room : (m n x : ℕ) → x < m → x * n + n ≤ m * n
-row-room m n x h = rw (← suc-mul x n) (mul-le-mul-right n h)
-
-pub place-below : (m n x y : ℕ) → x < m → y < n → x * n + y < m * n
-place-below m n x y h k = omega (arith, row-room m n x h)
 
 pub square-small : (n : ℕ) → n ≤ mostSize → n * n ≤ mostSize * mostSize
 square-small n h = mul-le-mul h h
 
-fits-small : (k : ℕ) {x : ℕ} → x ≤ k → k < 2 ^ 64 → Fits w64 x
-fits-small k h p = record { fits = omega arith }
-
 pub square-fits : (n : ℕ) → n ≤ mostSize → Fits w64 (n * n)
-square-fits n h = fits-small (mostSize * mostSize) (square-small n h) (lit< tt)
+square-fits n h = fits-below (mostSize * mostSize) (square-small n h) (lit< tt)
 
 pub fourth-fits : (n : ℕ) → n ≤ mostSize → Fits w64 (n * n * (n * n))
-fourth-fits n h = fits-small (mostSize * mostSize * (mostSize * mostSize)) (mul-le-mul (square-small n h) (square-small n h)) (lit< tt)
+fourth-fits n h = fits-below (mostSize * mostSize * (mostSize * mostSize)) (mul-le-mul (square-small n h) (square-small n h)) (lit< tt)
 
 pub place-fits : (n x : ℕ) → n ≤ mostSize → x ≤ mostRows → Fits w64 (x * n)
-place-fits n x h p = fits-small (mostRows * mostSize) (mul-le-mul p h) (lit< tt)
+place-fits n x h p = fits-below (mostRows * mostSize) (mul-le-mul p h) (lit< tt)
 
 pub place-sum-fits : (n x y : ℕ) → n ≤ mostSize → x ≤ mostRows → y < n → Fits w64 (x * n + y)
-place-sum-fits n x y h p q = fits-small (mostRows * mostSize + mostSize) (add-le-add (mul-le-mul p h) (le-trans (le-of-lt q) h)) (lit< tt)
+place-sum-fits n x y h p q = fits-below (mostRows * mostSize + mostSize) (add-le-add (mul-le-mul p h) (le-trans (le-of-lt q) h)) (lit< tt)
 
 -- the first place of a row leaves room for the second
 pub row-small : (n x y r : ℕ) → r ≡ x * n + y → n ≤ mostSize → x < n → y < n → r ≤ mostRows
@@ -61,41 +54,35 @@ row-below K n mu nu lambda h p q = place-below (n * n) n (mu * n + lambda) nu (p
 
 -- what an entry asks for the row of one lambda
 module _ (m : Matrix) (i d : List Float) (n mu nu l at : ℕ) where
-  pub row-fits : Shaped n i d → at ≡ rowOf m n mu nu l → mu < n → nu < n → l < n → Fits w64 (at * n)
+  pub row-fits : ShapedMay n i d → at ≡ rowOf m n mu nu l → mu < n → nu < n → l < n → Fits w64 (at * n)
   row-fits s e h p q =
       place-fits n at (s .small) (omega (arith, row-below m n mu nu l h p q, mul-le-mul (square-small n (s .small)) (s .small)))
 
-  pub whole-room : Shaped n i d → at ≡ rowOf m n mu nu l → mu < n → nu < n → l < n → at * n + n ≤ length i
+  pub whole-room : ShapedMay n i d → at ≡ rowOf m n mu nu l → mu < n → nu < n → l < n → at * n + n ≤ length i
   whole-room s e h p q = rw (s .whole) (row-room (n * n * n) n at (rw e (row-below m n mu nu l h p q)))
 
 module _ (i d : List Float) (n l : ℕ) where
-  pub lambda-fits : Shaped n i d → l < n → Fits w64 (l * n)
-  lambda-fits s h = fits-small (mostSize * mostSize) (mul-le-mul (le-trans (le-of-lt h) (s .small)) (s .small)) (lit< tt)
+  pub lambda-fits : ShapedMay n i d → l < n → Fits w64 (l * n)
+  lambda-fits s h = fits-below (mostSize * mostSize) (mul-le-mul (le-trans (le-of-lt h) (s .small)) (s .small)) (lit< tt)
 
-  pub square-room : Shaped n i d → l < n → l * n + n ≤ length d
+  pub square-room : ShapedMay n i d → l < n → l * n + n ≤ length d
   square-room s h = rw (s .square) (row-room n n l h)
-
-pub square : (n : ℕ) → n ^ 2 ≡ n * n
-square n = pow-suc n 1 ∙ ap (λ (x : ℕ). x * n) (pow-suc n 0 ∙ ap (λ (x : ℕ). x * n) (pow-zero n) ∙ one-mul n)
-
-pub fourth : (n : ℕ) → n ^ 4 ≡ n * n * (n * n)
-fourth n = pow-suc n 3 ∙ ap (λ (x : ℕ). x * n) (pow-suc n 2 ∙ ap (λ (x : ℕ). x * n) (square n)) ∙ mul-assoc (n * n) n n
 
 pub long-all : (n i d j k : ℕ) → i ≡ n * n * (n * n) → d ≡ n * n → j ≡ n * n → eqb k (n * n) ≡ longOf n i d j k
 unfolding longOf
-long-all n i d j k p q r = rw (square, fourth, eq-eqb i (n * n * (n * n)) p, eq-eqb d (n * n) q, eq-eqb j (n * n) r)
+long-all n i d j k p q r = rw (pow-two, pow-four, eq-eqb i (n * n * (n * n)) p, eq-eqb d (n * n) q, eq-eqb j (n * n) r)
 
 pub long-i : (n i d j k : ℕ) → (i ≡ n * n * (n * n) → ⊥) → false ≡ longOf n i d j k
 unfolding longOf
-long-i n i d j k p = rw (fourth, ne-eqb i (n * n * (n * n)) p)
+long-i n i d j k p = rw (pow-four, ne-eqb i (n * n * (n * n)) p)
 
 pub long-d : (n i d j k : ℕ) → i ≡ n * n * (n * n) → (d ≡ n * n → ⊥) → false ≡ longOf n i d j k
 unfolding longOf
-long-d n i d j k p q = rw (square, fourth, eq-eqb i (n * n * (n * n)) p, ne-eqb d (n * n) q)
+long-d n i d j k p q = rw (pow-two, pow-four, eq-eqb i (n * n * (n * n)) p, ne-eqb d (n * n) q)
 
 pub long-j : (n i d j k : ℕ) → i ≡ n * n * (n * n) → d ≡ n * n → (j ≡ n * n → ⊥) → false ≡ longOf n i d j k
 unfolding longOf
-long-j n i d j k p q r = rw (square, fourth, eq-eqb i (n * n * (n * n)) p, eq-eqb d (n * n) q, ne-eqb j (n * n) r)
+long-j n i d j k p q r = rw (pow-two, pow-four, eq-eqb i (n * n * (n * n)) p, eq-eqb d (n * n) q, ne-eqb j (n * n) r)
 
 pub sized-all : (n i d j k : ℕ) (t : Bool) → 1 ≤ n → n ≤ mostSize → t ≡ longOf n i d j k → t ≡ sizedOf n i d j k
 unfolding sizedOf
@@ -110,48 +97,43 @@ unfolding sizedOf
 sized-many n i d j k p q = rw (le-leb 1 n p, lt-leb n mostSize q)
 
 -- what check 12 leaves
-and-left : (a b : Bool) → (a && b) ≡ true → a ≡ true
-and-left true b e = refl
-and-left false b e = e
-
-and-right : (a b : Bool) → (a && b) ≡ true → b ≡ true
-and-right true b e = e
-and-right false b e = cc
-
 module _ (n i d j k : ℕ) (t : Bool) (e : t ≡ sizedOf n i d j k) (h : t ≡ true) where
   from-one : leb 1 n ≡ true
   unfolding sizedOf
-  from-one = and-left _ (leb n mostSize && longOf n i d j k) (sym e ∙ h)
+  from-one = and-true-both (leb 1 n) (leb n mostSize && longOf n i d j k) (sym e ∙ h) .0
 
   rest : (leb n mostSize && longOf n i d j k) ≡ true
   unfolding sizedOf
-  rest = and-right (leb 1 n) _ (sym e ∙ h)
+  rest = and-true-both (leb 1 n) (leb n mostSize && longOf n i d j k) (sym e ∙ h) .1
 
   long-i-d : (eqb i (n ^ 4) && (eqb d (n ^ 2) && (eqb j (n ^ 2) && eqb k (n ^ 2)))) ≡ true
   unfolding longOf
-  long-i-d = and-right (leb n mostSize) _ rest
+  long-i-d = and-true-both (leb n mostSize) (longOf n i d j k) rest .1
+
+  long-d-j : (eqb d (n ^ 2) && (eqb j (n ^ 2) && eqb k (n ^ 2))) ≡ true
+  long-d-j = and-true-both (eqb i (n ^ 4)) (eqb d (n ^ 2) && (eqb j (n ^ 2) && eqb k (n ^ 2))) long-i-d .1
+
+  long-j-k : (eqb j (n ^ 2) && eqb k (n ^ 2)) ≡ true
+  long-j-k = and-true-both (eqb d (n ^ 2)) (eqb j (n ^ 2) && eqb k (n ^ 2)) long-d-j .1
 
   pub sized-some : 0 < n
   sized-some = leb-true 1 n from-one
 
   pub sized-small : n ≤ mostSize
-  sized-small = leb-true n mostSize (and-left _ (longOf n i d j k) rest)
+  sized-small = leb-true n mostSize (and-true-both (leb n mostSize) (longOf n i d j k) rest .0)
 
   pub sized-i : i ≡ n * n * n * n
-  sized-i = eqb-true i (n ^ 4) (and-left _ (eqb d (n ^ 2) && (eqb j (n ^ 2) && eqb k (n ^ 2))) long-i-d) ∙ fourth n ∙ sym (mul-assoc (n * n) n n)
+  sized-i = eqb-true i (n ^ 4) (and-true-both (eqb i (n ^ 4)) (eqb d (n ^ 2) && (eqb j (n ^ 2) && eqb k (n ^ 2))) long-i-d .0) ∙ pow-four n ∙ sym (mul-assoc (n * n) n n)
 
   pub sized-d : d ≡ n * n
-  sized-d = eqb-true d (n ^ 2) (and-left _ (eqb j (n ^ 2) && eqb k (n ^ 2)) (and-right (eqb i (n ^ 4)) _ long-i-d)) ∙ square n
-
-  long-j-k : (eqb j (n ^ 2) && eqb k (n ^ 2)) ≡ true
-  long-j-k = and-right (eqb d (n ^ 2)) _ (and-right (eqb i (n ^ 4)) _ long-i-d)
+  sized-d = eqb-true d (n ^ 2) (and-true-both (eqb d (n ^ 2)) (eqb j (n ^ 2) && eqb k (n ^ 2)) long-d-j .0) ∙ pow-two n
 
   pub sized-j : j ≡ n * n
-  sized-j = eqb-true j (n ^ 2) (and-left _ (eqb k (n ^ 2)) long-j-k) ∙ square n
+  sized-j = eqb-true j (n ^ 2) (and-true-both (eqb j (n ^ 2)) (eqb k (n ^ 2)) long-j-k .0) ∙ pow-two n
 
   pub sized-k : k ≡ n * n
-  sized-k = eqb-true k (n ^ 2) (and-right (eqb j (n ^ 2)) _ long-j-k) ∙ square n
+  sized-k = eqb-true k (n ^ 2) (and-true-both (eqb j (n ^ 2)) (eqb k (n ^ 2)) long-j-k .1) ∙ pow-two n
 
-pub sized-shape : (n j k : ℕ) (i d : List Float) (t : Bool) → t ≡ sizedOf n (length i) (length d) j k → t ≡ true → Shaped n i d
+pub sized-shape : (n j k : ℕ) (i d : List Float) (t : Bool) → t ≡ sizedOf n (length i) (length d) j k → t ≡ true → ShapedMay n i d
 sized-shape n j k i d t e h =
     record { some = sized-some n (length i) (length d) j k t e h; small = sized-small n (length i) (length d) j k t e h; whole = sized-i n (length i) (length d) j k t e h; square = sized-d n (length i) (length d) j k t e h }

@@ -7,12 +7,12 @@ use native.Mathlib.Omega.{arith}
 use lib.Ieee.{Float, nan}
 use lib.ListN.{length, getD, take, set}
 use lib.Seq.{take-suc, take-suc-set, take-all}
-use mathlib.Core.Bool.{Bool, true, false, _&&_}
-use Rattle.geometry.proofs.Laws.{left-one, left-none}
-use Rattle.geometry.specs.Floats.{_⊕_, _⊗_, allFinite}
+use Rattle.laws.proofs.Counting.{left-one, left-none}
+use Rattle.geometry.specs.Floats.{_⊕_, _⊗_}
 use Rattle.jk.specs.declared.Matrix.{Matrix}
 use Rattle.jk.specs.declared.Matrix.the-variants.{J, K}
-use Rattle.jk.specs.Sums.{overSigma, overLambda, product, rowOf}
+use Rattle.jk.specs.Sums.{overSigma, overLambda, product}
+use Rattle.jk.specs.inner.Rows.{rowOf}
 
 -- a row of I and a row of D
 abbrev pub pairs : List Float → List Float → ℕ → ℕ → ℕ → Float
@@ -44,12 +44,6 @@ module _ (m : Matrix) (i d : List Float) (mu nu n l : ℕ) (sum whole : Float) w
   pub lambda-done : n ≤ l → overLambda (product m n i d mu nu) n (n - l) l sum ≡ whole → sum ≡ whole
   unfolding overLambda
   lambda-done h e = rw (left-none n l h) at e
-
-pub both-all : (a b : List Float) (s t : Bool) → s ≡ allFinite a → s ≡ true → t ≡ allFinite b → t ≡ (allFinite a && allFinite b)
-both-all a b s t e p f = rw (← e, p) f
-
-pub both-first : (a b : List Float) (s : Bool) → s ≡ allFinite a → s ≡ false → false ≡ (allFinite a && allFinite b)
-both-first a b s e p = rw (← e, p)
 
 pub put-more : (out from : List Float) (p : ℕ) → p < length out → length out ≡ length from → take p out ≡ take p from → take (p + 1) (set out p (getD from p nan)) ≡ take (p + 1) from
 put-more out from p h e f =

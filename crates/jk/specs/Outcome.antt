@@ -1,10 +1,11 @@
 -- 01, "Limits and refusal numbers": J and K are refused 12, 8 or 11, in this order, or both written.
 use Prim.Native.Nat.{ℕ, _^_}
-use mathlib.Core.Bool.{Bool, true, false, _&&_}
+use mathlib.Core.Bool.{Bool, _&&_}
 use mathlib.Core.List.{List}
 use lib.Dec.{leb, eqb}
 use lib.Ieee.{Float}
 use lib.ListN.{length}
+use Rattle.laws.specs.Unless.{unless}
 use Rattle.kind.specs.Limits.{mostSize}
 use Rattle.geometry.specs.Floats.{allFinite}
 use Rattle.jk.specs.declared.Matrix.the-variants.{J, K}
@@ -22,9 +23,9 @@ abbrev pub outcome : Answer → List Float → List Float → Outcome
 outcome a j k = record { answer = a; j = j; k = k }
 
 -- the number that 01 gives each case; 0 is success
-abbrev pub numberOf : Answer → ℕ
-numberOf Done = 0
-numberOf (Refused n) = n
+abbrev pub refusalOf : Answer → ℕ
+refusalOf Done = 0
+refusalOf (Refused n) = n
 
 -- n is from 1 to 16; I has n⁴ floats, D, J and K have n²
 unfoldable pub longOf : ℕ → ℕ → ℕ → ℕ → ℕ → Bool
@@ -34,19 +35,18 @@ unfoldable pub sizedOf : ℕ → ℕ → ℕ → ℕ → ℕ → Bool
 sizedOf n i d j k = leb 1 n && (leb n mostSize && longOf n i d j k)
 
 -- a refusal leaves both slices as they were
-unfoldable pub unless : Bool → ℕ → List Float → List Float → Outcome → Outcome
-unless true number j k done = done
-unless false number j k done = outcome (Refused number) j k
+abbrev pub refused : ℕ → List Float → List Float → Outcome
+refused number j k = outcome (Refused number) j k
 
 -- 11 where an entry of J or of K is not finite
 unfoldable pub summedOf : ℕ → List Float → List Float → List Float → List Float → Outcome
 summedOf n i d j k =
-    unless (allFinite (matrixOf J n i d) && allFinite (matrixOf K n i d)) 11 j k
+    unless (allFinite (matrixOf J n i d) && allFinite (matrixOf K n i d)) (refused 11 j k)
     (outcome Done (matrixOf J n i d) (matrixOf K n i d))
 
 -- J and K: 12, 8, 11
 unfoldable pub jkOf : ℕ → List Float → List Float → List Float → List Float → Outcome
 jkOf n i d j k =
-    unless (sizedOf n (length i) (length d) (length j) (length k)) 12 j k
-    (unless (allFinite i && allFinite d) 8 j k
+    unless (sizedOf n (length i) (length d) (length j) (length k)) (refused 12 j k)
+    (unless (allFinite i && allFinite d) (refused 8 j k)
     (summedOf n i d j k))

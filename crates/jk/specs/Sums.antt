@@ -1,10 +1,8 @@
 -- 01, "Numbers": J and K as JK_inmem of basis.rs sums them. Slices are row by row.
-use Prim.Native.Nat.{ℕ, zero, suc, _+_, _*_, _/_, _%_, _≤_, _<_, min, max}
-use mathlib.Core.Path.{_≡_}
+use Prim.Native.Nat.{ℕ, zero, suc, _+_, _*_, _/_, _%_, min, max}
 use mathlib.Core.List.{List, [], _∷_}
 use lib.Ieee.{Float, nan}
-use lib.ListN.{length, getD}
-use Rattle.kind.specs.Limits.{mostSize}
+use lib.ListN.{getD}
 use Rattle.geometry.specs.Floats.{_⊕_, _⊗_, zero as 0·0}
 use Rattle.jk.specs.declared.Matrix.{Matrix}
 use Rattle.jk.specs.declared.Matrix.the-variants.{J, K}
@@ -47,24 +45,3 @@ listFrom f (suc left) p = f p ∷ listFrom f left (suc p)
 -- a matrix row by row
 unfoldable pub matrixOf : Matrix → ℕ → List Float → List Float → List Float
 matrixOf m n i d = listFrom (λ (p : ℕ). mirroredOf m n i d (p / n) (p % n)) (n * n) 0
-
--- the row of I that an entry sums over sigma
-unfoldable pub rowOf : Matrix → ℕ → ℕ → ℕ → ℕ → ℕ
-rowOf J n mu nu lambda = (mu * n + nu) * n + lambda
-rowOf K n mu nu lambda = (mu * n + lambda) * n + nu
-
--- the rows of I of the largest size
-abbrev pub mostRows : ℕ
-mostRows = mostSize * mostSize * mostSize
-
--- what check 12 leaves of the size and of the slices that are read
-pub record Shaped (n : ℕ) (i d : List Float) : Type 0 where
-  pub some : 0 < n
-  pub small : n ≤ mostSize
-  pub whole : length i ≡ n * n * n * n
-  pub square : length d ≡ n * n
-
--- the matrix stands in the first places from p on
-pub record FromOn (m : Matrix) (n : ℕ) (i d done : List Float) (p : ℕ) : Type 0 where
-  pub room : length done ≡ mostSize * mostSize
-  pub stands : (q : ℕ) → p ≤ q → q < n * n → getD done q nan ≡ mirroredOf m n i d (q / n) (q % n)

@@ -6,7 +6,8 @@ ghost use lib.Ieee.{nan};
 ghost use lib.ListN.{length, take, getD};
 ghost use Rattle.kind.specs.Limits.{mostSize};
 ghost use Rattle.geometry.specs.Floats.{_⊗_, allFinite};
-ghost use Rattle.jk.specs.Sums.{overSigma, entryOf, mirroredOf, matrixOf, rowOf, mostRows, Shaped, FromOn};
+ghost use Rattle.jk.specs.Sums.{overSigma, entryOf, mirroredOf, matrixOf};
+ghost use Rattle.jk.specs.inner.Rows.{rowOf, mostRows, ShapedMay, FromOn};
 ghost use Rattle.jk.specs.Outcome.{outcome, longOf, sizedOf, summedOf, jkOf};
 use geometry::all_finite;
 use kind::Kind;
@@ -99,7 +100,7 @@ fn add_row(i: &[f64], d: &[f64], n: usize, at: usize, of: usize, start: f64) -> 
 
 // One entry of J or K.
 fn entry(m: Matrix, n: usize, i: &[f64], d: &[f64], mu: usize, nu: usize) -> f64
-    requires { ⌜ Shaped n (now i) (now d) × (mu < n) × (nu < n) ⌝ }
+    requires { ⌜ ShapedMay n (now i) (now d) × (mu < n) × (nu < n) ⌝ }
     ensures { λ r. ⌜ r ≡ entryOf m n (now (i .entry)) (now (d .entry)) mu nu ⌝ }
 {
     let mut sum = 0.0;
@@ -114,7 +115,7 @@ fn entry(m: Matrix, n: usize, i: &[f64], d: &[f64], mu: usize, nu: usize) -> f64
 
 // An entry for nu ≤ mu; above the diagonal what stands mirrored, further on.
 fn value(m: Matrix, n: usize, i: &[f64], d: &[f64], done: &[f64], p: usize) -> f64
-    requires { ⌜ Shaped n (now i) (now d) × (p < n * n) × FromOn m n (now i) (now d) (now done) (p + 1) ⌝ }
+    requires { ⌜ ShapedMay n (now i) (now d) × (p < n * n) × FromOn m n (now i) (now d) (now done) (p + 1) ⌝ }
     ensures { λ r. ⌜ r ≡ mirroredOf m n (now (i .entry)) (now (d .entry)) (p / n) (p % n) ⌝ }
 {
     let mu = p / n;
@@ -127,7 +128,7 @@ fn value(m: Matrix, n: usize, i: &[f64], d: &[f64], done: &[f64], p: usize) -> f
 
 // The whole matrix in the first places, from its end on, so that each sum is made once.
 fn entries(m: Matrix, n: usize, i: &[f64], d: &[f64]) -> [f64; ROOM]
-    requires { ⌜ Shaped n (now i) (now d) ⌝ }
+    requires { ⌜ ShapedMay n (now i) (now d) ⌝ }
     ensures { λ r. ⌜ take (n * n) r ≡ matrixOf m n (now (i .entry)) (now (d .entry)) ⌝ }
 {
     let mut all = [0.0; ROOM];
@@ -152,7 +153,7 @@ fn put(out: &mut [f64], from: &[f64])
 
 // Both matrices, or 11 before anything is written.
 fn write(n: usize, i: &[f64], d: &[f64], j: &mut [f64], k: &mut [f64]) -> Answer
-    requires { ⌜ Shaped n (now i) (now d) × (length (now j) ≡ n * n) × (length (now k) ≡ n * n) ⌝ }
+    requires { ⌜ ShapedMay n (now i) (now d) × (length (now j) ≡ n * n) × (length (now k) ≡ n * n) ⌝ }
     ensures { λ r. ⌜ outcome r (now (j .exit)) (now (k .exit)) ≡ summedOf n (now (i .entry)) (now (d .entry)) (now (j .entry)) (now (k .entry)) ⌝ }
 {
     let size = n * n;

@@ -1,3 +1,3 @@
-pub mod Laws
+pub mod KindNumber
 pub mod Only
 pub mod Within

@@ -17,7 +17,7 @@ use Rattle.number.proofs.Writing.{length-last, length-more, length-some}
 use Rattle.term.specs.Terms.{Term}
 use Rattle.text.specs.Digits.{decimalOf}
 use Rattle.text.proofs.Digits.{places-short, places-long}
-use Rattle.text.proofs.Writing.{tested}
+use Rattle.laws.proofs.Cases.{tested}
 use Rattle.roll.specs.Bytes.{numbersBytes, termBytes, termsBytes, rollBytes}
 use Rattle.laws.specs.Total.{total}
 use Rattle.roll.specs.Reading.{got, Roll, rollAt}

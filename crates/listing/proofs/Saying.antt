@@ -10,12 +10,12 @@ use lib.Dec.{leb}
 use lib.ListN.{length, length-append}
 use lib.Seq.{sets, length-sets}
 use Rattle.laws.proofs.Lists.{sets-append}
-use Rattle.laws.proofs.Cases.{clash}
+use Rattle.laws.proofs.Cases.{clash, tested}
 use Rattle.laws.proofs.Parts.{sets-placed}
 use Rattle.text.specs.declared.Written.{Written}
 use Rattle.text.specs.declared.Written.the-variants.{To, NoRoom}
-use Rattle.text.specs.Writing.{Wrote, roomFor}
-use Rattle.text.proofs.Writing.{tested}
+use Rattle.laws.specs.Placed.{roomFor}
+use Rattle.text.specs.Writing.{WrittenTold}
 use Rattle.listing.specs.Saying.{further, Said, Kept}
 
 -- ---- places
@@ -58,16 +58,16 @@ further-not room n at e =
 
 -- ---- one piece
 
-wrote-sets : (before after text : List ℕ) (at : ℕ) (q : Written) → Wrote before at text q after → at + length text ≤ length before → after ≡ sets before at text
-wrote-sets before after text at q w room = w .holds ∙ rw (le-leb (at + length text) (length before) room) (sym (sets-placed text before at room))
+wrote-sets : (before after text : List ℕ) (at : ℕ) (q : Written) → WrittenTold before at text q after → at + length text ≤ length before → after ≡ sets before at text
+wrote-sets before after text at q w room = w .out ∙ rw (le-leb (at + length text) (length before) room) (sym (sets-placed text before at room))
 
-wrote-long : (before after text : List ℕ) (at : ℕ) (q : Written) → Wrote before at text q after → length after ≡ length before
+wrote-long : (before after text : List ℕ) (at : ℕ) (q : Written) → WrittenTold before at text q after → length after ≡ length before
 wrote-long before after text at q w =
     tested (roomFor before at (length text))
     (λ t. let is : after ≡ sets before at text = wrote-sets before after text at q w (leb-true _ _ t) in ap length is ∙ length-sets before at text)
-    (λ f. let is : after ≡ before = w .holds ∙ rw f in ap length is)
+    (λ f. let is : after ≡ before = w .out ∙ rw f in ap length is)
 
-pub said-piece : (room : ℕ) (before after text : List ℕ) (w : Written) (at n : ℕ) (q r : Written) → w ≡ To at → Wrote before at text q after → n ≡ length text → r ≡ further room (To at) n → Said room before w text r after
+pub said-piece : (room : ℕ) (before after text : List ℕ) (w : Written) (at n : ℕ) (q r : Written) → w ≡ To at → WrittenTold before at text q after → n ≡ length text → r ≡ further room (To at) n → Said room before w text r after
 said-piece room before after text w at n q r is wrote size answer =
     let told : r ≡ further room w (length text) = answer ∙ ap (further room (To at)) size ∙ ap (λ (w : Written). further room w (length text)) (sym is) in
     record {

@@ -11,7 +11,7 @@ use Rattle.kind.specs.Kinds.{kindOf, numberOf, ordersOf, tableOf, mostL, mostPr
 use Rattle.kind.specs.declared.Kind.{Kind}
 use Rattle.kind.specs.declared.Kind.the-variants.{Overlap, Kinetic, Nuclear, Moment, Coulomb}
 use Rattle.kind.specs.declared.Named.{Named}
-use Rattle.kind.proofs.Laws.{kind-number}
+use Rattle.kind.proofs.KindNumber.{kind-number}
 use Rattle.kind.proofs.Within.{number-within, l-within, table-within}
 use Rattle.number.specs.Numbers.{bytesOf, lengthOf, readAt}
 use Rattle.number.proofs.Laws.{reads-back-from, after-bytes}

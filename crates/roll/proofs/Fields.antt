@@ -8,7 +8,7 @@ use borrow.Author.Tests.{lt-ltb, le-ltb, ltb-false}
 use lib.Dec.{ltb}
 use types.Run.{OneOf, miss}
 use denote.Enum.Declared.{tagOf}
-use Rattle.laws.proofs.Cases.{clash, neither}
+use Rattle.laws.proofs.Cases.{clash, or-false-both}
 use Rattle.number.proofs.Number.{the-type}
 use Rattle.number.specs.declared.Number.{Number}
 use Rattle.number.specs.declared.Number.the-variants as number
@@ -51,7 +51,7 @@ opened-is at low high n next (number.Is m k) e = by (ltb m low || ltb high m) re
     by : (b : Bool) → (ltb m low || ltb high m) ≡ b → cond b (field.Refused 7 at) (field.Is m k) ≡ field.Is n next → (low ≤ n) × (n ≤ high) × (number.Is m k ≡ number.Is n next)
     by true t e = absurd (clash (cc))
     by false f e =
-        let no = neither (ltb m low) (ltb high m) f in
+        let no = or-false-both (ltb m low) (ltb high m) f in
         let same : m ≡ n = cc in
         let place : k ≡ next = cc in
         (omega (arith, ltb-false m low (no .0)), omega (arith, ltb-false high m (no .1)), cc)

@@ -13,7 +13,7 @@ use Rattle.kind.specs.declared.Kind.{Kind}
 use Rattle.kind.specs.declared.Kind.the-variants.{Overlap, Kinetic, Nuclear, Moment, Coulomb}
 use Rattle.kind.specs.declared.Named.{Named}
 use Rattle.kind.specs.declared.Named.the-variants as named
-use Rattle.kind.proofs.Laws.{number-kind}
+use Rattle.kind.proofs.KindNumber.{number-kind}
 use Rattle.laws.proofs.Cases.{clash}
 use Rattle.number.proofs.Reading.{read-inside}
 use Rattle.term.specs.Terms.{Term}

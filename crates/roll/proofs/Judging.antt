@@ -12,7 +12,7 @@ use Rattle.kind.specs.Kinds.{kindOf, tableOf, mostL, mostPrefactors}
 use Rattle.kind.specs.declared.Kind.{Kind}
 use Rattle.kind.specs.declared.Named.{Named}
 use Rattle.kind.specs.declared.Named.the-variants as named
-use Rattle.kind.proofs.Laws.{kind-number}
+use Rattle.kind.proofs.KindNumber.{kind-number}
 use Rattle.laws.proofs.Cases.{clash}
 use Rattle.term.specs.Terms.{Term}
 use Rattle.roll.specs.declared.Cursor.{Cursor}

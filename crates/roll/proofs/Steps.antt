@@ -8,7 +8,7 @@ use borrow.Author.Tests.{eq-eqb, ne-eqb}
 use lib.Dec.{eqb}
 use lib.ListN.{length}
 use Rattle.kind.specs.declared.Kind.{Kind}
-use Rattle.kind.proofs.Laws.{kind-number}
+use Rattle.kind.proofs.KindNumber.{kind-number}
 use Rattle.term.specs.declared.Term.{Term as Held}
 use Rattle.term.specs.Terms.{Term, held}
 use Rattle.roll.specs.declared.Cursor.{Cursor}

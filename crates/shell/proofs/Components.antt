@@ -7,15 +7,15 @@ use borrow.Author.Tests.{lt-ltb, le-ltb, ltb-false}
 use lib.Dec.{ltb}
 use lib.ListN.{replicate}
 use Rattle.kind.specs.Limits.{mostOrder}
-use Rattle.laws.proofs.Cases.{neither}
+use Rattle.laws.proofs.Cases.{or-false-both}
 use Rattle.shell.specs.declared.Component.{Component}
 use Rattle.shell.specs.Shells.{descending, triples, beside, pairs, quadruples, refused, component, shell2Of, shell4Of}
 
 pub low-first : (a b : ℕ) (r : Bool) → r ≡ (ltb mostOrder a || ltb mostOrder b) → r ≡ false → a ≤ mostOrder
-low-first a b r is e = ltb-false mostOrder a (neither (ltb mostOrder a) (ltb mostOrder b) (sym is ∙ e) .0)
+low-first a b r is e = ltb-false mostOrder a (or-false-both (ltb mostOrder a) (ltb mostOrder b) (sym is ∙ e) .0)
 
 pub low-second : (a b : ℕ) (r : Bool) → r ≡ (ltb mostOrder a || ltb mostOrder b) → r ≡ false → b ≤ mostOrder
-low-second a b r is e = ltb-false mostOrder b (neither (ltb mostOrder a) (ltb mostOrder b) (sym is ∙ e) .1)
+low-second a b r is e = ltb-false mostOrder b (or-false-both (ltb mostOrder a) (ltb mostOrder b) (sym is ∙ e) .1)
 
 pub high-first : (a b : ℕ) → mostOrder < a → true ≡ (ltb mostOrder a || ltb mostOrder b)
 high-first a b above = simp (lt-ltb mostOrder a above)
@@ -48,12 +48,12 @@ unfolding beside flatMap
 beside-one [] z = refl
 beside-one (x ∷ xs) z = ap (λ (l : List (List ℕ)). (x ++ z) ∷ l) (beside-one xs z)
 
-nothing : pairs 0 0 ≡ replicate 6 0 ∷ []
+pairs-of-zero : pairs 0 0 ≡ replicate 6 0 ∷ []
 unfolding beside flatMap triples descending
-nothing = refl
+pairs-of-zero = refl
 
 pub pair-of-four : (a b number : ℕ) (x : Component) → x ≡ shell4Of a b 0 0 number → x ≡ shell2Of a b number
 unfolding shell4Of shell2Of
 pair-of-four a b number x answer =
-    let list : quadruples a b 0 0 ≡ map (λ (pair : List ℕ). pair ++ replicate 6 0) (pairs a b) = ap (beside (pairs a b)) nothing ∙ beside-one (pairs a b) (replicate 6 0) in
+    let list : quadruples a b 0 0 ≡ map (λ (pair : List ℕ). pair ++ replicate 6 0) (pairs a b) = ap (beside (pairs a b)) pairs-of-zero ∙ beside-one (pairs a b) (replicate 6 0) in
     rw answer (rw (list, or-false (ltb mostOrder a || ltb mostOrder b)))

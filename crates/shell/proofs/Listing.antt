@@ -2,23 +2,24 @@
 use Prim.Native.Nat.{ℕ, zero, suc, _+_, _*_, _-_, _/_, _≤_, _<_}
 use mathlib.Core.Path.{_≡_, refl, sym, ap, _∙_}
 use mathlib.Core.Bool.{true, false, cond}
-use mathlib.Core.List.{List, [], _∷_, _++_, flatMap, flatten, append-assoc, append-nil}
-use native.Mathlib.Numerals.{add-one, add-two, add-three}
+use mathlib.Core.List.{List, [], _∷_, _++_, flatMap, flatten}
+use native.Mathlib.Numerals.{add-three}
 use native.Mathlib.Omega.{arith}
 use native.Mathlib.Nat.{add-mul, mul-comm, mul-le-mul}
-use borrow.Author.Tests.{lt-ltb, le-ltb}
-use lib.Dec.{ltb}
-use lib.ListN.{length, set, take, drop, length-append, length-drop, drop-of-length-le}
-use lib.Seq.{sets, drop-drop, length-sets, take-all}
+use borrow.Author.Tests.{lt-ltb, le-ltb, le-leb, lt-leb}
+use lib.Dec.{ltb, leb}
+use lib.ListN.{length, take, drop, length-append, length-drop}
+use lib.Seq.{sets, length-sets}
 use borrow.Rule.Slice.PartMut.{putMid}
 use Rattle.kind.specs.Limits.{mostOrder}
+use Rattle.laws.proofs.Lists.{flatten-append}
 use Rattle.laws.proofs.Parts.{part-all, part-put}
 use Rattle.shell.specs.declared.Triple.{Triple}
 use Rattle.shell.specs.declared.Next.{Next}
 use Rattle.shell.specs.declared.Next.the-variants as next
 use Rattle.shell.specs.declared.Listed.the-variants as listed
 use Rattle.shell.specs.Shells.{descending, triples, shellBytes, listedAt, listedOut, ListTold}
-use Rattle.shell.specs.Walk.{line, lines, from, orderOf, tripleOrders, tripleRest, First, Follows}
+use Rattle.shell.specs.inner.Walk.{line, lines, from, orderSum, tripleOrders, tripleRest, First, Follows}
 use Rattle.shell.proofs.Walking.{triples-from, first-rest, from-head}
 
 -- ---- how many
@@ -57,11 +58,6 @@ pub count-small : (m : ℕ) → m ≤ mostOrder → (m + 1) * (m + 2) ≤ (mostO
 count-small m small = mul-le-mul {n₂ = mostOrder + 1} {m₂ = mostOrder + 2} (omega arith) (omega arith)
 
 -- three bytes to a triple
-flatten-append : (xs ys : List (List ℕ)) → flatten (xs ++ ys) ≡ flatten xs ++ flatten ys
-unfolding flatten
-flatten-append [] ys = refl
-flatten-append (x ∷ xs) ys = ap (λ (l : List ℕ). x ++ l) (flatten-append xs ys) ∙ sym (append-assoc x (flatten xs) (flatten ys))
-
 line-bytes : (x y z : ℕ) → length (flatten (line x y z)) ≡ 3 * length (line x y z)
 unfolding line flatten
 line-bytes x zero z = refl
@@ -81,12 +77,9 @@ bytes-count m =
 
 -- ---- putting the list down
 
-pub put-three : (out : List ℕ) (at x y z : ℕ) → set (set (set out at x) (at + 1) y) (at + 2) z ≡ sets out at (x ∷ y ∷ z ∷ [])
-put-three out at x y z = rw (add-one at, add-two at)
-
 -- what is left of the list, from `at` on, makes the whole
 pub record Putting (m : ℕ) (before out : List ℕ) (t : Triple) (at : ℕ) : Type 0 where
-  pub small : orderOf t ≤ mostOrder
+  pub small : orderSum t ≤ mostOrder
   pub long : length out ≡ length before
   pub room : at + length (flatten (tripleRest t)) ≤ length before
   pub stores : sets out at (flatten (tripleRest t)) ≡ sets before 0 (shellBytes m)
@@ -142,15 +135,18 @@ unfolding listedAt listedOut
 told-beyond m start out low-m past =
     let low : ltb mostOrder m ≡ false = le-ltb mostOrder m low-m in
     let beyond : ltb (length out) start ≡ true = lt-ltb (length out) start past in
-    record { answer = simp (low, beyond); out = simp (low, beyond) }
+    let none : leb (start + length (shellBytes m)) (length out) ≡ false = lt-leb (start + length (shellBytes m)) (length out) (omega arith) in
+    record { answer = simp (low, beyond); out = simp (low, none) }
 
 pub told-full : (m start count : ℕ) (out : List ℕ) → m ≤ mostOrder → start ≤ length out → count ≡ length (triples m) → length out - start < 3 * count → ListTold m out start (listed.Refused 6) out
 unfolding listedAt listedOut
 told-full m start count out low-m inside counted over =
     let low : ltb mostOrder m ≡ false = le-ltb mostOrder m low-m in
     let near : ltb (length out) start ≡ false = le-ltb (length out) start inside in
-    let full : ltb (length out) (start + length (shellBytes m)) ≡ true = lt-ltb (length out) (start + length (shellBytes m)) (omega (arith, bytes-count m)) in
-    record { answer = simp (low, near, full); out = simp (low, near, full) }
+    let past : length out < start + length (shellBytes m) = omega (arith, bytes-count m) in
+    let full : ltb (length out) (start + length (shellBytes m)) ≡ true = lt-ltb (length out) (start + length (shellBytes m)) past in
+    let none : leb (start + length (shellBytes m)) (length out) ≡ false = lt-leb (start + length (shellBytes m)) (length out) past in
+    record { answer = simp (low, near, full); out = simp (low, none) }
 
 pub part-room : (m start count : ℕ) (out : List ℕ) → count ≡ length (triples m) → 3 * count ≤ length out - start → length (shellBytes m) ≤ length (take (length out - start) (drop start out))
 part-room m start count out counted fits = rw (part-all out start) (omega (arith, bytes-count m, length-drop start out))
@@ -163,7 +159,8 @@ told-list m start count out part low-m inside counted fits put =
     let bytes : length (shellBytes m) ≡ 3 * count = omega (arith, bytes-count m) in
     let room : start + length (shellBytes m) ≤ length out = omega arith in
     let roomy : ltb (length out) (start + length (shellBytes m)) ≡ false = le-ltb (length out) (start + length (shellBytes m)) room in
+    let some : leb (start + length (shellBytes m)) (length out) ≡ true = le-leb (start + length (shellBytes m)) (length out) room in
     record {
       answer = simp (low, near, roomy) (cc (bytes, counted));
-      out = simp (low, near, roomy) (part-put out part (shellBytes m) start room put);
+      out = simp (low, some) (part-put out part (shellBytes m) start room put);
     }

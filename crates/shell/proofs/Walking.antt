@@ -1,7 +1,7 @@
 -- The walk goes through the lists of the definitions: what is left from a triple, a pair or a quadruple on
 -- begins with it, and goes on with the one that the code finds after it.
 use Prim.Native.Nat.{ℕ, zero, suc, _+_, _*_, _-_, _≤_, _<_}
-use mathlib.Core.Path.{_≡_, refl, sym, ap, _∙_}
+use mathlib.Core.Path.{_≡_, refl, sym, ap, ap₂, _∙_}
 use mathlib.Core.Bool.{cond}
 use mathlib.Core.List.{List, [], _∷_, _++_, map, flatMap, append-nil}
 use native.Mathlib.Omega.{arith}
@@ -9,6 +9,7 @@ use native.Mathlib.Nat.{not-suc-le-zero}
 use borrow.Author.Tests.{lt-ltb, le-ltb}
 use lib.ListN.{length, getD}
 use Rattle.kind.specs.Limits.{mostOrder}
+use Rattle.laws.proofs.Lists.{getD-later}
 use Rattle.shell.specs.declared.Component.{Component}
 use Rattle.shell.specs.declared.Triple.{Triple}
 use Rattle.shell.specs.declared.Pair.{Pair}
@@ -20,7 +21,7 @@ use Rattle.shell.specs.declared.NextPair.the-variants as next-pair
 use Rattle.shell.specs.declared.NextQuadruple.{NextQuadruple}
 use Rattle.shell.specs.declared.NextQuadruple.the-variants as next-quadruple
 use Rattle.shell.specs.Shells.{descending, triples, beside, pairs, quadruples, component, refused, found}
-use Rattle.shell.specs.Walk.{line, lines, from, shift, orderOf, tripleOrders, tripleRest, pairOrders, pairAll, pairRest, quadrupleOrders, quadrupleRest, First, FirstPair, FirstQuadruple, Small, Follows, FollowsPair, FollowsQuadruple, Walked}
+use Rattle.shell.specs.inner.Walk.{line, lines, from, shift, orderSum, tripleOrders, tripleRest, pairOrders, pairAll, pairRest, quadrupleOrders, quadrupleRest, First, FirstPair, FirstQuadruple, Small, Follows, FollowsPair, FollowsQuadruple, Walked}
 
 -- ---- triples
 
@@ -91,7 +92,7 @@ triples-from m =
     lines-are m m (omega arith) ∙ cc (none, one)
 
 pub first-rest : (m : ℕ) (t : Triple) → First m t → tripleRest t ≡ triples m
-first-rest m t f = cc (f .0, f .1, f .2, triples-from m)
+first-rest m t f = rw (f .0, f .1, f .2) (sym (triples-from m))
 
 -- ---- two lists beside each other
 
@@ -119,8 +120,8 @@ unfolding pairRest
 pair-head c =
     let f = from-head (c .first .x) (c .first .y) (c .first .z) in
     let s = from-head (c .second .x) (c .second .y) (c .second .z) in (
-      shift (tripleRest (c .first)) (s .0) (triples (orderOf (c .second))),
-      shift-inner (tripleRest (c .first)) (tripleRest (c .second)) (s .0) (triples (orderOf (c .second))) (f .0) (tripleOrders (c .first)) (tripleOrders (c .second)) (f .1) (s .1),
+      shift (tripleRest (c .first)) (s .0) (triples (orderSum (c .second))),
+      shift-inner (tripleRest (c .first)) (tripleRest (c .second)) (s .0) (triples (orderSum (c .second))) (f .0) (tripleOrders (c .first)) (tripleOrders (c .second)) (f .1) (s .1),
     )
 
 pub pair-inner : (c : Pair) (r : Next) (n : Triple) → Follows (c .second) r → r ≡ next.Is n → FollowsPair c (next-pair.Is (record { first = c .first; second = n }))
@@ -128,35 +129,35 @@ unfolding pairRest Follows FollowsPair
 pair-inner c r n follows is =
     let w : Follows (c .second) (next.Is n) = rw is at follows in
     let f = from-head (c .first .x) (c .first .y) (c .first .z) in (
-      shift-inner (tripleRest (c .first)) (tripleRest (c .second)) (tripleRest n) (triples (orderOf (c .second))) (f .0) (tripleOrders (c .first)) (tripleOrders (c .second)) (f .1) (w .0)
-          ∙ cc (w .1),
+      shift-inner (tripleRest (c .first)) (tripleRest (c .second)) (tripleRest n) (triples (orderSum (c .second))) (f .0) (tripleOrders (c .first)) (tripleOrders (c .second)) (f .1) (w .0)
+          ∙ ap (λ (o : ℕ). pairOrders c ∷ shift (tripleRest (c .first)) (tripleRest n) (triples o)) (sym (w .1)),
       (refl, w .1),
     )
 
-pub pair-outer : (c : Pair) (r q : Next) (n a : Triple) → Follows (c .second) r → r ≡ next.Last → Follows (c .first) q → q ≡ next.Is n → First (orderOf (c .second)) a → FollowsPair c (next-pair.Is (record { first = n; second = a }))
+pub pair-outer : (c : Pair) (r q : Next) (n a : Triple) → Follows (c .second) r → r ≡ next.Last → Follows (c .first) q → q ≡ next.Is n → First (orderSum (c .second)) a → FollowsPair c (next-pair.Is (record { first = n; second = a }))
 unfolding pairRest Follows FollowsPair
 pair-outer c r q n a follows is follows′ is′ first =
     let v : Follows (c .second) next.Last = rw is at follows in
     let w : Follows (c .first) (next.Is n) = rw is′ at follows′ in
-    let whole : tripleRest a ≡ triples (orderOf (c .second)) = first-rest (orderOf (c .second)) a first in
-    let order : orderOf a ≡ orderOf (c .second) = omega arith in (
-      shift-outer (tripleRest (c .first)) (tripleRest (c .second)) (tripleRest n) (triples (orderOf (c .second))) (tripleOrders (c .first)) (tripleOrders (c .second)) (w .0) v
-          ∙ cc (whole, order),
+    let whole : tripleRest a ≡ triples (orderSum (c .second)) = first-rest (orderSum (c .second)) a first in
+    let order : orderSum a ≡ orderSum (c .second) = omega arith in (
+      shift-outer (tripleRest (c .first)) (tripleRest (c .second)) (tripleRest n) (triples (orderSum (c .second))) (tripleOrders (c .first)) (tripleOrders (c .second)) (w .0) v
+          ∙ ap₂ (λ (r : List (List ℕ)) (o : ℕ). pairOrders c ∷ shift (tripleRest n) r (triples o)) (sym whole) (sym order),
       (w .1, order),
     )
 
 pub pair-last : (c : Pair) (r q : Next) → Follows (c .second) r → r ≡ next.Last → Follows (c .first) q → q ≡ next.Last → FollowsPair c next-pair.Last
 unfolding pairRest Follows FollowsPair
 pair-last c r q follows is follows′ is′ =
-    shift-last (tripleRest (c .first)) (tripleRest (c .second)) (triples (orderOf (c .second))) (tripleOrders (c .first)) (tripleOrders (c .second)) (rw is′ at follows′) (rw is at follows)
+    shift-last (tripleRest (c .first)) (tripleRest (c .second)) (triples (orderSum (c .second))) (tripleOrders (c .first)) (tripleOrders (c .second)) (rw is′ at follows′) (rw is at follows)
 
 first-pair : (a b : ℕ) (c : Pair) → First a (c .first) → First b (c .second) → pairRest c ≡ pairs a b
 unfolding pairRest
 first-pair a b c fa fb =
-    let order : orderOf (c .second) ≡ b = omega arith in
+    let order : orderSum (c .second) ≡ b = omega arith in
     let rest-a = first-rest a (c .first) fa in
     let rest-b = first-rest b (c .second) fb in
-    cc (order, shift-all (triples a) (triples b))
+    rw (rest-a, rest-b, order) (shift-all (triples a) (triples b))
 
 -- ---- quadruples
 
@@ -175,7 +176,7 @@ quadruple-inner c r n small follows is =
     let w : FollowsPair (c .second) (next-pair.Is n) = rw is at follows in
     let f = pair-head (c .first) in (
       shift-inner (pairRest (c .first)) (pairRest (c .second)) (pairRest n) (pairAll (c .second)) (f .0) (pairOrders (c .first)) (pairOrders (c .second)) (f .1) (w .0)
-          ∙ cc (w .1 .0, w .1 .1),
+          ∙ ap₂ (λ (o p : ℕ). quadrupleOrders c ∷ shift (pairRest (c .first)) (pairRest n) (pairs o p)) (sym (w .1 .0)) (sym (w .1 .1)),
       (small .0, (omega arith, omega arith)),
     )
 
@@ -184,11 +185,12 @@ unfolding quadrupleRest FollowsPair FollowsQuadruple
 quadruple-outer c r q n a small follows is follows′ is′ first =
     let v : FollowsPair (c .second) next-pair.Last = rw is at follows in
     let w : FollowsPair (c .first) (next-pair.Is n) = rw is′ at follows′ in
-    let whole : pairRest a ≡ pairAll (c .second) = first-pair (orderOf (c .second .first)) (orderOf (c .second .second)) a (first .0) (first .1) in
-    let order : orderOf (a .first) ≡ orderOf (c .second .first) = omega arith in
-    let order′ : orderOf (a .second) ≡ orderOf (c .second .second) = omega arith in (
+    let whole : pairRest a ≡ pairAll (c .second) = first-pair (orderSum (c .second .first)) (orderSum (c .second .second)) a (first .0) (first .1) in
+    let order : orderSum (a .first) ≡ orderSum (c .second .first) = omega arith in
+    let order′ : orderSum (a .second) ≡ orderSum (c .second .second) = omega arith in (
       shift-outer (pairRest (c .first)) (pairRest (c .second)) (pairRest n) (pairAll (c .second)) (pairOrders (c .first)) (pairOrders (c .second)) (w .0) v
-          ∙ cc (whole, order, order′),
+          ∙ ap (λ (r : List (List ℕ)). quadrupleOrders c ∷ shift (pairRest n) r (pairAll (c .second))) (sym whole)
+          ∙ ap₂ (λ (o p : ℕ). quadrupleOrders c ∷ shift (pairRest n) (pairRest a) (pairs o p)) (sym order) (sym order′),
       ((omega arith, omega arith), (omega arith, omega arith)),
     )
 
@@ -204,14 +206,10 @@ unfolding quadrupleRest
 walked-first a b c d number q ha hb hc hd first =
     let f : pairRest (q .first) ≡ pairs a b = first-pair a b (q .first) (first .0 .0) (first .0 .1) in
     let s : pairRest (q .second) ≡ pairs c d = first-pair c d (q .second) (first .1 .0) (first .1 .1) in
-    let order : orderOf (q .second .first) ≡ c = omega arith in
-    let order′ : orderOf (q .second .second) ≡ d = omega arith in
-    let whole : shift (pairRest (q .first)) (pairRest (q .second)) (pairAll (q .second)) ≡ quadruples a b c d = cc (shift-all (pairs a b) (pairs c d)) in
+    let order : orderSum (q .second .first) ≡ c = omega arith in
+    let order′ : orderSum (q .second .second) ≡ d = omega arith in
+    let whole : shift (pairRest (q .first)) (pairRest (q .second)) (pairAll (q .second)) ≡ quadruples a b c d = rw (f, s, order, order′) (shift-all (pairs a b) (pairs c d)) in
     record { small = ((omega arith, omega arith), (omega arith, omega arith)); counts = ap (λ (l : List (List ℕ)). number + length l) whole; at = ap (λ (l : List (List ℕ)). getD l number []) whole }
-
-later : (l tail : List (List ℕ)) (o : List ℕ) (left : ℕ) → l ≡ o ∷ tail → 0 < left → getD l left [] ≡ getD tail (left - 1) []
-later l tail o zero e some = absurd (not-suc-le-zero some)
-later l tail o (suc left) e some = let less : suc left - 1 ≡ left = omega arith in rw (e, less)
 
 pub walked-more : (list : List (List ℕ)) (number : ℕ) (c : Quadruple) (left : ℕ) (r : NextQuadruple) (n : Quadruple) → Walked list number c left → 0 < left → FollowsQuadruple c r → r ≡ next-quadruple.Is n → Walked list number n (left - 1)
 unfolding FollowsQuadruple
@@ -220,7 +218,7 @@ walked-more list number c left r n w some follows is =
     record {
       small = f .1;
       counts = omega (arith, w .counts, ap length (f .0));
-      at = sym (later (quadrupleRest c) (quadrupleRest n) (quadrupleOrders c) left (f .0) some) ∙ w .at;
+      at = sym (getD-later (quadrupleRest c) (quadrupleRest n) (quadrupleOrders c) [] left (f .0) some) ∙ w .at;
     }
 
 pub walked-past : (list : List (List ℕ)) (number : ℕ) (c : Quadruple) (left : ℕ) (r : NextQuadruple) (x : Component) → Walked list number c left → 0 < left → FollowsQuadruple c r → r ≡ next-quadruple.Last → x ≡ refused 13 → x ≡ component list number

@@ -1,2 +1,2 @@
 pub mod Shells
-pub mod Walk
+pub mod inner

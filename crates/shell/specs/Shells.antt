@@ -4,12 +4,13 @@ use mathlib.Core.Path.{_≡_}
 use mathlib.Core.Bool.{cond, _||_}
 use mathlib.Core.List.{List, [], _∷_, _++_, map, flatMap, flatten}
 use lib.Dec.{ltb}
-use lib.ListN.{length, getD, take, drop, replicate}
-use Rattle.laws.specs.Placed.{placed}
+use lib.ListN.{length, getD, drop, replicate}
+use Rattle.laws.specs.Placed.{placedWhereFits}
 use Rattle.kind.specs.Limits.{mostOrder, requestOrders}
 use Rattle.shell.specs.declared.Listed.{Listed}
 use Rattle.shell.specs.declared.Listed.the-variants as listed
-use Rattle.shell.specs.declared.Sought.the-variants as told
+use Rattle.shell.specs.declared.Sought.{Sought}
+use Rattle.shell.specs.declared.Sought.the-variants as sought
 use Rattle.shell.specs.declared.Component.{Component}
 
 -- n, n − 1 and so on to 0
@@ -36,6 +37,15 @@ pairs a b = beside (triples a) (triples b)
 abbrev pub quadruples : ℕ → ℕ → ℕ → ℕ → List (List ℕ)
 quadruples a b c d = beside (pairs a b) (pairs c d)
 
+-- the number that 01 gives each case; 0 is success
+abbrev pub listedRefusalOf : Listed → ℕ
+listedRefusalOf (listed.Bytes long triples) = 0
+listedRefusalOf (listed.Refused n) = n
+
+abbrev pub refusalOf : Sought → ℕ
+refusalOf sought.Component = 0
+refusalOf (sought.Refused n) = n
+
 -- a shell list's refusals: 2 a shell's order above the limit, 5 a start beyond the end, 6 no room
 unfoldable pub listedAt : ℕ → List ℕ → ℕ → Listed
 listedAt m out start =
@@ -44,11 +54,9 @@ listedAt m out start =
     (cond (ltb (length out) (start + length (shellBytes m))) (listed.Refused 6)
     (listed.Bytes (length (shellBytes m)) (length (triples m)))))
 
--- a refusal changes no byte; a success only those of the list
+-- a refusal changes no byte, and a success only those of the list
 unfoldable pub listedOut : ℕ → List ℕ → ℕ → List ℕ
-listedOut m out start =
-    cond (ltb mostOrder m || (ltb (length out) start || ltb (length out) (start + length (shellBytes m)))) out
-    (placed out start (shellBytes m))
+listedOut m out start = cond (ltb mostOrder m) out (placedWhereFits out start (shellBytes m))
 
 pub record ListTold (m : ℕ) (before : List ℕ) (start : ℕ) (r : Listed) (after : List ℕ) : Type 0 where
   pub answer : r ≡ listedAt m before start
@@ -56,10 +64,10 @@ pub record ListTold (m : ℕ) (before : List ℕ) (start : ℕ) (r : Listed) (af
 
 -- a refusal, with zeros beside it
 abbrev pub refused : ℕ → Component
-refused n = record { found = told.Refused n; orders = replicate requestOrders 0 }
+refused n = record { found = sought.Refused n; orders = replicate requestOrders 0 }
 
 abbrev pub found : List ℕ → Component
-found orders = record { found = told.Component; orders = orders }
+found orders = record { found = sought.Component; orders = orders }
 
 -- a component by number: 13 where the number is not below the count
 unfoldable pub component : List (List ℕ) → ℕ → Component

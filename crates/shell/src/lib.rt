@@ -7,7 +7,7 @@ ghost use lib.ListN.{length};
 ghost use lib.Seq.{sets};
 ghost use Rattle.kind.specs.Limits.{mostOrder};
 ghost use Rattle.shell.specs.Shells.{triples, shellBytes, ListTold, refused, found, component, quadruples, shell2Of, shell4Of};
-ghost use Rattle.shell.specs.Walk.{orderOf, tripleOrders, Follows, FollowsPair, FollowsQuadruple, Small, SmallPair, First, FirstPair, FirstQuadruple, quadrupleOrders};
+ghost use Rattle.shell.specs.inner.Walk.{orderSum, tripleOrders, Follows, FollowsPair, FollowsQuadruple, Small, SmallPair, First, FirstPair, FirstQuadruple, quadrupleOrders};
 use kind::Kind;
 
 // The list's length in bytes and its triples.
@@ -66,7 +66,7 @@ fn first(m: u8) -> Triple
 
 // The triple after one of its list: y falls, then x.
 fn after(t: Triple) -> Next
-    requires { ⌜ orderOf t ≤ mostOrder ⌝ }
+    requires { ⌜ orderSum t ≤ mostOrder ⌝ }
     ensures { λ r. ⌜ Follows t r ⌝ }
 {
     if 0 < t.y {
@@ -88,8 +88,8 @@ fn after(t: Triple) -> Next
 
 // The first triple of the list that one is in.
 fn again(t: Triple) -> Triple
-    requires { ⌜ orderOf t ≤ mostOrder ⌝ }
-    ensures { λ r. ⌜ First (orderOf t) r ⌝ }
+    requires { ⌜ orderSum t ≤ mostOrder ⌝ }
+    ensures { λ r. ⌜ First (orderSum t) r ⌝ }
 {
     first(t.x + t.y + t.z)
 }

@@ -11,23 +11,24 @@ use borrow.Author.Tests.{lt-ltb, le-ltb, ltb-true, ltb-false, eq-eqb}
 use lib.Dec.{ltb}
 use lib.ListN.{length, drop, length-append}
 use lib.Seq.{drop-append-seam}
+use Rattle.laws.proofs.Cases.{tested}
 use Rattle.text.specs.Digits.{glyph, worth, digits, decimalIn, decimalOf, valueFrom}
-use Rattle.text.specs.Reading.{runOf, numberOf, decimalAt, hexAt}
-use Rattle.text.specs.Writing.{Wrote}
+use Rattle.text.specs.Reading.{runOf, valueAt, decimalAt, hexAt}
+use Rattle.text.specs.Writing.{WrittenTold}
 use Rattle.text.specs.declared.Written.{Written}
 use Rattle.text.specs.declared.Parsed.the-variants.{Is}
-use Rattle.text.proofs.Writing.{tested, digit-below, length-digits}
+use Rattle.text.proofs.Writing.{digit-below, length-digits}
 
--- steps enough are enough
-in-enough : (s t n : ℕ) → n < s → n < t → decimalIn s n ≡ decimalIn t n
-in-enough zero t n h k = absurd (omega arith)
-in-enough (suc s) zero n h k = absurd (omega arith)
-in-enough (suc s) (suc t) n h k =
+-- more steps than the number change nothing
+decimal-steps-enough : (s t n : ℕ) → n < s → n < t → decimalIn s n ≡ decimalIn t n
+decimal-steps-enough zero t n h k = absurd (omega arith)
+decimal-steps-enough (suc s) zero n h k = absurd (omega arith)
+decimal-steps-enough (suc s) (suc t) n h k =
     tested (ltb n 10)
     (λ y. rw (y, decimalIn))
     (λ y.
     let large : 10 ≤ n = ltb-false n 10 y in
-    rw (y, decimalIn) (ap (λ (l : List ℕ). l ++ (glyph (n % 10) ∷ [])) (in-enough s t (n / 10) (omega arith) (omega arith))))
+    rw (y, decimalIn) (ap (λ (l : List ℕ). l ++ (glyph (n % 10) ∷ [])) (decimal-steps-enough s t (n / 10) (omega arith) (omega arith))))
 
 pub decimal-short : (n : ℕ) → n < 10 → decimalOf n ≡ glyph n ∷ []
 unfolding decimalOf
@@ -37,7 +38,7 @@ pub decimal-long : (n : ℕ) → 10 ≤ n → decimalOf n ≡ decimalOf (n / 10)
 unfolding decimalOf
 decimal-long n h =
     rw (le-ltb n 10 h, decimalIn)
-    (ap (λ (l : List ℕ). l ++ (glyph (n % 10) ∷ [])) (in-enough n (suc (n / 10)) (n / 10) (omega arith) (omega arith)))
+    (ap (λ (l : List ℕ). l ++ (glyph (n % 10) ∷ [])) (decimal-steps-enough n (suc (n / 10)) (n / 10) (omega arith) (omega arith)))
 
 pub places-short : (n : ℕ) → n < 10 → length (decimalOf n) ≡ 1
 places-short n h = rw (decimal-short n h)
@@ -62,10 +63,10 @@ decimal-digits n =
     (λ n h tens. rw (places-long n h) (ap (λ (l : List ℕ). l ++ (glyph (n % 10) ∷ [])) tens ∙ sym (decimal-long n h)))
     (suc n) n (omega arith)
 
-pub wrote-decimal : (before after : List ℕ) (at k n : ℕ) (r : Written) → Wrote before at (digits 10 k n) r after → k ≡ length (decimalOf n)
-    → Wrote before at (decimalOf n) r after
+pub wrote-decimal : (before after : List ℕ) (at k n : ℕ) (r : Written) → WrittenTold before at (digits 10 k n) r after → k ≡ length (decimalOf n)
+    → WrittenTold before at (decimalOf n) r after
 wrote-decimal before after at k n r w e =
-    subst (λ (text : List ℕ). Wrote before at text r after) (ap (λ (k : ℕ). digits 10 k n) e ∙ decimal-digits n) w
+    subst (λ (text : List ℕ). WrittenTold before at text r after) (ap (λ (k : ℕ). digits 10 k n) e ∙ decimal-digits n) w
 
 -- ---- worth
 
@@ -119,25 +120,25 @@ decimal-number m n e = sym (decimal-value m) ∙ ap (valueFrom 10 0) e ∙ decim
 
 -- ---- reading back
 
-run-digit : (base d : ℕ) (rest : List ℕ) → base ≤ 16 → d < base → runOf base (glyph d ∷ rest) ≡ glyph d ∷ runOf base rest
+run-digit : (base d : ℕ) (rest : List ℕ) → base ≤ 16 → d < base → runOf (glyph d ∷ rest) base ≡ glyph d ∷ runOf rest base
 run-digit base d rest b h = rw (worth-glyph d (omega arith), runOf) (rw (lt-ltb d base h))
 
-run-digits : (base k n : ℕ) (rest : List ℕ) → 1 < base → base ≤ 16 → runOf base (digits base k n ++ rest) ≡ digits base k n ++ runOf base rest
+run-digits : (base k n : ℕ) (rest : List ℕ) → 1 < base → base ≤ 16 → runOf (digits base k n ++ rest) base ≡ digits base k n ++ runOf rest base
 run-digits base zero n rest a b = refl
 run-digits base (suc k) n rest a b =
     rw (append-assoc, append-assoc)
     (run-digits base k (n / base) (glyph (n % base) ∷ rest) a b
     ∙ ap (λ (l : List ℕ). digits base k (n / base) ++ l) (run-digit base (n % base) rest b (mod-lt n (omega arith))))
 
-run-decimal : (n : ℕ) (rest : List ℕ) → runOf 10 (decimalOf n ++ rest) ≡ decimalOf n ++ runOf 10 rest
+run-decimal : (n : ℕ) (rest : List ℕ) → runOf (decimalOf n ++ rest) 10 ≡ decimalOf n ++ runOf rest 10
 run-decimal n rest = rw (decimal-digits n) at (run-digits 10 (length (decimalOf n)) n rest (omega arith) (omega arith))
 
 -- a decimal that stands at a place, with no digit after it, reads as its number and the place after it
-pub decimal-back : (before rest : List ℕ) (n : ℕ) → n < 2 ^ 64 → runOf 10 rest ≡ []
+pub decimal-back : (before rest : List ℕ) (n : ℕ) → n < 2 ^ 64 → runOf rest 10 ≡ []
     → decimalAt (before ++ (decimalOf n ++ rest)) (length before) ≡ Is n (length before + length (decimalOf n))
-unfolding decimalAt numberOf
+unfolding decimalAt valueAt
 decimal-back before rest n small none =
-    let run : runOf 10 (drop (length before) (before ++ (decimalOf n ++ rest))) ≡ decimalOf n =
+    let run : runOf (drop (length before) (before ++ (decimalOf n ++ rest))) 10 ≡ decimalOf n =
     rw (drop-append-seam before (decimalOf n ++ rest)) (run-decimal n rest ∙ rw none (append-nil (decimalOf n))) in
     rw (run, decimal-value n, eq-eqb (length (decimalOf n)) (length (decimalOf n)) refl, lt-ltb n (2 ^ 64) small)
 
@@ -150,10 +151,10 @@ value-digits base (suc k) n a b h =
     ∙ rw (value-digits base k (n / base) a b below, worth-glyph (n % base) last) (div-add-mod' n base)
 
 -- so does a word in sixteen hexadecimal digits
-pub word-back : (before rest : List ℕ) (n : ℕ) → n < 2 ^ 64 → runOf 16 rest ≡ []
+pub word-back : (before rest : List ℕ) (n : ℕ) → n < 2 ^ 64 → runOf rest 16 ≡ []
     → hexAt (before ++ (digits 16 16 n ++ rest)) (length before) ≡ Is n (length before + 16)
-unfolding hexAt numberOf
+unfolding hexAt valueAt
 word-back before rest n small none =
-    let run : runOf 16 (drop (length before) (before ++ (digits 16 16 n ++ rest))) ≡ digits 16 16 n =
+    let run : runOf (drop (length before) (before ++ (digits 16 16 n ++ rest))) 16 ≡ digits 16 16 n =
     rw (drop-append-seam before (digits 16 16 n ++ rest)) (run-digits 16 16 n rest (omega arith) (omega arith) ∙ rw none (append-nil (digits 16 16 n))) in
     rw (run, length-digits 16 16 n, value-digits 16 16 n (omega arith) (omega arith) small, lt-ltb n (2 ^ 64) small)

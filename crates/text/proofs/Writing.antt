@@ -1,7 +1,7 @@
 -- Stores one by one are the text at its place: forwards, as bytes are copied, and backwards, as digits are spelled.
 -- A text that has room, and one that has none, keep the writers' promise.
 use Prim.Native.Nat.{ℕ, zero, suc, _+_, _-_, _/_, _%_, _^_, _≤_, _<_}
-use native.Mathlib.Nat.{add-zero, add-suc, suc-add, mod-lt}
+use native.Mathlib.Nat.{add-suc, mod-lt}
 use native.Mathlib.Numerals.{add-one}
 use native.Mathlib.Omega.{arith}
 use mathlib.Core.Path.{_≡_, refl, ap, sym, _∙_}
@@ -10,16 +10,14 @@ use mathlib.Core.List.{List, [], _∷_, _++_}
 use borrow.Author.Tests.{le-leb, lt-leb, leb-true, leb-false}
 use lib.Dec.{leb}
 use lib.ListN.{length, getD, drop, set, length-append, drop-of-length-le}
-use lib.Seq.{sets, set-comm, drop-cons}
-use Rattle.laws.proofs.Parts.{sets-placed}
+use lib.Seq.{sets, drop-cons}
+use Rattle.laws.specs.Placed.{roomFor}
+use Rattle.laws.proofs.Cases.{tested}
+use Rattle.laws.proofs.Lists.{sets-last}
+use Rattle.laws.proofs.Parts.{room-placed, no-room-placed}
 use Rattle.text.specs.declared.Written.the-variants.{To, NoRoom}
 use Rattle.text.specs.Digits.{glyph, digits}
-use Rattle.text.specs.Writing.{roomFor, Wrote}
-
--- by cases on a test
-pub tested : {P : Type 0} (b : Bool) → (b ≡ true → P) → (b ≡ false → P) → P
-tested true t f = t refl
-tested false t f = f refl
+use Rattle.text.specs.Writing.{WrittenTold}
 
 -- ---- room
 
@@ -53,14 +51,6 @@ copy-whole out bytes whole at i e h = sym (ap (sets out (at + i)) (drop-of-lengt
 
 -- ---- digits from the last to the first
 
-pub sets-last : (l xs : List ℕ) (i b : ℕ) → sets (set l (i + length xs) b) i xs ≡ sets l i (xs ++ (b ∷ []))
-sets-last l [] i b = rw (add-zero i)
-sets-last l (x ∷ xs) i b =
-    let e : i + suc (length xs) ≡ suc i + length xs = add-suc i (length xs) ∙ sym (suc-add i (length xs)) in
-    ap (λ (m : List ℕ). sets m (suc i) xs) (set-comm l (i + suc (length xs)) i b x (λ q. omega (arith, q)))
-    ∙ ap (λ (k : ℕ). sets (set (set l i x) k b) (suc i) xs) e
-    ∙ sets-last (set l i x) xs (suc i) b
-
 pub length-digits : (base k n : ℕ) → length (digits base k n) ≡ k
 length-digits base zero n = refl
 length-digits base (suc k) n = length-append (digits base k (n / base)) (glyph (n % base) ∷ []) ∙ add-one _ ∙ ap suc (length-digits base k (n / base))
@@ -87,25 +77,25 @@ spell-whole out whole at (suc i) n base e h = absurd (omega arith)
 -- ---- the promise
 
 pub wrote-bytes : (before after text : List ℕ) (at : ℕ) (t : Bool) → after ≡ sets before at text
-    → t ≡ leb (at + length text) (length before) → t ≡ true → Wrote before at text (To (at + length text)) after
+    → t ≡ leb (at + length text) (length before) → t ≡ true → WrittenTold before at text (To (at + length text)) after
 wrote-bytes before after text at t stored e h =
     let room : roomFor before at (length text) ≡ true = sym e ∙ h in
     record {
       answer = rw room;
-      holds = stored ∙ sets-placed text before at (leb-true _ _ room) ∙ rw room;
+      out = stored ∙ room-placed text before at room;
     }
 
 pub wrote-none : (before text : List ℕ) (at : ℕ) (t : Bool) → t ≡ leb (at + length text) (length before) → t ≡ false
-    → Wrote before at text NoRoom before
+    → WrittenTold before at text NoRoom before
 wrote-none before text at t e h =
     let room : roomFor before at (length text) ≡ false = sym e ∙ h in
-    record { answer = rw room; holds = rw room }
+    record { answer = rw room; out = no-room-placed text before at room }
 
 pub wrote-digits : (before after : List ℕ) (base k n at : ℕ) (t : Bool) → after ≡ sets before at (digits base k n)
-    → t ≡ leb (at + k) (length before) → t ≡ true → Wrote before at (digits base k n) (To (at + k)) after
+    → t ≡ leb (at + k) (length before) → t ≡ true → WrittenTold before at (digits base k n) (To (at + k)) after
 wrote-digits before after base k n at t stored e h =
     rw (length-digits base k n) at (wrote-bytes before after (digits base k n) at t stored (rw (length-digits base k n) e) h)
 
 pub none-digits : (before : List ℕ) (base k n at : ℕ) (t : Bool) → t ≡ leb (at + k) (length before) → t ≡ false
-    → Wrote before at (digits base k n) NoRoom before
+    → WrittenTold before at (digits base k n) NoRoom before
 none-digits before base k n at t e h = wrote-none before (digits base k n) at t (rw (length-digits base k n) e) h

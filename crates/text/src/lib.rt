@@ -8,8 +8,8 @@ ghost use lib.Dec.{leb};
 ghost use lib.Seq.{sets};
 ghost use Rattle.text.specs.Digits.{digits, decimalOf};
 ghost use Rattle.text.specs.Digits.{glyph as Digits·glyph, worth as Digits·worth};
-ghost use Rattle.text.specs.Writing.{Wrote};
-ghost use Rattle.text.specs.Reading.{runOf, numberOf, decimalAt, hexAt};
+ghost use Rattle.text.specs.Writing.{WrittenTold};
+ghost use Rattle.text.specs.Reading.{runOf, valueAt, decimalAt, hexAt};
 
 // Where a text ends that was written.
 pub enum Written {
@@ -27,7 +27,7 @@ pub enum Parsed {
 const MOST_HEX: usize = 16;
 
 pub fn put(out: &mut [u8], at: usize, bytes: &[u8]) -> Written
-    ensures { λ r. ⌜ Wrote (now (out .entry)) at (now (bytes .entry)) r (now (out .exit)) ⌝ }
+    ensures { λ r. ⌜ WrittenTold (now (out .entry)) at (now (bytes .entry)) r (now (out .exit)) ⌝ }
 {
     if has_room(out.len(), at, bytes.len()) {
         copy(out, at, bytes);
@@ -38,21 +38,21 @@ pub fn put(out: &mut [u8], at: usize, bytes: &[u8]) -> Written
 
 // A number in decimal, with no leading zeros.
 pub fn decimal(out: &mut [u8], at: usize, n: u64) -> Written
-    ensures { λ r. ⌜ Wrote (now (out .entry)) at (decimalOf n) r (now (out .exit)) ⌝ }
+    ensures { λ r. ⌜ WrittenTold (now (out .entry)) at (decimalOf n) r (now (out .exit)) ⌝ }
 {
     spelled(out, at, places(n), n, 10)
 }
 
 // A byte in two hexadecimal digits.
 pub fn hex_byte(out: &mut [u8], at: usize, byte: u8) -> Written
-    ensures { λ r. ⌜ Wrote (now (out .entry)) at (digits 16 2 byte) r (now (out .exit)) ⌝ }
+    ensures { λ r. ⌜ WrittenTold (now (out .entry)) at (digits 16 2 byte) r (now (out .exit)) ⌝ }
 {
     spelled(out, at, 2, byte as u64, 16)
 }
 
 // A word of 64 bits in sixteen hexadecimal digits.
 pub fn hex_word(out: &mut [u8], at: usize, word: u64) -> Written
-    ensures { λ r. ⌜ Wrote (now (out .entry)) at (digits 16 16 word) r (now (out .exit)) ⌝ }
+    ensures { λ r. ⌜ WrittenTold (now (out .entry)) at (digits 16 16 word) r (now (out .exit)) ⌝ }
 {
     spelled(out, at, 16, word, 16)
 }
@@ -129,7 +129,7 @@ pub fn places(n: u64) -> usize
 // The last `k` digits of `n` in `base`, where they have room.
 fn spelled(out: &mut [u8], at: usize, k: usize, n: u64, base: u64) -> Written
     requires { ⌜ (1 < base) × (base ≤ 16) ⌝ }
-    ensures { λ r. ⌜ Wrote (now (out .entry)) at (digits base k n) r (now (out .exit)) ⌝ }
+    ensures { λ r. ⌜ WrittenTold (now (out .entry)) at (digits base k n) r (now (out .exit)) ⌝ }
 {
     if has_room(out.len(), at, k) {
         spell(out, at, k, n, base);
@@ -182,7 +182,7 @@ fn worth(byte: u8) -> u64
 // The digits of `base` from `at` on: their number and the place after them.
 fn read_run(s: &[u8], at: usize, base: u64) -> Parsed
     requires { ⌜ (1 < base) × (base ≤ 16) ⌝ }
-    ensures { λ r. ⌜ r ≡ numberOf base at (runOf base (drop at (now (s .entry)))) ⌝ }
+    ensures { λ r. ⌜ r ≡ valueAt (runOf (drop at (now (s .entry))) base) at base ⌝ }
 {
     let mut n: u64 = 0;
     let mut i = at;

@@ -1,14 +1,14 @@
 -- `main` is safe: each buffer has the length that its array is made with. Assumes nothing.
 use borrow.Author.Needs.{needs}
-use Rattle.laws.proofs.Lists.{made}
+use Rattle.laws.proofs.Lists.{array-length}
 use Rattle.ask.proofs.main.Statement.{statement}
 use Rattle.ask.proofs.main.Tie as tie
 
 slice-aggregate-serve : tie.Need-slice-aggregate-serve
-slice-aggregate-serve c = made 2162688
+slice-aggregate-serve c = array-length 2162688
 
 slice-aggregate-serve-2 : tie.Need-slice-aggregate-serve-2
-slice-aggregate-serve-2 c = made 1048576
+slice-aggregate-serve-2 c = array-length 1048576
 
 slice-aggregate-serve-3 : tie.Need-slice-aggregate-serve-3
 slice-aggregate-serve-3 c = search needs

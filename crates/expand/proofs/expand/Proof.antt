@@ -1,11 +1,11 @@
 -- `expand` is safe: the buffer has the length that its array is made with. Assumes nothing.
 use borrow.Author.Needs.{needs}
-use Rattle.laws.proofs.Lists.{made}
+use Rattle.laws.proofs.Lists.{array-length}
 use Rattle.expand.proofs.expand.Statement.{statement}
 use Rattle.expand.proofs.expand.Tie as tie
 
 slice-aggregate-answer : tie.Need-slice-aggregate-answer
-slice-aggregate-answer c = made 1048576
+slice-aggregate-answer c = array-length 1048576
 
 answer-requires : tie.Need-answer-requires
 answer-requires c κs = search needs

@@ -5,7 +5,7 @@ use native.Mathlib.Omega.{arith}
 use borrow.Author.Needs.{needs}
 use lib.ListN.{length, drop}
 use Rattle.geometry.specs.Floats.{allFinite}
-use Rattle.geometry.proofs.Laws.{finite-more, finite-not, finite-done}
+use Rattle.geometry.proofs.FiniteFloats.{finite-more, finite-not, finite-done}
 use Rattle.geometry.proofs.all_finite.Statement.{statement}
 use Rattle.geometry.proofs.all_finite.Tie as tie
 

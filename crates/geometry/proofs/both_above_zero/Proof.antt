@@ -1,5 +1,5 @@
 -- `both_above_zero` meets its contract: the first, then the second. Assumes nothing.
-use Rattle.geometry.proofs.Laws.{both-above, first-not-above}
+use Rattle.geometry.proofs.FiniteFloats.{both-above, first-not-above}
 use borrow.Author.Needs.{needs}
 use Rattle.geometry.proofs.both_above_zero.Statement.{statement}
 use Rattle.geometry.proofs.both_above_zero.Tie as tie

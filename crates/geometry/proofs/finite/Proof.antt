@@ -1,5 +1,5 @@
 -- `finite` meets its contract: below the infinity and above its negative, by cases of the float. Assumes nothing.
-use Rattle.geometry.proofs.Laws.{above-all-below, not-below}
+use Rattle.geometry.proofs.FiniteFloats.{above-all-below, not-below}
 use Rattle.geometry.proofs.finite.Statement.{statement}
 use Rattle.geometry.proofs.finite.Tie as tie
 use lib.Ieee.{nanBits}

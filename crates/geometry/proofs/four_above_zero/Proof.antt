@@ -1,5 +1,5 @@
 -- `four_above_zero` meets its contract: the first two, then the others. Assumes nothing.
-use Rattle.geometry.proofs.Laws.{four-above, two-not-above}
+use Rattle.geometry.proofs.FiniteFloats.{four-above, two-not-above}
 use borrow.Author.Needs.{needs}
 use Rattle.geometry.proofs.four_above_zero.Statement.{statement}
 use Rattle.geometry.proofs.four_above_zero.Tie as tie

@@ -1,5 +1,5 @@
 -- `four_finite` meets its contract: one part, then the other. Assumes nothing.
-use Rattle.geometry.proofs.Laws.{finite-parts, finite-first}
+use Rattle.geometry.proofs.FiniteFloats.{finite-parts, finite-first}
 use borrow.Author.Needs.{needs}
 use Rattle.geometry.proofs.four_finite.Statement.{statement}
 use Rattle.geometry.proofs.four_finite.Tie as tie

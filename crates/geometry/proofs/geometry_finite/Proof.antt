@@ -1,6 +1,6 @@
 -- `geometry_finite` meets its contract: the numbers, then the entries. Assumes nothing.
 use Rattle.geometry.specs.Checks.{finiteWith}
-use Rattle.geometry.proofs.Laws.{finite-parts, finite-first, finite-held}
+use Rattle.geometry.proofs.FiniteFloats.{finite-parts, finite-first, finite-held}
 use borrow.Author.Needs.{needs}
 use Rattle.geometry.proofs.geometry_finite.Statement.{statement}
 use Rattle.geometry.proofs.geometry_finite.Tie as tie

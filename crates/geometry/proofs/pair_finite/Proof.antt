@@ -1,5 +1,5 @@
 -- `pair_finite` meets its contract: one part, then the other. Assumes nothing.
-use Rattle.geometry.proofs.Laws.{finite-parts, finite-first}
+use Rattle.geometry.proofs.FiniteFloats.{finite-parts, finite-first}
 use borrow.Author.Needs.{needs}
 use Rattle.geometry.proofs.pair_finite.Statement.{statement}
 use Rattle.geometry.proofs.pair_finite.Tie as tie

@@ -1,5 +1,5 @@
 -- `prefac` meets its contract: each arm is the definition at its kind. Assumes nothing.
-use Rattle.geometry.specs.Tables.{prefac}
+use Rattle.geometry.specs.Tables.{entriesOf, prefac}
 use borrow.Author.Needs.{needs}
 use Rattle.geometry.proofs.prefac.Statement.{statement}
 use Rattle.geometry.proofs.prefac.Tie as tie
@@ -38,23 +38,23 @@ coulomb-table-requires : tie.Need-coulomb-table-requires
 coulomb-table-requires c κs = search needs
 
 returns : tie.Need-returns
-unfolding prefac
+unfolding prefac entriesOf
 returns c = rw (c .before .enum-told .given .1) (rw (c .before .before .before .before .before .bi-center-of .ensures) at (c .overlap-table .ensures))
 
 returns-2 : tie.Need-returns-2
-unfolding prefac
+unfolding prefac entriesOf
 returns-2 c = rw (c .before .enum-told2 .given .1) (rw (c .before .before .before .before .before .bi-center-of .ensures) at (c .kinetic-table .ensures))
 
 returns-3 : tie.Need-returns-3
-unfolding prefac
+unfolding prefac entriesOf
 returns-3 c = rw (c .before .enum-told3 .given .1) (rw (c .before .before .before .before .before .bi-center-of .ensures) at (c .nuclear-table .ensures))
 
 returns-4 : tie.Need-returns-4
-unfolding prefac
+unfolding prefac entriesOf
 returns-4 c = rw (c .before .enum-told4 .given .1) (rw (c .before .before .before .before .before .bi-center-of .ensures) at (c .moment-table .ensures))
 
 returns-5 : tie.Need-returns-5
-unfolding prefac
+unfolding prefac entriesOf
 returns-5 c = rw (c .before .enum-told5 .given .1) (rw (c .before .before .before .before .before .bi-center-of .ensures) at (c .coulomb-table .ensures))
 
 pub prefac-spec : {M : Type 1} → statement M

@@ -10,8 +10,8 @@ of-requires c κs = search needs
 enum-known-k : tie.Need-enum-known-k
 enum-known-k c = search needs
 
-checked-requires : tie.Need-checked-requires
-checked-requires c κs = search needs
+checked-table-requires : tie.Need-checked-table-requires
+checked-table-requires c κs = search needs
 
 enum-told : tie.Need-enum-told
 enum-told c = search needs
@@ -31,7 +31,7 @@ prefactors-spec =
     (tie.spec
     of-requires
     enum-known-k
-    checked-requires
+    checked-table-requires
     enum-told
     refused-requires
     returns

@@ -1,5 +1,5 @@
 -- `three_finite` meets its contract: one part, then the other. Assumes nothing.
-use Rattle.geometry.proofs.Laws.{finite-parts, finite-first}
+use Rattle.geometry.proofs.FiniteFloats.{finite-parts, finite-first}
 use borrow.Author.Needs.{needs}
 use Rattle.geometry.proofs.three_finite.Statement.{statement}
 use Rattle.geometry.proofs.three_finite.Tie as tie
@@ -7,8 +7,8 @@ use Rattle.geometry.proofs.three_finite.Tie as tie
 pair-finite-requires : tie.Need-pair-finite-requires
 pair-finite-requires c κs = search needs
 
-place-finite-requires : tie.Need-place-finite-requires
-place-finite-requires c κs = search needs
+point-finite-requires : tie.Need-point-finite-requires
+point-finite-requires c κs = search needs
 
 returns : tie.Need-returns
 returns c = search finite-parts
@@ -18,4 +18,4 @@ returns-2 c = search finite-first
 
 pub three-finite-spec : {M : Type 1} → statement M
 three-finite-spec =
-    tie.close (tie.spec pair-finite-requires place-finite-requires returns returns-2)
+    tie.close (tie.spec pair-finite-requires point-finite-requires returns returns-2)

@@ -3,7 +3,7 @@ use Prim.Native.Nat.{_≤_, _*_}
 use mathlib.Core.Path.{refl}
 use native.Mathlib.Omega.{arith}
 use borrow.Author.Needs.{needs}
-use Rattle.jk.specs.Sums.{FromOn}
+use Rattle.jk.specs.inner.Rows.{FromOn}
 use Rattle.jk.proofs.Sizes.{square-fits}
 use Rattle.jk.proofs.Mirror.{none-stand, still-stands, room-of, inside-fits, inside-room, one-less, all-stand}
 use Rattle.jk.proofs.entries.Statement.{statement}

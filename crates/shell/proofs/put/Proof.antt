@@ -1,7 +1,7 @@
 -- `put` meets its contract: three stores in a row. Assumes nothing.
 use native.Mathlib.Omega.{arith}
 use lib.ListN.{length-set}
-use Rattle.shell.proofs.Listing.{put-three}
+use Rattle.laws.proofs.Lists.{sets-three}
 use borrow.Author.Needs.{needs}
 use Rattle.shell.proofs.put.Statement.{statement}
 use Rattle.shell.proofs.put.Tie as tie
@@ -25,7 +25,7 @@ same-length : tie.Need-same-length
 same-length c = search needs
 
 returns : tie.Need-returns
-returns c = search put-three
+returns c = search sets-three
 
 pub put-spec : {M : Type 1} → statement M
 put-spec =

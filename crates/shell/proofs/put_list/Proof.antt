@@ -1,7 +1,7 @@
 -- `put_list` meets its contract. The loop's invariant is `Putting`: what is left of the list makes the whole; it gets shorter. Assumes nothing.
 use borrow.Author.Needs.{needs}
 use lib.ListN.{length}
-use Rattle.shell.specs.Walk.{tripleRest}
+use Rattle.shell.specs.inner.Walk.{tripleRest}
 use Rattle.shell.proofs.Listing.{Putting, putting-first, putting-room, putting-more, putting-falls, putting-done}
 use Rattle.shell.proofs.put_list.Statement.{statement}
 use Rattle.shell.proofs.put_list.Tie as tie

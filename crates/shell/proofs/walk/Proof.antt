@@ -1,7 +1,7 @@
 -- `walk` meets its contract. The loop's invariant is `Walked`: what is left of the list from here on; the number left falls. Assumes nothing.
 use borrow.Author.Needs.{needs}
 use Rattle.shell.specs.Shells.{quadruples}
-use Rattle.shell.specs.Walk.{Walked}
+use Rattle.shell.specs.inner.Walk.{Walked}
 use Rattle.shell.proofs.Walking.{walked-first, walked-more, walked-past, walked-found}
 use Rattle.shell.proofs.walk.Statement.{statement}
 use Rattle.shell.proofs.walk.Tie as tie

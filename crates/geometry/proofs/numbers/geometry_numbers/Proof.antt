@@ -1,5 +1,5 @@
 -- `geometry_numbers` meets its contract: each arm is the definition at its kind. Assumes nothing.
-use Rattle.geometry.specs.Geometry.{numbers}
+use Rattle.geometry.specs.Geometry.{geometryNumbers}
 use borrow.Author.Needs.{needs}
 use Rattle.geometry.proofs.numbers.geometry_numbers.Statement.{statement}
 use Rattle.geometry.proofs.numbers.geometry_numbers.Tie as tie
@@ -35,23 +35,23 @@ coulomb-numbers-requires : tie.Need-coulomb-numbers-requires
 coulomb-numbers-requires c κs = search needs
 
 returns : tie.Need-returns
-unfolding numbers
+unfolding geometryNumbers
 returns c = rw (c .before .enum-told .given .1) (c .pair-numbers .ensures)
 
 returns-2 : tie.Need-returns-2
-unfolding numbers
+unfolding geometryNumbers
 returns-2 c = rw (c .before .enum-told2 .given .1) (c .pair-numbers2 .ensures)
 
 returns-3 : tie.Need-returns-3
-unfolding numbers
+unfolding geometryNumbers
 returns-3 c = rw (c .before .enum-told3 .given .1) (c .nuclear-numbers .ensures)
 
 returns-4 : tie.Need-returns-4
-unfolding numbers
+unfolding geometryNumbers
 returns-4 c = rw (c .before .enum-told4 .given .1) (c .moment-numbers .ensures)
 
 returns-5 : tie.Need-returns-5
-unfolding numbers
+unfolding geometryNumbers
 returns-5 c = rw (c .before .enum-told5 .given .1) (c .coulomb-numbers .ensures)
 
 pub geometry-numbers-spec : {M : Type 1} → statement M

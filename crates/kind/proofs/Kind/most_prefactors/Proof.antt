@@ -1,7 +1,8 @@
--- `Kind::most_prefactors` meets its contract: `cc` reads the arm's kind for kinetic. Assumes nothing.
+-- `Kind::most_prefactors` meets its contract: a law for the kinetic arm. Assumes nothing.
 use borrow.Author.Needs.{needs}
 use Rattle.kind.proofs.Kind.most_prefactors.Statement.{statement}
 use Rattle.kind.proofs.Kind.most_prefactors.Tie as tie
+use Rattle.kind.proofs.KindNumber.{most-kinetic}
 
 enum-told : tie.Need-enum-told
 enum-told c = search needs
@@ -25,7 +26,7 @@ returns : tie.Need-returns
 returns c = search needs
 
 returns-2 : tie.Need-returns-2
-returns-2 c = cc
+returns-2 c = search most-kinetic
 
 returns-3 : tie.Need-returns-3
 returns-3 c = search needs

@@ -1,7 +1,7 @@
 -- `Kind::of` meets its contract: each arm is a row of `kindOf`. Assumes nothing.
 use Rattle.kind.proofs.Kind.of.Statement.{statement}
 use Rattle.kind.proofs.Kind.of.Tie as tie
-use Rattle.kind.proofs.Laws.{of-number, of-none}
+use Rattle.kind.proofs.KindNumber.{of-number, of-none}
 
 returns : tie.Need-returns
 returns c = search of-number

@@ -1,26 +1,14 @@
--- `checked` meets its contract: a law for each way out. Assumes nothing.
+-- `checked_table` meets its contract: a law for each way out. Assumes nothing.
 use Rattle.geometry.proofs.Checks.{refused-float, refused-exponent, refused-geometry, passed}
 use borrow.Author.Needs.{needs}
-use Rattle.geometry.proofs.checked.Statement.{statement}
-use Rattle.geometry.proofs.checked.Tie as tie
+use Rattle.geometry.proofs.checked_table.Statement.{statement}
+use Rattle.geometry.proofs.checked_table.Tie as tie
 
 used-finite-requires : tie.Need-used-finite-requires
 used-finite-requires c κs = search needs
 
-refused-requires : tie.Need-refused-requires
-refused-requires c κs = search needs
-
-returns : tie.Need-returns
-returns c = search refused-float
-
 exponents-above-zero-requires : tie.Need-exponents-above-zero-requires
 exponents-above-zero-requires c κs = search needs
-
-refused-requires-2 : tie.Need-refused-requires-2
-refused-requires-2 c κs = search needs
-
-returns-2 : tie.Need-returns-2
-returns-2 c = search refused-exponent
 
 prefac-requires : tie.Need-prefac-requires
 prefac-requires c κs = search needs
@@ -31,28 +19,40 @@ slice-aggregate-geometry-finite c = search needs
 geometry-finite-requires : tie.Need-geometry-finite-requires
 geometry-finite-requires c κs = search needs
 
+returns : tie.Need-returns
+returns c = search passed
+
+refused-requires : tie.Need-refused-requires
+refused-requires c κs = search needs
+
+returns-2 : tie.Need-returns-2
+returns-2 c = search refused-geometry
+
+refused-requires-2 : tie.Need-refused-requires-2
+refused-requires-2 c κs = search needs
+
+returns-3 : tie.Need-returns-3
+returns-3 c = search refused-exponent
+
 refused-requires-3 : tie.Need-refused-requires-3
 refused-requires-3 c κs = search needs
 
-returns-3 : tie.Need-returns-3
-returns-3 c = search refused-geometry
-
 returns-4 : tie.Need-returns-4
-returns-4 c = search passed
+returns-4 c = search refused-float
 
-pub checked-spec : {M : Type 1} → statement M
-checked-spec =
+pub checked-table-spec : {M : Type 1} → statement M
+checked-table-spec =
     tie.close
     (tie.spec
     used-finite-requires
-    refused-requires
-    returns
     exponents-above-zero-requires
-    refused-requires-2
-    returns-2
     prefac-requires
     slice-aggregate-geometry-finite
     geometry-finite-requires
-    refused-requires-3
+    returns
+    refused-requires
+    returns-2
+    refused-requires-2
     returns-3
+    refused-requires-3
     returns-4)

@@ -1,24 +1,15 @@
 -- Finite floats: the two tests of one, a list of them from a place on, and lists in two parts.
 -- Exponents above zero go by the same two parts.
-use Prim.Native.Nat.{ℕ, zero, suc, _+_, _-_, _<_, _≤_}
+use Prim.Native.Nat.{ℕ, zero, suc, _+_, _<_, _≤_}
 use mathlib.Core.Path.{_≡_, refl, sym, ap, _∙_}
-use mathlib.Core.Bool.{Bool, true, false, _&&_}
+use mathlib.Core.Bool.{Bool, true, false, _&&_, and-assoc, and-true}
 use mathlib.Core.List.{List, [], _∷_, _++_}
 use native.Mathlib.Numerals.{add-one}
-use native.Mathlib.Omega.{arith}
 use lib.Ieee.{Float, nan, inf, fin, binary64, lt, neg, ofBits}
 use lib.Ieee.Scale.{finite}
 use lib.ListN.{length, drop, getD, replicate, drop-of-length-le}
 use lib.Seq.{drop-cons}
 use Rattle.geometry.specs.Floats.{aboveZero, allFinite, allAboveZero, inPlaces, zero as 0·0}
-
-and-assoc : (a b c : Bool) → a && (b && c) ≡ (a && b) && c
-and-assoc true b c = refl
-and-assoc false b c = refl
-
-and-true : (a : Bool) → a && true ≡ a
-and-true true = refl
-and-true false = refl
 
 abbrev infinity : Float
 infinity = ofBits binary64 0x7ff0_0000_0000_0000
@@ -51,7 +42,7 @@ finite-done xs i b h e = rw (drop-of-length-le) at e
 pub finite-both : (xs ys : List Float) → allFinite (xs ++ ys) ≡ allFinite xs && allFinite ys
 unfolding allFinite
 finite-both [] ys = refl
-finite-both (x ∷ xs) ys = rw (finite-both xs ys) (and-assoc (finite x) (allFinite xs) (allFinite ys))
+finite-both (x ∷ xs) ys = rw (finite-both xs ys) (sym (and-assoc (finite x) (allFinite xs) (allFinite ys)))
 
 -- zeros change nothing
 pub finite-zeros : (n : ℕ) → allFinite (replicate n 0·0) ≡ true
@@ -72,7 +63,7 @@ finite-first xs ys s e p = rw (finite-both, ← e, p)
 pub above-both : (xs ys : List Float) → allAboveZero (xs ++ ys) ≡ allAboveZero xs && allAboveZero ys
 unfolding allAboveZero
 above-both [] ys = refl
-above-both (x ∷ xs) ys = rw (above-both xs ys) (and-assoc (aboveZero x) (allAboveZero xs) (allAboveZero ys))
+above-both (x ∷ xs) ys = rw (above-both xs ys) (sym (and-assoc (aboveZero x) (allAboveZero xs) (allAboveZero ys)))
 
 pub both-above : (a b : Float) (s t : Bool) → s ≡ aboveZero a → s ≡ true → t ≡ aboveZero b → t ≡ allAboveZero (a ∷ b ∷ [])
 unfolding allAboveZero
@@ -90,10 +81,3 @@ two-not-above a b c d s e p = rw (above-both (a ∷ b ∷ []) (c ∷ d ∷ []), 
 
 pub finite-held : (n : ℕ) (xs ys : List Float) (r : Bool) → ys ≡ inPlaces n xs → r ≡ allFinite ys → r ≡ allFinite xs
 finite-held n xs ys r e f = f ∙ ap allFinite e ∙ finite-places n xs
-
--- how much is left of n after k, for a loop that counts
-pub left-one : (n k : ℕ) → k < n → n - k ≡ suc (n - (k + 1))
-left-one n k h = omega arith
-
-pub left-none : (n k : ℕ) → n ≤ k → n - k ≡ 0
-left-none n k h = omega arith

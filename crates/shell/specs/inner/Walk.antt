@@ -1,4 +1,4 @@
--- How the lists are walked: what is left of one from a triple, a pair or a quadruple on.
+-- How the code walks the lists: what is left of one from a triple, a pair or a quadruple on.
 use Prim.Native.Nat.{ℕ, zero, suc, _+_, _≤_}
 use mathlib.Core.Path.{_≡_}
 use mathlib.Core.List.{List, [], _∷_, _++_, map}
@@ -33,8 +33,9 @@ unfoldable pub shift : List (List ℕ) → List (List ℕ) → List (List ℕ) �
 shift [] rest all = []
 shift (x ∷ xs) rest all = map (λ y. x ++ y) rest ++ beside xs all
 
-abbrev pub orderOf : Triple → ℕ
-orderOf t = t .x + t .y + t .z
+-- the order of the shell that a triple is in
+abbrev pub orderSum : Triple → ℕ
+orderSum t = t .x + t .y + t .z
 
 abbrev pub tripleOrders : Triple → List ℕ
 tripleOrders t = t .x ∷ t .y ∷ t .z ∷ []
@@ -46,10 +47,10 @@ abbrev pub pairOrders : Pair → List ℕ
 pairOrders c = tripleOrders (c .first) ++ tripleOrders (c .second)
 
 abbrev pub pairAll : Pair → List (List ℕ)
-pairAll c = pairs (orderOf (c .first)) (orderOf (c .second))
+pairAll c = pairs (orderSum (c .first)) (orderSum (c .second))
 
 unfoldable pub pairRest : Pair → List (List ℕ)
-pairRest c = shift (tripleRest (c .first)) (tripleRest (c .second)) (triples (orderOf (c .second)))
+pairRest c = shift (tripleRest (c .first)) (tripleRest (c .second)) (triples (orderSum (c .second)))
 
 abbrev pub quadrupleOrders : Quadruple → List ℕ
 quadrupleOrders c = pairOrders (c .first) ++ pairOrders (c .second)
@@ -61,23 +62,23 @@ abbrev pub First : ℕ → Triple → Type 0
 First m t = (t .x ≡ m) × (t .y ≡ 0) × (t .z ≡ 0)
 
 abbrev pub FirstPair : Pair → Pair → Type 0
-FirstPair c d = First (orderOf (c .first)) (d .first) × First (orderOf (c .second)) (d .second)
+FirstPair c d = First (orderSum (c .first)) (d .first) × First (orderSum (c .second)) (d .second)
 
 abbrev pub FirstQuadruple : ℕ → ℕ → ℕ → ℕ → Quadruple → Type 0
 FirstQuadruple a b c d r = (First a (r .first .first) × First b (r .first .second)) × (First c (r .second .first) × First d (r .second .second))
 
 abbrev pub SmallPair : Pair → Type 0
-SmallPair c = (orderOf (c .first) ≤ mostOrder) × (orderOf (c .second) ≤ mostOrder)
+SmallPair c = (orderSum (c .first) ≤ mostOrder) × (orderSum (c .second) ≤ mostOrder)
 
 abbrev pub Small : Quadruple → Type 0
 Small c = SmallPair (c .first) × SmallPair (c .second)
 
 abbrev pub SamePair : Pair → Pair → Type 0
-SamePair c d = (orderOf (d .first) ≡ orderOf (c .first)) × (orderOf (d .second) ≡ orderOf (c .second))
+SamePair c d = (orderSum (d .first) ≡ orderSum (c .first)) × (orderSum (d .second) ≡ orderSum (c .second))
 
 -- the one after, of the same shells, begins what is left without this one; after the last nothing is left
 unfoldable pub Follows : Triple → Next → Type 0
-Follows t (next.Is n) = (tripleRest t ≡ tripleOrders t ∷ tripleRest n) × (orderOf n ≡ orderOf t)
+Follows t (next.Is n) = (tripleRest t ≡ tripleOrders t ∷ tripleRest n) × (orderSum n ≡ orderSum t)
 Follows t next.Last = tripleRest t ≡ tripleOrders t ∷ []
 
 unfoldable pub FollowsPair : Pair → NextPair → Type 0
