@@ -9,12 +9,12 @@ use lib.ListN.{length}
 use Rattle.kind.specs.declared.Kind.{Kind}
 use Rattle.term.specs.Terms.{Term}
 use Rattle.number.specs.Numbers.{lengthOf}
-use Rattle.steps.specs.declared.Centre.{Centre}
+use Rattle.steps.specs.declared.CentreName.{CentreName}
 use Rattle.steps.specs.declared.Axis.{Axis}
 use Rattle.steps.specs.declared.Move.{Move}
 use Rattle.steps.specs.Steps.{branches}
 use Rattle.laws.specs.Total.{total}
-use Rattle.steps.specs.Packed.{orders, moveIn, multiplierWord}
+use Rattle.steps.specs.inner.Packed.{orders, moveIn, multiplierWord}
 use Rattle.histories.specs.History.{stage, depth}
 use Rattle.roll.specs.Bytes.{termBytes, termsBytes}
 use Rattle.expansion.specs.declared.Path.{Path}
@@ -22,9 +22,9 @@ use Rattle.expansion.specs.declared.Measured.{Measured}
 use Rattle.expansion.specs.declared.Measured.the-variants.{Fits, Over}
 use Rattle.expansion.specs.declared.Lowering.{Lowering}
 use Rattle.expansion.specs.declared.Lowering.the-variants.{At, Nothing}
-use Rattle.expansion.specs.View.{termAt}
-use Rattle.expansion.specs.Walking.{Good, Turn, lowering, termsBelow, termsFrom}
-use Rattle.expansion.specs.Measuring.{measured, plus, widthOf, groupOf, skipOf, Small, MeasureMay, Measures, MeasuresFrom}
+use Rattle.expansion.specs.inner.View.{pathTerm}
+use Rattle.expansion.specs.inner.Walking.{Good, Turn, lowering, termsBelow, termsFrom}
+use Rattle.expansion.specs.inner.Measuring.{measured, plus, widthOf, groupOf, skipOf, SmallMeasure, MeasureMay, Measures, MeasuresFrom}
 use Rattle.expansion.proofs.Emission.{term-length}
 use Rattle.expansion.proofs.Walking.{from-none, from-skip, turn-next, below-eight}
 use Rattle.expansion.proofs.Children.{child-moves, child-held}
@@ -45,7 +45,7 @@ measured-none : (ts : List Term) → ts ≡ [] → Fits 0 0 ≡ measured ts
 unfolding termsBytes
 measured-none ts e = sym (ap measured e ∙ measured-few [] (omega arith))
 
-pub end-told : (k : Kind) (left scale count : ℕ) (c : Centre) (x : Axis) (times number : ℕ) → Turn k left c x times number → times ≡ 0 → MeasuresFrom k left scale count c x number (Fits 0 0)
+pub end-told : (k : Kind) (left scale count : ℕ) (c : CentreName) (x : Axis) (times number : ℕ) → Turn k left c x times number → times ≡ 0 → MeasuresFrom k left scale count c x number (Fits 0 0)
 end-told k left scale count c x times number turn e =
     record {
       is = λ (p : Path) (f : p .scale ≡ scale) (g : p .count ≡ count) (h : Good k left p). measured-none (termsFrom k left p c x number) (from-none k left c x times number turn p e);
@@ -62,14 +62,14 @@ module _ (k : Kind) (left scale count : ℕ) (may : MeasureMay k left scale coun
   pub leaf-count : count < 25
   leaf-count = subst (λ (n : ℕ). n < 25) (may .count-is) (words .count-fits)
 
-  pub leaf-told : (r : Measured) → left ≡ 0 → r ≡ Fits 1 (lengthOf scale + 2 + count) → Small r → Measures k left scale count r
+  pub leaf-told : (r : Measured) → left ≡ 0 → r ≡ Fits 1 (lengthOf scale + 2 + count) → SmallMeasure r → Measures k left scale count r
   unfolding termsBytes
   leaf-told r e i s =
       record {
         is = λ (p : Path) (f : p .scale ≡ scale) (g : p .count ≡ count) (h : Good k left p).
             let w = good-words k left p h in
-            i ∙ ap (Fits 1) (ap₂ (λ (a b : ℕ). lengthOf a + 2 + b) (sym f) (sym g) ∙ sym (ap length (append-nil (termBytes (termAt p))) ∙ term-length p (w .boys-fits) (w .count-fits)))
-            ∙ sym (ap measured (below-done k left p e) ∙ measured-few (termAt p ∷ []) (omega arith));
+            i ∙ ap (Fits 1) (ap₂ (λ (a b : ℕ). lengthOf a + 2 + b) (sym f) (sym g) ∙ sym (ap length (append-nil (termBytes (pathTerm p))) ∙ term-length p (w .boys-fits) (w .count-fits)))
+            ∙ sym (ap measured (below-done k left p e) ∙ measured-few (pathTerm p ∷ []) (omega arith));
         small-enough = s;
       }
 
@@ -85,7 +85,7 @@ module _ (k : Kind) (left scale count : ℕ) (may : MeasureMay k left scale coun
           small-enough = small-none;
         }
 
-    module _ (c : Centre) (x : Axis) (at-them : l ≡ At c x) where
+    module _ (c : CentreName) (x : Axis) (at-them : l ≡ At c x) where
       pub first-count : (t : ℕ) → innerCount k left ≡ t → branchCount k left 0 < t
       unfolding innerCount branchCount
       first-count t e = omega arith
@@ -100,7 +100,7 @@ module _ (k : Kind) (left scale count : ℕ) (may : MeasureMay k left scale coun
             small-enough = m .small-enough;
           }
 
-  module _ (c : Centre) (x : Axis) (times number : ℕ) (turn : Turn k left c x times number) where
+  module _ (c : CentreName) (x : Axis) (times number : ℕ) (turn : Turn k left c x times number) where
     module _ (some : times ≡ 0 → ⊥) where
       pub number-next : number + 1 < 256
       number-next = let h = below-eight k left c x times number turn some in omega arith
@@ -188,7 +188,7 @@ module _ (k : Kind) (left scale count : ℕ) (may : MeasureMay k left scale coun
                 at true e = let h = borrow.Author.Tests.eqb-true (widthOf k number) 2 e in omega arith
                 at false e = let h = width-one k number (borrow.Author.Tests.eqb-false (widthOf k number) 2 e) in omega arith
 
-        pub rest-told : (rest r : Measured) → MeasuresFrom k left scale count c x (number + w) rest → r ≡ plus here rest → Small r → MeasuresFrom k left scale count c x number r
+        pub rest-told : (rest r : Measured) → MeasuresFrom k left scale count c x (number + w) rest → r ≡ plus here rest → SmallMeasure r → MeasuresFrom k left scale count c x number r
         rest-told rest r n e s =
             record {
               is = λ (p : Path) (f : p .scale ≡ scale) (g : p .count ≡ count) (h : Good k left p).
@@ -197,5 +197,5 @@ module _ (k : Kind) (left scale count : ℕ) (may : MeasureMay k left scale coun
             }
 
         -- no multiplier is left after the group
-        pub last-told : (s : ℕ) → s ≡ skipOf w times → s ≡ 0 → Small here → MeasuresFrom k left scale count c x number here
+        pub last-told : (s : ℕ) → s ≡ skipOf w times → s ≡ 0 → SmallMeasure here → MeasuresFrom k left scale count c x number here
         last-told s e none small = rest-told (Fits 0 0) here (end-told k left scale count c x s (number + w) (rest-turn s e) none) (plus-none here small) small

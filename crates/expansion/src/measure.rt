@@ -3,20 +3,20 @@
 ghost use mathlib.Core.Path.{_≡_};
 ghost use Prim.Native.Nat.{_+_, _^_, _<_};
 ghost use Rattle.number.specs.Numbers.{lengthOf};
-ghost use Rattle.expansion.specs.Walking.{Turn};
-ghost use Rattle.expansion.specs.Measuring.{plus, inPairs, widthOf, groupOf, skipOf, Small, MeasureMay, Measures, MeasuresFrom};
+ghost use Rattle.expansion.specs.inner.Walking.{Turn};
+ghost use Rattle.expansion.specs.inner.Measuring.{plus, inPairs, widthOf, groupOf, skipOf, SmallMeasure, MeasureMay, Measures, MeasuresFrom};
 use crate::Lowering;
 use crate::Measured;
 use crate::walk::choose;
 use kind::Kind;
 use steps::Axis;
-use steps::Centre;
+use steps::CentreName;
 
 // Both together.
 fn plus(a: Measured, b: Measured) -> Measured
-    requires { ⌜ Small a ⌝ }
-    requires { ⌜ Small b ⌝ }
-    ensures { λ r. ⌜ (r ≡ plus a b) × Small r ⌝ }
+    requires { ⌜ SmallMeasure a ⌝ }
+    requires { ⌜ SmallMeasure b ⌝ }
+    ensures { λ r. ⌜ (r ≡ plus a b) × SmallMeasure r ⌝ }
 {
     match a {
         Measured::Over => Measured::Over,
@@ -59,8 +59,8 @@ fn width(kind: Kind, number: u8) -> u8
 
 // A child's size, once for each branch of its group.
 fn group(width: u8, first: Measured) -> Measured
-    requires { ⌜ Small first ⌝ }
-    ensures { λ r. ⌜ (r ≡ groupOf width first) × Small r ⌝ }
+    requires { ⌜ SmallMeasure first ⌝ }
+    ensures { λ r. ⌜ (r ≡ groupOf width first) × SmallMeasure r ⌝ }
 {
     if width == 2 {
         return plus(first, first);
@@ -81,7 +81,7 @@ fn skip(width: u8, times: u64) -> u64
 // The size of one term.
 fn leaf(scale: u64, count: u64) -> Measured
     requires { ⌜ (scale < 2 ^ 32) × (count < 25) ⌝ }
-    ensures { λ r. ⌜ (r ≡ Measured.Fits 1 (lengthOf scale + 2 + count)) × Small r ⌝ }
+    ensures { λ r. ⌜ (r ≡ Measured.Fits 1 (lengthOf scale + 2 + count)) × SmallMeasure r ⌝ }
 {
     Measured::Fits(1, number::length(scale as u32) as u64 + 2 + count)
 }
@@ -119,7 +119,7 @@ fn measure_branch(
     left: u64,
     scale: u64,
     count: u64,
-    centre: Centre,
+    centre: CentreName,
     axis: Axis,
     times: u64,
     number: u8,

@@ -1,10 +1,10 @@
 // The walk over all complete histories. A term's children are written in turn before its next sibling.
 ghost use mathlib.Core.Path.{_≡_};
 ghost use Prim.Native.Nat.{_+_, _%_};
-ghost use Rattle.steps.specs.Packed.{orders};
+ghost use Rattle.steps.specs.inner.Packed.{orders};
 ghost use Rattle.roll.specs.Bytes.{termsBytes};
-ghost use Rattle.expansion.specs.View.{Emitted};
-ghost use Rattle.expansion.specs.Walking.{Good, Turn, ChildOf, lowering, termsBelow, termsFrom, NodeMay, BranchMay};
+ghost use Rattle.expansion.specs.inner.View.{Emitted};
+ghost use Rattle.expansion.specs.inner.Walking.{Good, Turn, ChildOf, lowering, termsBelow, termsFrom, NodeMay, BranchMay};
 use crate::Child;
 use crate::Lowering;
 use crate::Path;
@@ -12,8 +12,8 @@ use crate::terms::emit;
 use crate::terms::moved;
 use kind::Kind;
 use steps::Axis;
-use steps::Centre;
-use steps::Component;
+use steps::AxisChoice;
+use steps::CentreName;
 use steps::Fun;
 
 // The centre and the axis that are lowered.
@@ -26,8 +26,8 @@ pub(crate) fn choose(kind: Kind, left: u64) -> Lowering
         Fun::Lower(centre) => {
             let component = steps::find_component_to_lower(left, centre);
             match component {
-                Component::Nowhere => Lowering::Nothing,
-                Component::Along(axis) => Lowering::At(centre, axis),
+                AxisChoice::Nowhere => Lowering::Nothing,
+                AxisChoice::Along(axis) => Lowering::At(centre, axis),
             }
         }
     }
@@ -38,7 +38,7 @@ fn child(
     kind: Kind,
     left: u64,
     path: Path,
-    centre: Centre,
+    centre: CentreName,
     axis: Axis,
     number: u8,
     times: u64,
@@ -92,7 +92,7 @@ fn branch(
     kind: Kind,
     left: u64,
     path: Path,
-    centre: Centre,
+    centre: CentreName,
     axis: Axis,
     times: u64,
     number: u8,
