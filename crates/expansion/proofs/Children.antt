@@ -32,7 +32,7 @@ use Rattle.histories.proofs.Bounds.{step-reached, scale-on-the-way}
 use Rattle.expansion.specs.declared.Path.{Path}
 use Rattle.expansion.specs.declared.Child.{Child}
 use Rattle.expansion.specs.inner.View.{pathTerm, movedOn, MoveMay}
-use Rattle.expansion.specs.inner.Walking.{viewOf, Good, Turn, ChildOf}
+use Rattle.expansion.specs.inner.Walking.{viewOf, Good, TurnMay, ChildOf}
 use Rattle.expansion.proofs.Digits.{length-prefactors}
 use Rattle.expansion.proofs.Walking.{inside, multiplier-here}
 
@@ -51,7 +51,7 @@ few-fall f = at f
 all-apart : (c : CentreName) (x : Axis) → Apart c x
 all-apart c x = record { from-partner = partner-apart c x; from-c = other-c-apart c x; from-d = other-d-apart c x }
 
-module _ (k : Kind) (left : ℕ) (p : Path) (c : CentreName) (x : Axis) (times′ number : ℕ) (good : Good k left p) (turn : Turn k left c x times′ number) (legal : times′ % 16 ≡ 0 → ⊥) where
+module _ (k : Kind) (left : ℕ) (p : Path) (c : CentreName) (x : Axis) (times′ number : ℕ) (good : Good k left p) (turn : TurnMay k left c x times′ number) (legal : times′ % 16 ≡ 0 → ⊥) where
   some : times′ ≡ 0 → ⊥
   some e = legal (omega arith)
 

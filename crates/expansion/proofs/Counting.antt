@@ -23,7 +23,7 @@ use Rattle.expansion.specs.declared.Measured.the-variants.{Fits, Over}
 use Rattle.expansion.specs.declared.Lowering.{Lowering}
 use Rattle.expansion.specs.declared.Lowering.the-variants.{At, Nothing}
 use Rattle.expansion.specs.inner.View.{pathTerm}
-use Rattle.expansion.specs.inner.Walking.{Good, Turn, lowering, termsBelow, termsFrom}
+use Rattle.expansion.specs.inner.Walking.{Good, TurnMay, lowering, termsBelow, termsFrom}
 use Rattle.expansion.specs.inner.Measuring.{measured, plus, widthOf, groupOf, skipOf, SmallMeasure, MeasureMay, Measures, MeasuresFrom}
 use Rattle.expansion.proofs.Emission.{term-length}
 use Rattle.expansion.proofs.Walking.{from-none, from-skip, turn-next, below-eight}
@@ -45,7 +45,7 @@ measured-none : (ts : List Term) → ts ≡ [] → Fits 0 0 ≡ measured ts
 unfolding termsBytes
 measured-none ts e = sym (ap measured e ∙ measured-few [] (omega arith))
 
-pub end-told : (k : Kind) (left scale count : ℕ) (c : CentreName) (x : Axis) (times number : ℕ) → Turn k left c x times number → times ≡ 0 → MeasuresFrom k left scale count c x number (Fits 0 0)
+pub end-told : (k : Kind) (left scale count : ℕ) (c : CentreName) (x : Axis) (times number : ℕ) → TurnMay k left c x times number → times ≡ 0 → MeasuresFrom k left scale count c x number (Fits 0 0)
 end-told k left scale count c x times number turn e =
     record {
       is = λ (p : Path) (f : p .scale ≡ scale) (g : p .count ≡ count) (h : Good k left p). measured-none (termsFrom k left p c x number) (from-none k left c x times number turn p e);
@@ -77,6 +77,10 @@ module _ (k : Kind) (left scale count : ℕ) (may : MeasureMay k left scale coun
   unfolding nodeCount innerCount
   inner-count t e = omega arith
 
+  pub first-count : (t : ℕ) → innerCount k left ≡ t → branchCount k left 0 < t
+  unfolding innerCount branchCount
+  first-count t e = omega arith
+
   module _ (some : left ≡ 0 → ⊥) (l : Lowering) (is : l ≡ lowering k (orders left)) where
     pub none-told : l ≡ Nothing → Measures k left scale count (Fits 0 0)
     none-told e =
@@ -85,12 +89,8 @@ module _ (k : Kind) (left scale count : ℕ) (may : MeasureMay k left scale coun
           small-enough = small-none;
         }
 
-    module _ (c : CentreName) (x : Axis) (at-them : l ≡ At c x) where
-      pub first-count : (t : ℕ) → innerCount k left ≡ t → branchCount k left 0 < t
-      unfolding innerCount branchCount
-      first-count t e = omega arith
-
-      pub turn-first : (times : ℕ) → times ≡ multiplierWord c x (orders left) (branches k c x) → Turn k left c x times 0
+    module _ (c : CentreName) (x : Axis) (at-them : l ≡ At (record { centre = c; axis = x })) where
+      pub turn-first : (times : ℕ) → times ≡ multiplierWord c x (orders left) (branches k c x) → TurnMay k left c x times 0
       turn-first times e = first-turn k left (may .path) (may .good .word) some l is c x at-them times e
 
       pub first-told : (r : Measured) → MeasuresFrom k left scale count c x 0 r → Measures k left scale count r
@@ -100,7 +100,7 @@ module _ (k : Kind) (left scale count : ℕ) (may : MeasureMay k left scale coun
             small-enough = m .small-enough;
           }
 
-  module _ (c : CentreName) (x : Axis) (times number : ℕ) (turn : Turn k left c x times number) where
+  module _ (c : CentreName) (x : Axis) (times number : ℕ) (turn : TurnMay k left c x times number) where
     module _ (some : times ≡ 0 → ⊥) where
       pub number-next : number + 1 < 256
       number-next = let h = below-eight k left c x times number turn some in omega arith
@@ -109,7 +109,7 @@ module _ (k : Kind) (left scale count : ℕ) (may : MeasureMay k left scale coun
       unfolding branchCount
       skip-count t e = let h = below-eight k left c x times number turn some in omega arith
 
-      pub skip-turn : Turn k left c x (times / 16) (number + 1)
+      pub skip-turn : TurnMay k left c x (times / 16) (number + 1)
       skip-turn = turn-next k left c x times number turn some
 
       pub skip-told : (r : Measured) → times % 16 ≡ 0 → MeasuresFrom k left scale count c x (number + 1) r → MeasuresFrom k left scale count c x number r
@@ -168,8 +168,8 @@ module _ (k : Kind) (left scale count : ℕ) (may : MeasureMay k left scale coun
               small-enough = small-over;
             }
 
-        pub rest-turn : (s : ℕ) → s ≡ skipOf w times → Turn k left c x s (number + w)
-        rest-turn s e = subst (λ (n : ℕ). Turn k left c x s (number + n)) (sym width) (subst (λ (n : ℕ). Turn k left c x n (number + widthOf k number)) (sym (e ∙ ap (λ (n : ℕ). skipOf n times) width)) (group-turn k left scale count c x times number turn legal m is first told))
+        pub rest-turn : (s : ℕ) → s ≡ skipOf w times → TurnMay k left c x s (number + w)
+        rest-turn s e = subst (λ (n : ℕ). TurnMay k left c x s (number + n)) (sym width) (subst (λ (n : ℕ). TurnMay k left c x n (number + widthOf k number)) (sym (e ∙ ap (λ (n : ℕ). skipOf n times) width)) (group-turn k left scale count c x times number turn legal m is first told))
 
         pub rest-number : number + w < 256
         rest-number = let t = rest-turn (skipOf w times) refl .few in omega arith

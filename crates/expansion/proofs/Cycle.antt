@@ -30,10 +30,11 @@ use Rattle.histories.proofs.Bounds.{scale-on-the-way}
 use Rattle.roll.specs.Bytes.{termBytes, termsBytes}
 use Rattle.expansion.specs.declared.Path.{Path}
 use Rattle.expansion.specs.declared.Child.{Child}
+use Rattle.expansion.specs.declared.Lowered.{Lowered}
 use Rattle.expansion.specs.declared.Lowering.{Lowering}
 use Rattle.expansion.specs.declared.Lowering.the-variants.{At, Nothing}
 use Rattle.expansion.specs.inner.View.{pathTerm, EmitMay, Emitted}
-use Rattle.expansion.specs.inner.Walking.{viewOf, Good, Turn, ChildOf, lowering, loweringOf, loweringAlong, termsBelow, termsFrom, Room, NodeMay, BranchMay}
+use Rattle.expansion.specs.inner.Walking.{viewOf, Good, TurnMay, ChildOf, lowering, loweringOf, loweringAlong, termsBelow, termsFrom, Room, NodeMay, BranchMay}
 use Rattle.expansion.proofs.Digits.{length-prefactors}
 use Rattle.expansion.proofs.Walking.{from-none, from-skip, from-legal, turn-next, below-eight, emitted-none, room-first, room-then, emitted-both}
 
@@ -56,7 +57,7 @@ module _ (k : Kind) (left : List ℕ) (f : Fun) (is : f ≡ chosen k left) where
     unfolding lowering
     choose-nowhere e = ap (loweringAlong c) (sym e ∙ axis) ∙ ap (λ (w : Fun). loweringOf w left) (sym found ∙ is)
 
-    pub choose-at : (x : Axis) → v ≡ Along x → At c x ≡ lowering k left
+    pub choose-at : (x : Axis) → v ≡ Along x → At (record { centre = c; axis = x }) ≡ lowering k left
     unfolding lowering
     choose-at x e = ap (loweringAlong c) (sym e ∙ axis) ∙ ap (λ (w : Fun). loweringOf w left) (sym found ∙ is)
 
@@ -153,7 +154,7 @@ module _ (k : Kind) (left : ℕ) (p : Path) where
         by-fun none f g = refl
         by-fun (Lower c) f g = by-axis c (firstAxis (orders left) c) g
 
-    module _ (c : CentreName) (x : Axis) (at-them : r ≡ At c x) where
+    module _ (c : CentreName) (x : Axis) (at-them : r ≡ At (record { centre = c; axis = x })) where
       -- what a choice of both says
       record Both : Type 0 where
         picked : chosen k (orders left) ≡ Lower c
@@ -163,14 +164,15 @@ module _ (k : Kind) (left : ℕ) (p : Path) where
       unfolding lowering
       both = by-fun (chosen k (orders left)) refl (sym is ∙ at-them)
         where
-          by-axis : (d : CentreName) (v : AxisChoice) → chosen k (orders left) ≡ Lower d → firstAxis (orders left) d ≡ v → loweringAlong d v ≡ At c x → Both
+          by-axis : (d : CentreName) (v : AxisChoice) → chosen k (orders left) ≡ Lower d → firstAxis (orders left) d ≡ v → loweringAlong d v ≡ At (record { centre = c; axis = x }) → Both
           by-axis d Nowhere p f g = absurd (clash (cc))
           by-axis d (Along y) p f g =
-              let same : d ≡ c = cc in
-              let axis : y ≡ x = cc in
+              let lowered : _≡_ {A = Lowered} (record { centre = d; axis = y }) (record { centre = c; axis = x }) = cc in
+              let same : d ≡ c = ap (λ (l : Lowered). l .centre) lowered in
+              let axis : y ≡ x = ap (λ (l : Lowered). l .axis) lowered in
               record { picked = p ∙ ap Lower same; along = subst (λ (e : CentreName). firstAxis (orders left) e ≡ Along x) same (f ∙ ap Along axis) }
 
-          by-fun : (v : Fun) → chosen k (orders left) ≡ v → loweringOf v (orders left) ≡ At c x → Both
+          by-fun : (v : Fun) → chosen k (orders left) ≡ v → loweringOf v (orders left) ≡ At (record { centre = c; axis = x }) → Both
           by-fun none f g = absurd (clash (cc))
           by-fun (Lower d) f g = by-axis d (firstAxis (orders left) d) f refl g
 
@@ -181,7 +183,7 @@ module _ (k : Kind) (left : ℕ) (p : Path) where
           ∙ ap (inTurn (λ (n : Next). expand (n .state)))
           (ap (λ (f : Fun). onFun f (viewOf k left p)) (both .picked) ∙ ap (λ (v : AxisChoice). onAxis c v (viewOf k left p)) (both .along))
 
-      pub first-turn : (times : ℕ) → times ≡ multiplierWord c x (orders left) (branches k c x) → Turn k left c x times 0
+      pub first-turn : (times : ℕ) → times ≡ multiplierWord c x (orders left) (branches k c x) → TurnMay k left c x times 0
       first-turn times e =
           record {
             own-centre = chosen-own k (orders left) c (both .picked);
@@ -209,17 +211,17 @@ module _ (k : Kind) (left : ℕ) (p : Path) (at : ℕ) (out : List ℕ) (may : N
   unfolding nodeFuel innerFuel
   inner-falls t e = omega arith
 
+  pub first-falls : (t : ℕ) → innerFuel k left p ≡ t → branchFuel k left p 0 < t
+  unfolding innerFuel branchFuel
+  first-falls t e = omega arith
+
   module _ (some : left ≡ 0 → ⊥) (r : Lowering) (is : r ≡ lowering k (orders left)) where
     pub node-none : r ≡ Nothing → Emitted (termsBytes (termsBelow k left p)) at out at out
     node-none e = emitted-none (termsBelow k left p) at out (below-none k left p (may .good .word) some r is e)
 
-    module _ (c : CentreName) (x : Axis) (at-them : r ≡ At c x) where
+    module _ (c : CentreName) (x : Axis) (at-them : r ≡ At (record { centre = c; axis = x })) where
       from-first : termsBelow k left p ≡ termsFrom k left p c x 0
       from-first = below-first k left p (may .good .word) some r is c x at-them
-
-      pub first-falls : (t : ℕ) → innerFuel k left p ≡ t → branchFuel k left p 0 < t
-      unfolding innerFuel branchFuel
-      first-falls t e = omega arith
 
       pub first-may : (times : ℕ) → times ≡ multiplierWord c x (orders left) (branches k c x) → BranchMay k left p c x times 0 at out
       first-may times e =

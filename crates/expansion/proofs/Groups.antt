@@ -28,7 +28,7 @@ use Rattle.expansion.specs.declared.Child.{Child}
 use Rattle.expansion.specs.declared.Measured.{Measured}
 use Rattle.expansion.specs.declared.Measured.the-variants.{Fits, Over}
 use Rattle.expansion.specs.inner.View.{pathTerm, movedOn, MoveMay}
-use Rattle.expansion.specs.inner.Walking.{viewOf, Good, Turn, ChildOf, termsBelow, termsFrom}
+use Rattle.expansion.specs.inner.Walking.{viewOf, Good, TurnMay, ChildOf, termsBelow, termsFrom}
 use Rattle.expansion.specs.inner.Measuring.{measured, plus, inPairs, widthOf, groupOf, skipOf, SmallMeasure, MeasureMay, Measures, MeasuresFrom}
 use Rattle.expansion.proofs.Digits.{length-prefactors, pushed-over, pushed-on}
 use Rattle.expansion.proofs.Children.{child-moves, child-held, child-of}
@@ -129,7 +129,7 @@ pair-inside Coulomb c x (suc (suc (suc (suc zero)))) e = omega arith
 pair-inside Coulomb c x (suc (suc (suc (suc (suc n))))) e = absurd (one-is-not-two e)
 
 -- the child of a branch along its own path
-module _ (k : Kind) (left : ℕ) (p : Path) (c : CentreName) (x : Axis) (times′ number : ℕ) (good : Good k left p) (turn : Turn k left c x times′ number) (legal : times′ % 16 ≡ 0 → ⊥) where
+module _ (k : Kind) (left : ℕ) (p : Path) (c : CentreName) (x : Axis) (times′ number : ℕ) (good : Good k left p) (turn : TurnMay k left c x times′ number) (legal : times′ % 16 ≡ 0 → ⊥) where
   abbrev move : Move
   move = moveIn k c x (branches k c x) number
 
@@ -148,7 +148,7 @@ module _ (k : Kind) (left : ℕ) (p : Path) (c : CentreName) (x : Axis) (times�
   next-split = from-legal k left c x times′ number turn (λ (e : times′ ≡ 0). legal (omega arith)) p next legal next-of
 
 -- what a measured child says of a group
-module _ (k : Kind) (left scale count : ℕ) (c : CentreName) (x : Axis) (times′ number : ℕ) (turn : Turn k left c x times′ number) (legal : times′ % 16 ≡ 0 → ⊥)
+module _ (k : Kind) (left scale count : ℕ) (c : CentreName) (x : Axis) (times′ number : ℕ) (turn : TurnMay k left c x times′ number) (legal : times′ % 16 ≡ 0 → ⊥)
     (m : Move) (is : m ≡ moveIn k c x (branches k c x) number) (first : Measured) (told : Measures (m .kind) (left - m .falls) (scale * (times′ % 16)) (count + 1) first) where
   some : times′ ≡ 0 → ⊥
   some e = legal (omega arith)
@@ -162,7 +162,7 @@ module _ (k : Kind) (left scale count : ℕ) (c : CentreName) (x : Axis) (times�
   abbrev that : Branch
   that = getD (branches k c x) (number + 1) noBranch
 
-  pub turn-on : Turn k left c x (times′ / 16) (number + 1)
+  pub turn-on : TurnMay k left c x (times′ / 16) (number + 1)
   turn-on = turn-next k left c x times′ number turn some
 
   times-here : times′ % 16 ≡ times (this .falls) c x (orders left)
@@ -247,13 +247,13 @@ module _ (k : Kind) (left scale count : ℕ) (c : CentreName) (x : Axis) (times�
             let w = width-one k number (eqb-false (widthOf k number) 2 e) in
             one ∙ ap (λ (n : ℕ). plus first (measured (termsFrom k left p c x (number + n)))) (sym w)
 
-  pub group-turn : Turn k left c x (skipOf (widthOf k number) times′) (number + widthOf k number)
+  pub group-turn : TurnMay k left c x (skipOf (widthOf k number) times′) (number + widthOf k number)
   group-turn = at (eqb (widthOf k number) 2) refl
     where
-      at : (v : Bool) → eqb (widthOf k number) 2 ≡ v → Turn k left c x (cond v (times′ / 256) (times′ / 16)) (number + widthOf k number)
+      at : (v : Bool) → eqb (widthOf k number) 2 ≡ v → TurnMay k left c x (cond v (times′ / 256) (times′ / 16)) (number + widthOf k number)
       at true e =
           let w = eqb-true (widthOf k number) 2 e in
-          subst₂ (Turn k left c x) (omega arith) (omega arith) (turn-next k left c x (times′ / 16) (number + 1) turn-on (some-there w))
+          subst₂ (TurnMay k left c x) (omega arith) (omega arith) (turn-next k left c x (times′ / 16) (number + 1) turn-on (some-there w))
       at false e =
           let w = width-one k number (eqb-false (widthOf k number) 2 e) in
-          subst (λ (n : ℕ). Turn k left c x (times′ / 16) (number + n)) (sym w) turn-on
+          subst (λ (n : ℕ). TurnMay k left c x (times′ / 16) (number + n)) (sym w) turn-on

@@ -27,7 +27,7 @@ use Rattle.roll.specs.Bytes.{termBytes, termsBytes}
 use Rattle.expansion.specs.declared.Path.{Path}
 use Rattle.expansion.specs.declared.Child.{Child}
 use Rattle.expansion.specs.inner.View.{Emitted}
-use Rattle.expansion.specs.inner.Walking.{viewOf, Turn, ChildOf, termsBelow, termsFrom, Room}
+use Rattle.expansion.specs.inner.Walking.{viewOf, TurnMay, ChildOf, termsBelow, termsFrom, Room}
 
 few-branches : (k : Kind) (c : CentreName) (x : Axis) → length (branches k c x) ≤ 8
 unfolding branches
@@ -52,7 +52,7 @@ no-turns c x k s (b ∷ bs) e =
     rest : multiplierWord c x (s .left) bs ≡ 0
     rest = omega arith
 
-module _ (k : Kind) (left : ℕ) (c : CentreName) (x : Axis) (times′ number : ℕ) (turn : Turn k left c x times′ number) where
+module _ (k : Kind) (left : ℕ) (c : CentreName) (x : Axis) (times′ number : ℕ) (turn : TurnMay k left c x times′ number) where
   pub from-none : (p : Path) → times′ ≡ 0 → termsFrom k left p c x number ≡ []
   unfolding termsFrom inTurn
   from-none p e = ap (inTurn (λ (n : Next). expand (n .state))) (no-turns c x number (viewOf k left p) (drop number (branches k c x)) (sym (turn .is) ∙ e))
@@ -87,7 +87,7 @@ module _ (k : Kind) (left : ℕ) (c : CentreName) (x : Axis) (times′ number : 
     word-next : times′ / 16 ≡ multiplierWord c x (orders left) (drop (number + 1) (branches k c x))
     word-next = let h = word-here in let l = times-small (this .falls) c x left in omega arith
 
-    pub turn-next : Turn k left c x (times′ / 16) (number + 1)
+    pub turn-next : TurnMay k left c x (times′ / 16) (number + 1)
     turn-next = record { own-centre = turn .own-centre; positive = turn .positive; few = let h = below-eight in omega arith; is = word-next }
 
     turns-here : (p : Path) → turns c x number (viewOf k left p) (drop number (branches k c x)) ≡ ifLegal (times (this .falls) c x (orders left)) (record { number = number; state = step (viewOf k left p) c x this })

@@ -23,9 +23,15 @@ struct Path {
     high: u64,
 }
 
+// A centre and an axis that are lowered.
+struct Lowered {
+    centre: CentreName,
+    axis: Axis,
+}
+
 // What a state lowers.
 enum Lowering {
-    At(CentreName, Axis),
+    At(Lowered),
     Nothing,
 }
 

@@ -3,14 +3,13 @@
 ghost use mathlib.Core.Path.{_≡_};
 ghost use Prim.Native.Nat.{_+_, _^_, _<_};
 ghost use Rattle.number.specs.Numbers.{lengthOf};
-ghost use Rattle.expansion.specs.inner.Walking.{Turn};
+ghost use Rattle.expansion.specs.inner.Walking.{TurnMay};
 ghost use Rattle.expansion.specs.inner.Measuring.{plus, inPairs, widthOf, groupOf, skipOf, SmallMeasure, MeasureMay, Measures, MeasuresFrom};
+use crate::Lowered;
 use crate::Lowering;
 use crate::Measured;
 use crate::walk::choose;
 use kind::Kind;
-use steps::Axis;
-use steps::CentreName;
 
 // Both together.
 fn plus(a: Measured, b: Measured) -> Measured
@@ -103,12 +102,14 @@ fn measure_inner(kind: Kind, left: u64, scale: u64, count: u64) -> Measured
     requires { ⌜ (left ≡ 0 → ⊥) ⌝ }
     ensures { λ r. ⌜ Measures kind left scale count r ⌝ }
 {
-    let lowered = choose(kind, left);
-    match lowered {
+    let choice = choose(kind, left);
+    match choice {
         Lowering::Nothing => Measured::Fits(0, 0),
-        Lowering::At(centre, axis) => {
+        Lowering::At(lowered) => {
+            let centre = lowered.centre;
+            let axis = lowered.axis;
             let times = steps::multipliers(kind, left, centre, axis);
-            measure_branch(kind, left, scale, count, centre, axis, times, 0)
+            measure_branch(kind, left, scale, count, lowered, times, 0)
         }
     }
 }
@@ -119,30 +120,22 @@ fn measure_branch(
     left: u64,
     scale: u64,
     count: u64,
-    centre: CentreName,
-    axis: Axis,
+    lowered: Lowered,
     times: u64,
     number: u8,
 ) -> Measured
     requires { ⌜ MeasureMay kind left scale count ⌝ }
-    requires { ⌜ Turn kind left centre axis times number ⌝ }
-    ensures { λ r. ⌜ MeasuresFrom kind left scale count centre axis number r ⌝ }
+    requires { ⌜ TurnMay kind left (lowered .centre) (lowered .axis) times number ⌝ }
+    ensures { λ r. ⌜ MeasuresFrom kind left scale count (lowered .centre) (lowered .axis) number r ⌝ }
 {
     if times == 0 {
         return Measured::Fits(0, 0);
     }
     if times % 16 == 0 {
-        return measure_branch(
-            kind,
-            left,
-            scale,
-            count,
-            centre,
-            axis,
-            times / 16,
-            number + 1,
-        );
+        return measure_branch(kind, left, scale, count, lowered, times / 16, number + 1);
     }
+    let centre = lowered.centre;
+    let axis = lowered.axis;
     let step = steps::branch(kind, centre, axis, number);
     let goes_on = step.kind;
     let first = measure_node(goes_on, left - step.falls, scale * (times % 16), count + 1);
@@ -155,16 +148,7 @@ fn measure_branch(
     match here {
         Measured::Over => Measured::Over,
         Measured::Fits(_, _) => {
-            let rest = measure_branch(
-                kind,
-                left,
-                scale,
-                count,
-                centre,
-                axis,
-                after,
-                number + alike,
-            );
+            let rest = measure_branch(kind, left, scale, count, lowered, after, number + alike);
             plus(here, rest)
         }
     }

@@ -38,7 +38,7 @@ pub record Good (k : Kind) (left : ℕ) (p : Path) : Type 0 where
   pub word : left < 16 ^ requestOrders
 
 -- a centre and an axis that are lowered, and the multipliers of the branches from a number on
-pub record Turn (k : Kind) (left : ℕ) (c : CentreName) (x : Axis) (times number : ℕ) : Type 0 where
+pub record TurnMay (k : Kind) (left : ℕ) (c : CentreName) (x : Axis) (times number : ℕ) : Type 0 where
   pub own-centre : own k c ≡ true
   pub positive : 0 < orderOf (orders left) c x
   pub few : number ≤ 8
@@ -53,7 +53,7 @@ termsFrom k left p c x number = inTurn (λ (n : Next). expand (n .state)) (turns
 -- the centre and the axis that are chosen
 abbrev pub loweringAlong : CentreName → AxisChoice → Lowering
 loweringAlong c Nowhere = Nothing
-loweringAlong c (Along x) = At c x
+loweringAlong c (Along x) = At (record { centre = c; axis = x })
 
 abbrev pub loweringOf : Fun → List ℕ → Lowering
 loweringOf none left = Nothing
@@ -78,5 +78,5 @@ pub record NodeMay (k : Kind) (left : ℕ) (p : Path) (at : ℕ) (out : List ℕ
 
 pub record BranchMay (k : Kind) (left : ℕ) (p : Path) (c : CentreName) (x : Axis) (times number at : ℕ) (out : List ℕ) : Type 0 where
   pub good : Good k left p
-  pub turn : Turn k left c x times number
+  pub turn : TurnMay k left c x times number
   pub room : Room (termsFrom k left p c x number) at out

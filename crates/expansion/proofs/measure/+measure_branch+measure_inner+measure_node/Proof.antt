@@ -25,7 +25,7 @@ use Rattle.expansion.proofs.measure.+measure_branch+measure_inner+measu
 use Rattle.expansion.proofs.measure.+measure_branch+measure_inner+measure_node.Tie.{close}
 
 abbrev μ-measure-branch : Measures 0 measure-branch-kinds.ps ℕ
-μ-measure-branch κs a = branchCount (a .0) (a .1 .0) (a .1 .1 .1 .1 .1 .1 .1 .0)
+μ-measure-branch κs a = branchCount (a .0) (a .1 .0) (a .1 .1 .1 .1 .1 .1 .0)
 
 abbrev μ-measure-inner : Measures 0 measure-inner-kinds.ps ℕ
 μ-measure-inner κs a = innerCount (a .0) (a .1 .0)
@@ -150,8 +150,8 @@ measure-inner-choose-requires t c κs = search needs
 measure-inner-enum-told : (t : ℕ) → measure-inner-lts.Need-enum-told (measure-inner-claims t) (measure-inner-at t) measure-inner.Post
 measure-inner-enum-told t c = search needs
 
-measure-inner-enum-known-lowered : (t : ℕ) → measure-inner-lts.Need-enum-known-lowered (measure-inner-claims t) (measure-inner-at t) measure-inner.Post
-measure-inner-enum-known-lowered t c = search needs
+measure-inner-enum-known-choice : (t : ℕ) → measure-inner-lts.Need-enum-known-choice (measure-inner-claims t) (measure-inner-at t) measure-inner.Post
+measure-inner-enum-known-choice t c = search needs
 
 measure-inner-multipliers-requires : (t : ℕ) → measure-inner-lts.Need-multipliers-requires (measure-inner-claims t) (measure-inner-at t) measure-inner.Post
 measure-inner-multipliers-requires t c κs = search needs
@@ -207,7 +207,7 @@ pub +measure-branch+measure-inner+measure-node-spec : {M : Type 1} → statement
     measure-inner.Post
     (measure-inner-choose-requires t)
     (measure-inner-enum-told t)
-    (measure-inner-enum-known-lowered t)
+    (measure-inner-enum-known-choice t)
     (measure-inner-multipliers-requires t)
     (measure-inner-measure-branch-requires t)
     (measure-inner-returns t)

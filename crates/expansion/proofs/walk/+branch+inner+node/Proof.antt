@@ -22,7 +22,7 @@ use Rattle.expansion.proofs.walk.+branch+inner+node.{statement}
 use Rattle.expansion.proofs.walk.+branch+inner+node.Tie.{close}
 
 abbrev μ-branch : Measures 1 branch-kinds.ps ℕ
-μ-branch κs a = branchFuel (a .1 .1 .0) (a .1 .1 .1 .0) (a .1 .1 .1 .1 .0) (a .1 .1 .1 .1 .1 .1 .1 .1 .0)
+μ-branch κs a = branchFuel (a .1 .1 .0) (a .1 .1 .1 .0) (a .1 .1 .1 .1 .0) (a .1 .1 .1 .1 .1 .1 .1 .0)
 
 abbrev μ-inner : Measures 1 inner-kinds.ps ℕ
 μ-inner κs a = innerFuel (a .1 .1 .0) (a .1 .1 .1 .0) (a .1 .1 .1 .1 .0)
@@ -103,8 +103,8 @@ inner-choose-requires t c κs = search needs
 inner-enum-told : (t : ℕ) → inner-lts.Need-enum-told (inner-claims t) (inner-at t) inner.Post
 inner-enum-told t c = search needs
 
-inner-enum-known-lowered : (t : ℕ) → inner-lts.Need-enum-known-lowered (inner-claims t) (inner-at t) inner.Post
-inner-enum-known-lowered t c = search needs
+inner-enum-known-choice : (t : ℕ) → inner-lts.Need-enum-known-choice (inner-claims t) (inner-at t) inner.Post
+inner-enum-known-choice t c = search needs
 
 inner-multipliers-requires : (t : ℕ) → inner-lts.Need-multipliers-requires (inner-claims t) (inner-at t) inner.Post
 inner-multipliers-requires t c κs = search needs
@@ -161,7 +161,7 @@ pub +branch+inner+node-spec : {M : Type 1} → statement M
     inner.Post
     (inner-choose-requires t)
     (inner-enum-told t)
-    (inner-enum-known-lowered t)
+    (inner-enum-known-choice t)
     (inner-multipliers-requires t)
     (inner-branch-requires t)
     (inner-returns t)
