@@ -31,7 +31,7 @@ use Rattle.expansion.specs.inner.Walking.{termsBelow}
 use Rattle.expansion.specs.inner.Measuring.{measured, Measures, MeasureMay, SmallMeasure, termsIn, bytesIn}
 use Rattle.expansion.specs.Expanding.{tooHigh, unusedSet, termsOf, rollOf, kindTold, namedTold, namedOut, ExpandTold}
 use Rattle.expansion.specs.inner.Requests.{KnownTold, PackMay, Packed, emptyTerm, RequestWithin, RollMay, RequestMay, SizedMay}
-use Rattle.expansion.proofs.Headers.{within-nibbles, first-good, first-terms, roll-length}
+use Rattle.expansion.proofs.HeaderLaws.{within-nibbles, first-good, first-terms, roll-length}
 
 -- an answer that refuses leaves every byte as it was
 refused-with : (k : Kind) (os out : List ℕ) (begin n : ℕ) → kindTold k os out begin ≡ Refused n → KnownTold k os out begin (Refused n) out

@@ -29,7 +29,7 @@ use Rattle.roll.specs.Fits.{CentresFit, Below, TermFits, TermsFit, RollFits}
 use Rattle.roll.proofs.Back.{roll-back}
 use Rattle.expansion.specs.Expanding.{unusedSet, termsOf, rollOf}
 use Rattle.expansion.specs.inner.Requests.{RequestWithin}
-use Rattle.expansion.proofs.Headers.{Sums, all-sums, all-small, orders-long}
+use Rattle.expansion.proofs.HeaderLaws.{Sums, all-sums, all-small, orders-long}
 
 below-all : (table : ℕ) (ps : List ℕ) → ((p : ℕ) → List·Memᴰ p ps → p < table) → Below table ps
 below-all table [] h = tt

@@ -1,6 +1,6 @@
 -- `measure_branch`, `measure_inner` and `measure_node` meet their contracts. Assumes nothing.
 use borrow.Author.Needs.{needs}
-use Rattle.expansion.proofs.Counting.{nodeCount, innerCount, branchCount, end-told, number-next, skip-count, skip-turn, skip-told, fall-fits, scale-fits, count-fits, child-count, child-measured, rest-number, rest-count, rest-turn, over-told, last-told, rest-told, leaf-scale, leaf-count, leaf-told, inner-count, first-count, turn-first, none-told, first-told}
+use Rattle.expansion.proofs.MeasureCycle.{nodeCount, innerCount, branchCount, end-told, number-next, skip-count, skip-turn, skip-told, fall-fits, scale-fits, count-fits, child-count, child-measured, rest-number, rest-count, rest-turn, over-told, last-told, rest-told, leaf-scale, leaf-count, leaf-told, inner-count, first-count, turn-first, none-told, first-told}
 use Prim.Native.Nat.{ℕ, _<_}
 use borrow.Fn.Kinds.{In}
 use borrow.Fn.PlainCycle.{Measures, is, falls, and}

@@ -1,5 +1,5 @@
 -- `is_above` meets its contract.
-use Rattle.expansion.proofs.Requests.{sum-exceeds}
+use Rattle.expansion.proofs.RequestLaws.{sum-exceeds}
 use borrow.Author.Needs.{needs}
 use Rattle.expansion.proofs.request.is_above.Statement.{statement}
 use Rattle.expansion.proofs.request.is_above.Tie as tie

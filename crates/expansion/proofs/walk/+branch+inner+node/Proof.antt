@@ -1,7 +1,7 @@
 -- `branch`, `inner` and `node` meet their contracts. Assumes nothing.
 use borrow.Author.Needs.{needs}
 use native.Mathlib.Omega.{arith}
-use Rattle.expansion.proofs.Cycle.{nodeFuel, innerFuel, branchFuel, branch-none, number-fits, skip-falls, skip-may, skipped, child-falls, child-may, then-may, then-done, then-last, inner-falls, node-emits, node-emitted, node-none, first-falls, first-may, first-done}
+use Rattle.expansion.proofs.WalkCycle.{nodeFuel, innerFuel, branchFuel, branch-none, number-fits, skip-falls, skip-may, skipped, child-falls, child-may, then-may, then-done, then-last, inner-falls, node-emits, node-emitted, node-none, first-falls, first-may, first-done}
 use Prim.Native.Nat.{ℕ, _<_}
 use borrow.Fn.Kinds.{In}
 use borrow.Fn.PlainCycle.{Measures, is, falls, and}

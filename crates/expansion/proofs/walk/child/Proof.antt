@@ -1,5 +1,5 @@
 -- `child` meets its contract.
-use Rattle.expansion.proofs.Children.{child-moves, child-held, child-of}
+use Rattle.expansion.proofs.WalkChildren.{child-moves, child-held, child-of}
 use borrow.Author.Needs.{needs}
 use Rattle.expansion.proofs.walk.child.Statement.{statement}
 use Rattle.expansion.proofs.walk.child.Tie as tie

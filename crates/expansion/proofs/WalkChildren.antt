@@ -33,8 +33,8 @@ use Rattle.expansion.specs.declared.Path.{Path}
 use Rattle.expansion.specs.declared.Child.{Child}
 use Rattle.expansion.specs.inner.View.{pathTerm, movedOn, MoveMay}
 use Rattle.expansion.specs.inner.Walking.{viewOf, Good, TurnMay, ChildOf}
-use Rattle.expansion.proofs.Digits.{length-prefactors}
-use Rattle.expansion.proofs.Walking.{inside, multiplier-here}
+use Rattle.expansion.proofs.TermsWords.{length-prefactors}
+use Rattle.expansion.proofs.WalkTurns.{inside, multiplier-here}
 
 few-fall : (f : Falls) → fallen f ≤ 2
 few-fall f = at f

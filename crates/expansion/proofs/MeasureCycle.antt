@@ -25,12 +25,12 @@ use Rattle.expansion.specs.declared.Lowering.the-variants.{At, Nothing}
 use Rattle.expansion.specs.inner.View.{pathTerm}
 use Rattle.expansion.specs.inner.Walking.{Good, TurnMay, lowering, termsBelow, termsFrom}
 use Rattle.expansion.specs.inner.Measuring.{measured, plus, widthOf, groupOf, skipOf, SmallMeasure, MeasureMay, Measures, MeasuresFrom}
-use Rattle.expansion.proofs.Emission.{term-length}
-use Rattle.expansion.proofs.Walking.{from-none, from-skip, turn-next, below-eight}
-use Rattle.expansion.proofs.Children.{child-moves, child-held}
-use Rattle.expansion.proofs.Cycle.{Words, good-words, below-done, below-none, below-first, first-turn}
-use Rattle.expansion.proofs.Measuring.{measured-few, small-none, small-over, plus-over, plus-none}
-use Rattle.expansion.proofs.Groups.{nextPath, next-scale, next-count, next-of, group-split, group-turn, width-one}
+use Rattle.expansion.proofs.TermsBytes.{term-length}
+use Rattle.expansion.proofs.WalkTurns.{from-none, from-skip, turn-next, below-eight}
+use Rattle.expansion.proofs.WalkChildren.{child-moves, child-held}
+use Rattle.expansion.proofs.WalkCycle.{Words, good-words, below-done, below-none, below-first, first-turn}
+use Rattle.expansion.proofs.MeasureSizes.{measured-few, small-none, small-over, plus-over, plus-none}
+use Rattle.expansion.proofs.MeasureGroups.{nextPath, next-scale, next-count, next-of, group-split, group-turn, width-one}
 
 unfoldable pub nodeCount : Kind → ℕ → ℕ
 nodeCount k left = 10 * (stage k + total (orders left)) + 10

@@ -35,8 +35,8 @@ use Rattle.expansion.specs.declared.Lowering.{Lowering}
 use Rattle.expansion.specs.declared.Lowering.the-variants.{At, Nothing}
 use Rattle.expansion.specs.inner.View.{pathTerm, EmitMay, Emitted}
 use Rattle.expansion.specs.inner.Walking.{viewOf, Good, TurnMay, ChildOf, lowering, loweringOf, loweringAlong, termsBelow, termsFrom, Room, NodeMay, BranchMay}
-use Rattle.expansion.proofs.Digits.{length-prefactors}
-use Rattle.expansion.proofs.Walking.{from-none, from-skip, from-legal, turn-next, below-eight, emitted-none, room-first, room-then, emitted-both}
+use Rattle.expansion.proofs.TermsWords.{length-prefactors}
+use Rattle.expansion.proofs.WalkTurns.{from-none, from-skip, from-legal, turn-next, below-eight, emitted-none, room-first, room-then, emitted-both}
 
 unfoldable pub nodeFuel : Kind → ℕ → Path → ℕ
 nodeFuel k left p = 10 * depth (viewOf k left p) + 10

@@ -35,7 +35,7 @@ use Rattle.expansion.specs.inner.Walking.{viewOf, Good, termsBelow, Room
 use Rattle.expansion.specs.Expanding.{_exceeds_, tooHigh, unusedSet, termsOf, rollOf}
 use Rattle.expansion.specs.inner.Requests.{PackMay, Packed, emptyTerm, RequestWithin, headOf, HeadMay, RollMay}
 use Rattle.laws.proofs.Lists.{three-total}
-use Rattle.expansion.proofs.Requests.{none-after}
+use Rattle.expansion.proofs.RequestLaws.{none-after}
 
 -- ---- the orders of a request within the limits
 

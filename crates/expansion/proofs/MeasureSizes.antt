@@ -17,7 +17,7 @@ use Rattle.roll.specs.Bytes.{termBytes, termsBytes}
 use Rattle.expansion.specs.declared.Measured.{Measured}
 use Rattle.expansion.specs.declared.Measured.the-variants.{Fits, Over}
 use Rattle.expansion.specs.inner.Measuring.{measured, plus, inPairs, widthOf, groupOf, skipOf, termsIn, bytesIn, SmallMeasure}
-use Rattle.expansion.proofs.Walking.{terms-append}
+use Rattle.expansion.proofs.WalkTurns.{terms-append}
 
 pub measured-few : (ts : List Term) → length ts ≤ mostTerms → measured ts ≡ Fits (length ts) (length (termsBytes ts))
 unfolding measured

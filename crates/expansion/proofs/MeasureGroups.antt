@@ -30,10 +30,10 @@ use Rattle.expansion.specs.declared.Measured.the-variants.{Fits, Over}
 use Rattle.expansion.specs.inner.View.{pathTerm, movedOn, MoveMay}
 use Rattle.expansion.specs.inner.Walking.{viewOf, Good, TurnMay, ChildOf, termsBelow, termsFrom}
 use Rattle.expansion.specs.inner.Measuring.{measured, plus, inPairs, widthOf, groupOf, skipOf, SmallMeasure, MeasureMay, Measures, MeasuresFrom}
-use Rattle.expansion.proofs.Digits.{length-prefactors, pushed-over, pushed-on}
-use Rattle.expansion.proofs.Children.{child-moves, child-held, child-of}
-use Rattle.expansion.proofs.Walking.{from-none, from-skip, from-legal, turn-next, below-eight, multiplier-here}
-use Rattle.expansion.proofs.Measuring.{measured-append, measured-few}
+use Rattle.expansion.proofs.TermsWords.{length-prefactors, pushed-over, pushed-on}
+use Rattle.expansion.proofs.WalkChildren.{child-moves, child-held, child-of}
+use Rattle.expansion.proofs.WalkTurns.{from-none, from-skip, from-legal, turn-next, below-eight, multiplier-here}
+use Rattle.expansion.proofs.MeasureSizes.{measured-append, measured-few}
 
 -- a path one step further on, by whether its first word is full
 abbrev pub nextBy : Bool → Path → ℕ → ℕ → ℕ → Path

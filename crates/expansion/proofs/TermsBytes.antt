@@ -16,7 +16,7 @@ use Rattle.number.proofs.Writing.{bytes-last, length-last, store-last}
 use Rattle.roll.specs.Bytes.{termBytes, numbersBytes}
 use Rattle.expansion.specs.declared.Path.{Path}
 use Rattle.expansion.specs.inner.View.{fiveBits, pathPrefactors, pathTerm, EmitMay, Emitted, NumberMay, RestMay}
-use Rattle.expansion.proofs.Digits.{length-prefactors, few, many, length-five-bits}
+use Rattle.expansion.proofs.TermsWords.{length-prefactors, few, many, length-five-bits}
 
 numbers-append : (xs ys : List ℕ) → numbersBytes (xs ++ ys) ≡ numbersBytes xs ++ numbersBytes ys
 unfolding numbersBytes
