@@ -26,26 +26,27 @@ use Rattle.expansion.specs.declared.Measured.{Measured}
 use Rattle.expansion.specs.declared.Measured.the-variants.{Fits, Over}
 use Rattle.expansion.specs.declared.Expanded.{Expanded}
 use Rattle.expansion.specs.declared.Expanded.the-variants.{Roll, Refused}
-use Rattle.expansion.specs.View.{termAt, digits, prefactorsOf}
-use Rattle.expansion.specs.Walking.{termsBelow}
-use Rattle.expansion.specs.Measuring.{measured, Measures, MeasureMay, Small, termsIn, bytesIn}
-use Rattle.expansion.specs.Expanding.{tooHigh, unusedSet, termsOf, rollOf, kindTold, namedTold, namedOut, KindAnswered, ExpandTold, Nibbles, Packed, emptyTerm, Within, RollMay, RequestMay, SizedMay}
-use Rattle.expansion.proofs.Headers.{within-nibbles, first-good, first-terms, roll-length}
+use Rattle.expansion.specs.inner.View.{pathTerm, fiveBits, pathPrefactors}
+use Rattle.expansion.specs.inner.Walking.{termsBelow}
+use Rattle.expansion.specs.inner.Measuring.{measured, Measures, MeasureMay, SmallMeasure, termsIn, bytesIn}
+use Rattle.expansion.specs.Expanding.{tooHigh, unusedSet, termsOf, rollOf, kindTold, namedTold, namedOut, ExpandTold}
+use Rattle.expansion.specs.inner.Requests.{KnownTold, PackMay, Packed, emptyTerm, RequestWithin, RollMay, RequestMay, SizedMay}
+use Rattle.expansion.proofs.HeaderLaws.{within-nibbles, first-good, first-terms, roll-length}
 
 -- an answer that refuses leaves every byte as it was
-refused-with : (k : Kind) (os out : List ℕ) (begin n : ℕ) → kindTold k os out begin ≡ Refused n → KindAnswered k os out begin (Refused n) out
+refused-with : (k : Kind) (os out : List ℕ) (begin n : ℕ) → kindTold k os out begin ≡ Refused n → KnownTold k os out begin (Refused n) out
 refused-with k os out begin n e = record { answer = sym e; out = ap (λ (r : Expanded). namedOut r (Is k) os out begin) (sym e) }
 
 module _ (k : Kind) (os out : List ℕ) (begin : ℕ) where
-  pub told-high : (b : Bool) → b ≡ tooHigh k os → b ≡ true → KindAnswered k os out begin (Refused 2) out
+  pub told-high : (b : Bool) → b ≡ tooHigh k os → b ≡ true → KnownTold k os out begin (Refused 2) out
   unfolding kindTold
   told-high b e t = refused-with k os out begin 2 (simp (sym e ∙ t))
 
-  pub told-unused : (a b : Bool) → a ≡ tooHigh k os → a ≡ false → b ≡ unusedSet k os → b ≡ true → KindAnswered k os out begin (Refused 3) out
+  pub told-unused : (a b : Bool) → a ≡ tooHigh k os → a ≡ false → b ≡ unusedSet k os → b ≡ true → KnownTold k os out begin (Refused 3) out
   unfolding kindTold
   told-unused a b e f g t = refused-with k os out begin 3 (simp (sym e ∙ f, sym g ∙ t))
 
-  pub told-beyond : (a b : Bool) → a ≡ tooHigh k os → a ≡ false → b ≡ unusedSet k os → b ≡ false → length out < begin → KindAnswered k os out begin (Refused 5) out
+  pub told-beyond : (a b : Bool) → a ≡ tooHigh k os → a ≡ false → b ≡ unusedSet k os → b ≡ false → length out < begin → KnownTold k os out begin (Refused 5) out
   unfolding kindTold
   told-beyond a b e f g h l = refused-with k os out begin 5 (simp (sym e ∙ f, sym g ∙ h, lt-ltb (length out) begin l))
 
@@ -56,8 +57,8 @@ module _ (k : Kind) (os out : List ℕ) (begin : ℕ) where
 abbrev emptyPath : Path
 emptyPath = record { scale = 1; boys = 0; count = 0; low = 0; high = 0 }
 
-empty-term : termAt emptyPath ≡ emptyTerm
-unfolding prefactorsOf digits
+empty-term : pathTerm emptyPath ≡ emptyTerm
+unfolding pathPrefactors fiveBits
 empty-term = refl
 
 measured-terms : (ts : List Term) (a b : ℕ) → measured ts ≡ Fits a b → (a ≡ length ts) × (b ≡ length (termsBytes ts)) × (length ts ≤ mostTerms)
@@ -77,7 +78,7 @@ measured-over ts e = at (leb (length ts) mostTerms) refl e
     at false t f = leb-false (length ts) mostTerms t
 
 module _ (k : Kind) (os out : List ℕ) (begin : ℕ) (may : RequestMay k os begin out) where
-  pub may-nibbles : Nibbles os
+  pub may-nibbles : PackMay os
   may-nibbles = within-nibbles k os (may .within)
 
   module _ (left : ℕ) (word : Packed os 0 left) where
@@ -89,7 +90,7 @@ module _ (k : Kind) (os out : List ℕ) (begin : ℕ) (may : RequestMay k os beg
       size-is =
           told .is emptyPath refl refl (first-good k os (may .within) left word emptyPath empty-term) ∙ ap measured (first-terms k os (may .within) left word emptyPath empty-term)
 
-      pub told-many : size ≡ Over → KindAnswered k os out begin (Refused 4) out
+      pub told-many : size ≡ Over → KnownTold k os out begin (Refused 4) out
       unfolding kindTold
       told-many e =
           refused-with k os out begin 4
@@ -121,7 +122,7 @@ module _ (k : Kind) (os : List ℕ) (left terms bytes begin : ℕ) (out : List �
     pub roll-fits : 1 + n + l + bytes < 2 ^ 64
     roll-fits = let h = orders-within k in let g = length-few terms in let b = may .short in let t = may .few in omega arith
 
-    pub told-full : length out - begin < 1 + n + l + bytes → KindAnswered k os out begin (Refused 6) out
+    pub told-full : length out - begin < 1 + n + l + bytes → KnownTold k os out begin (Refused 6) out
     unfolding kindTold
     told-full h =
         refused-with k os out begin 6
@@ -147,7 +148,7 @@ module _ (k : Kind) (os : List ℕ) (left terms bytes begin : ℕ) (out : List �
             room = rw (part-all out begin) (let r = long-is in let d = length-drop begin out in omega arith);
           }
 
-      pub told-roll : (part : List ℕ) → part ≡ sets (take (length out - begin) (drop begin out)) 0 (rollOf k os) → KindAnswered k os out begin (Roll (1 + n + l + bytes) terms) (putMid begin (length out - begin) out part)
+      pub told-roll : (part : List ℕ) → part ≡ sets (take (length out - begin) (drop begin out)) 0 (rollOf k os) → KnownTold k os out begin (Roll (1 + n + l + bytes) terms) (putMid begin (length out - begin) out part)
       unfolding kindTold
       told-roll part put =
           record {
@@ -180,7 +181,7 @@ module _ (kind : ℕ) (os before : List ℕ) (begin : ℕ) (named : Named) (is :
         out = ap (λ (n : Named). namedOut (namedTold n os before begin) n os before begin) (sym e ∙ is);
       }
 
-  pub told-known : (k : Kind) (r : Expanded) (after : List ℕ) → named ≡ Is k → KindAnswered k os before begin r after → ExpandTold kind os before begin r after
+  pub told-known : (k : Kind) (r : Expanded) (after : List ℕ) → named ≡ Is k → KnownTold k os before begin r after → ExpandTold kind os before begin r after
   told-known k r after e a =
       record {
         answer = a .answer ∙ ap (λ (n : Named). namedTold n os before begin) (sym e ∙ is);

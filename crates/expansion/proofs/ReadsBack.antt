@@ -15,25 +15,21 @@ use Rattle.kind.specs.declared.Kind.the-variants.{Overlap, Kinetic, Nuclear, Mo
 use Rattle.kind.specs.Kinds.{ordersOf, tableOf, mostPrefactors, usesBoys}
 use Rattle.kind.specs.Limits.{mostOrder, mostL·any, mostTerms, requestOrders}
 use Rattle.term.specs.Terms.{Term}
-use Rattle.steps.specs.declared.Centre.the-variants.{A, B, C, D}
+use Rattle.steps.specs.declared.CentreName.the-variants.{A, B, C, D}
 use Rattle.steps.specs.Choice.{sumOf}
 use Rattle.laws.specs.Total.{total}
 use Rattle.steps.specs.States.{start}
 use Rattle.histories.specs.History.{stage, depth, expand}
-use Rattle.histories.proofs.Orders.{order-le-total}
+use Rattle.laws.proofs.Totals.{append-total, getD-le-total}
 use Rattle.histories.proofs.Bounds.{Kept, terms-kept, scale-limit}
 use Rattle.histories.proofs.Some.{Unused, some-term}
 use Rattle.roll.specs.Bytes.{rollBytes}
 use Rattle.roll.specs.Reading.{Roll, got, rollAt, mostBoys}
 use Rattle.roll.specs.Fits.{CentresFit, Below, TermFits, TermsFit, RollFits}
 use Rattle.roll.proofs.Back.{roll-back}
-use Rattle.expansion.specs.Expanding.{unusedSet, termsOf, rollOf, Within}
-use Rattle.expansion.proofs.Headers.{Sums, all-sums, all-small, orders-long}
-
-append-total : (l m : List ℕ) → total (l ++ m) ≡ total l + total m
-unfolding total
-append-total [] m = omega arith
-append-total (n ∷ l) m = let h = append-total l m in omega arith
+use Rattle.expansion.specs.Expanding.{unusedSet, termsOf, rollOf}
+use Rattle.expansion.specs.inner.Requests.{RequestWithin}
+use Rattle.expansion.proofs.HeaderLaws.{Sums, all-sums, all-small, orders-long}
 
 below-all : (table : ℕ) (ps : List ℕ) → ((p : ℕ) → List·Memᴰ p ps → p < table) → Below table ps
 below-all table [] h = tt
@@ -74,7 +70,7 @@ centre-more os i n h s rest = subst (λ (l : List ℕ). CentresFit (take (suc (s
         third : suc (i + 2) ≡ i + 3
         third = omega arith
 
-module _ (k : Kind) (os : List ℕ) (within : Within k os) where
+module _ (k : Kind) (os : List ℕ) (within : RequestWithin k os) where
   sums : Sums k os
   sums = all-sums k os within
 
@@ -111,7 +107,7 @@ module _ (k : Kind) (os : List ℕ) (within : Within k os) where
   unused i h =
       let z = rest-zero in
       let d : getD (drop (ordersOf k) os) (i - ordersOf k) 0 ≡ getD os i 0 = getD-drop (ordersOf k) os (i - ordersOf k) 0 ∙ ap (λ (j : ℕ). getD os j 0) back in
-      let l = order-le-total (drop (ordersOf k) os) (i - ordersOf k) in
+      let l = getD-le-total (drop (ordersOf k) os) (i - ordersOf k) in
       omega arith
     where
       back : ordersOf k + (i - ordersOf k) ≡ i

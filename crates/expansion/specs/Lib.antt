@@ -1,4 +1,2 @@
 pub mod Expanding
-pub mod Measuring
-pub mod View
-pub mod Walking
+pub mod inner

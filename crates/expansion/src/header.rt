@@ -4,8 +4,9 @@ ghost use Prim.Native.Nat.{_+_, _≤_};
 ghost use lib.ListN.{length, take};
 ghost use lib.Seq.{sets};
 ghost use Rattle.kind.specs.Limits.{requestOrders};
-ghost use Rattle.expansion.specs.View.{termAt, Emitted};
-ghost use Rattle.expansion.specs.Expanding.{headOf, rollOf, HeadMay, RollMay, emptyTerm};
+ghost use Rattle.expansion.specs.inner.View.{pathTerm, Emitted};
+ghost use Rattle.expansion.specs.Expanding.{rollOf};
+ghost use Rattle.expansion.specs.inner.Requests.{headOf, HeadMay, RollMay, emptyTerm};
 use crate::Path;
 use crate::terms::put_number;
 use crate::walk::node;
@@ -25,7 +26,7 @@ fn put_orders(out: &mut [u8], orders: [u8; Kind::ORDERS], count: usize)
 
 // A term with nothing done yet.
 pub(crate) fn first() -> Path
-    ensures { λ r. ⌜ termAt r ≡ emptyTerm ⌝ }
+    ensures { λ r. ⌜ pathTerm r ≡ emptyTerm ⌝ }
 {
     Path {
         scale: 1,

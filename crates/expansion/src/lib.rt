@@ -6,11 +6,12 @@ mod terms;
 mod walk;
 
 ghost use mathlib.Core.Path.{_≡_};
-ghost use Rattle.expansion.specs.Expanding.{KindAnswered, ExpandTold, RequestMay, SizedMay};
+ghost use Rattle.expansion.specs.Expanding.{ExpandTold};
+ghost use Rattle.expansion.specs.inner.Requests.{KnownTold, RequestMay, SizedMay};
 use kind::Kind;
 use kind::Named;
 use steps::Axis;
-use steps::Centre;
+use steps::CentreName;
 
 // A term on its way: its prefactors stand in two words, five bits each, the last lowest; the first twelve move to `high`
 // when there are more.
@@ -22,9 +23,15 @@ struct Path {
     high: u64,
 }
 
+// A centre and an axis that are lowered.
+struct Lowered {
+    centre: CentreName,
+    axis: Axis,
+}
+
 // What a state lowers.
 enum Lowering {
-    At(Centre, Axis),
+    At(Lowered),
     Nothing,
 }
 
@@ -58,7 +65,7 @@ fn write_sized(
     start: usize,
 ) -> Expanded
     requires { ⌜ SizedMay kind orders left terms bytes start (now out) ⌝ }
-    ensures { λ r. ⌜ KindAnswered kind orders (now (out .entry)) start r (now (out .exit)) ⌝ }
+    ensures { λ r. ⌜ KnownTold kind orders (now (out .entry)) start r (now (out .exit)) ⌝ }
 {
     let count = terms as u32;
     let long = 1 + kind.orders() + number::length(count) + bytes as usize;
@@ -72,7 +79,7 @@ fn write_sized(
 // Expands a request that keeps the limits.
 fn expand_within(kind: Kind, orders: [u8; Kind::ORDERS], out: &mut [u8], start: usize) -> Expanded
     requires { ⌜ RequestMay kind orders start (now out) ⌝ }
-    ensures { λ r. ⌜ KindAnswered kind orders (now (out .entry)) start r (now (out .exit)) ⌝ }
+    ensures { λ r. ⌜ KnownTold kind orders (now (out .entry)) start r (now (out .exit)) ⌝ }
 {
     let left = request::packed(orders);
     let size = measure::measure_node(kind, left, 1, 0);
@@ -86,7 +93,7 @@ fn expand_within(kind: Kind, orders: [u8; Kind::ORDERS], out: &mut [u8], start: 
 
 // Expands a request of a known kind.
 fn expand_kind(kind: Kind, orders: [u8; Kind::ORDERS], out: &mut [u8], start: usize) -> Expanded
-    ensures { λ r. ⌜ KindAnswered kind orders (now (out .entry)) start r (now (out .exit)) ⌝ }
+    ensures { λ r. ⌜ KnownTold kind orders (now (out .entry)) start r (now (out .exit)) ⌝ }
 {
     if request::too_high(kind, orders) {
         return Expanded::Refused(2);

@@ -3,20 +3,19 @@
 ghost use mathlib.Core.Path.{_≡_};
 ghost use Prim.Native.Nat.{_+_, _^_, _<_};
 ghost use Rattle.number.specs.Numbers.{lengthOf};
-ghost use Rattle.expansion.specs.Walking.{Turn};
-ghost use Rattle.expansion.specs.Measuring.{plus, inPairs, widthOf, groupOf, skipOf, Small, MeasureMay, Measures, MeasuresFrom};
+ghost use Rattle.expansion.specs.inner.Walking.{TurnMay};
+ghost use Rattle.expansion.specs.inner.Measuring.{plus, inPairs, widthOf, groupOf, skipOf, SmallMeasure, MeasureMay, Measures, MeasuresFrom};
+use crate::Lowered;
 use crate::Lowering;
 use crate::Measured;
 use crate::walk::choose;
 use kind::Kind;
-use steps::Axis;
-use steps::Centre;
 
 // Both together.
 fn plus(a: Measured, b: Measured) -> Measured
-    requires { ⌜ Small a ⌝ }
-    requires { ⌜ Small b ⌝ }
-    ensures { λ r. ⌜ (r ≡ plus a b) × Small r ⌝ }
+    requires { ⌜ SmallMeasure a ⌝ }
+    requires { ⌜ SmallMeasure b ⌝ }
+    ensures { λ r. ⌜ (r ≡ plus a b) × SmallMeasure r ⌝ }
 {
     match a {
         Measured::Over => Measured::Over,
@@ -59,8 +58,8 @@ fn width(kind: Kind, number: u8) -> u8
 
 // A child's size, once for each branch of its group.
 fn group(width: u8, first: Measured) -> Measured
-    requires { ⌜ Small first ⌝ }
-    ensures { λ r. ⌜ (r ≡ groupOf width first) × Small r ⌝ }
+    requires { ⌜ SmallMeasure first ⌝ }
+    ensures { λ r. ⌜ (r ≡ groupOf width first) × SmallMeasure r ⌝ }
 {
     if width == 2 {
         return plus(first, first);
@@ -81,7 +80,7 @@ fn skip(width: u8, times: u64) -> u64
 // The size of one term.
 fn leaf(scale: u64, count: u64) -> Measured
     requires { ⌜ (scale < 2 ^ 32) × (count < 25) ⌝ }
-    ensures { λ r. ⌜ (r ≡ Measured.Fits 1 (lengthOf scale + 2 + count)) × Small r ⌝ }
+    ensures { λ r. ⌜ (r ≡ Measured.Fits 1 (lengthOf scale + 2 + count)) × SmallMeasure r ⌝ }
 {
     Measured::Fits(1, number::length(scale as u32) as u64 + 2 + count)
 }
@@ -103,12 +102,14 @@ fn measure_inner(kind: Kind, left: u64, scale: u64, count: u64) -> Measured
     requires { ⌜ (left ≡ 0 → ⊥) ⌝ }
     ensures { λ r. ⌜ Measures kind left scale count r ⌝ }
 {
-    let lowered = choose(kind, left);
-    match lowered {
+    let choice = choose(kind, left);
+    match choice {
         Lowering::Nothing => Measured::Fits(0, 0),
-        Lowering::At(centre, axis) => {
+        Lowering::At(lowered) => {
+            let centre = lowered.centre;
+            let axis = lowered.axis;
             let times = steps::multipliers(kind, left, centre, axis);
-            measure_branch(kind, left, scale, count, centre, axis, times, 0)
+            measure_branch(kind, left, scale, count, lowered, times, 0)
         }
     }
 }
@@ -119,30 +120,22 @@ fn measure_branch(
     left: u64,
     scale: u64,
     count: u64,
-    centre: Centre,
-    axis: Axis,
+    lowered: Lowered,
     times: u64,
     number: u8,
 ) -> Measured
     requires { ⌜ MeasureMay kind left scale count ⌝ }
-    requires { ⌜ Turn kind left centre axis times number ⌝ }
-    ensures { λ r. ⌜ MeasuresFrom kind left scale count centre axis number r ⌝ }
+    requires { ⌜ TurnMay kind left (lowered .centre) (lowered .axis) times number ⌝ }
+    ensures { λ r. ⌜ MeasuresFrom kind left scale count (lowered .centre) (lowered .axis) number r ⌝ }
 {
     if times == 0 {
         return Measured::Fits(0, 0);
     }
     if times % 16 == 0 {
-        return measure_branch(
-            kind,
-            left,
-            scale,
-            count,
-            centre,
-            axis,
-            times / 16,
-            number + 1,
-        );
+        return measure_branch(kind, left, scale, count, lowered, times / 16, number + 1);
     }
+    let centre = lowered.centre;
+    let axis = lowered.axis;
     let step = steps::branch(kind, centre, axis, number);
     let goes_on = step.kind;
     let first = measure_node(goes_on, left - step.falls, scale * (times % 16), count + 1);
@@ -155,16 +148,7 @@ fn measure_branch(
     match here {
         Measured::Over => Measured::Over,
         Measured::Fits(_, _) => {
-            let rest = measure_branch(
-                kind,
-                left,
-                scale,
-                count,
-                centre,
-                axis,
-                after,
-                number + alike,
-            );
+            let rest = measure_branch(kind, left, scale, count, lowered, after, number + alike);
             plus(here, rest)
         }
     }

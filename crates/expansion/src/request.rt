@@ -4,11 +4,13 @@ ghost use mathlib.Core.Bool.{_||_};
 ghost use Prim.Native.Nat.{_+_, _<_, _≤_};
 ghost use lib.ListN.{getD, drop};
 ghost use Rattle.kind.specs.Kinds.{ordersOf};
+ghost use Rattle.kind.specs.Limits.{mostOrder};
 ghost use Rattle.steps.specs.Choice.{sumOf};
 ghost use Rattle.laws.specs.Total.{total};
-ghost use Rattle.expansion.specs.Expanding.{above, tooHigh, unusedSet, Nibbles, Packed};
+ghost use Rattle.expansion.specs.Expanding.{_exceeds_, tooHigh, unusedSet};
+ghost use Rattle.expansion.specs.inner.Requests.{PackMay, Packed};
 use kind::Kind;
-use steps::Centre;
+use steps::CentreName;
 
 fn wide(byte: u8) -> u64
     ensures { λ r. ⌜ (r ≡ byte) × (r < 256) ⌝ }
@@ -25,39 +27,39 @@ fn three(orders: [u8; Kind::ORDERS], first: usize) -> u64
 }
 
 // The order sum of a centre.
-fn sum_of(orders: [u8; Kind::ORDERS], centre: Centre) -> u64
+fn sum_of(orders: [u8; Kind::ORDERS], centre: CentreName) -> u64
     ensures { λ r. ⌜ r ≡ sumOf orders centre ⌝ }
 {
     match centre {
-        Centre::A => three(orders, 0),
-        Centre::B => three(orders, 3),
-        Centre::C => three(orders, 6),
-        Centre::D => three(orders, 9),
+        CentreName::A => three(orders, 0),
+        CentreName::B => three(orders, 3),
+        CentreName::C => three(orders, 6),
+        CentreName::D => three(orders, 9),
     }
 }
 
-fn is_above(orders: [u8; Kind::ORDERS], centre: Centre) -> bool
-    ensures { λ r. ⌜ r ≡ above orders centre ⌝ }
+fn is_above(orders: [u8; Kind::ORDERS], centre: CentreName) -> bool
+    ensures { λ r. ⌜ r ≡ (sumOf orders centre exceeds mostOrder) ⌝ }
 {
     (Kind::MOST_ORDER as u64) < sum_of(orders, centre)
 }
 
 fn two_above(orders: [u8; Kind::ORDERS]) -> bool
-    ensures { λ r. ⌜ r ≡ (above orders Centre.A || above orders Centre.B) ⌝ }
+    ensures { λ r. ⌜ r ≡ (sumOf orders CentreName.A exceeds mostOrder || sumOf orders CentreName.B exceeds mostOrder) ⌝ }
 {
-    if is_above(orders, Centre::A) {
+    if is_above(orders, CentreName::A) {
         return true;
     }
-    is_above(orders, Centre::B)
+    is_above(orders, CentreName::B)
 }
 
 fn three_above(orders: [u8; Kind::ORDERS]) -> bool
-    ensures { λ r. ⌜ r ≡ ((above orders Centre.A || above orders Centre.B) || above orders Centre.C) ⌝ }
+    ensures { λ r. ⌜ r ≡ ((sumOf orders CentreName.A exceeds mostOrder || sumOf orders CentreName.B exceeds mostOrder) || sumOf orders CentreName.C exceeds mostOrder) ⌝ }
 {
     if two_above(orders) {
         return true;
     }
-    is_above(orders, Centre::C)
+    is_above(orders, CentreName::C)
 }
 
 fn four_above(orders: [u8; Kind::ORDERS]) -> bool
@@ -66,7 +68,7 @@ fn four_above(orders: [u8; Kind::ORDERS]) -> bool
     if three_above(orders) {
         return true;
     }
-    is_above(orders, Centre::D)
+    is_above(orders, CentreName::D)
 }
 
 // Refusal 2: an order sum that the kind uses is above the limit.
@@ -104,7 +106,7 @@ pub(crate) fn unused_set(kind: Kind, orders: [u8; Kind::ORDERS]) -> bool
 
 // The orders in a word, four bits each, the first lowest.
 pub(crate) fn packed(orders: [u8; Kind::ORDERS]) -> u64
-    requires { ⌜ Nibbles orders ⌝ }
+    requires { ⌜ PackMay orders ⌝ }
     ensures { λ r. ⌜ Packed orders 0 r ⌝ }
 {
     let mut word: u64 = 0;

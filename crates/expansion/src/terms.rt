@@ -6,14 +6,14 @@ ghost use lib.ListN.{length};
 ghost use lib.Seq.{sets};
 ghost use Rattle.number.specs.Numbers.{bytesOf};
 ghost use Rattle.roll.specs.Bytes.{termBytes};
-ghost use Rattle.expansion.specs.View.{digits, prefactorsOf, termAt, Emits, Emitted, NumberFits, RestFits, Moves, further};
+ghost use Rattle.expansion.specs.inner.View.{fiveBits, pathPrefactors, pathTerm, EmitMay, Emitted, NumberMay, RestMay, MoveMay, movedOn};
 use crate::Path;
 use number::Written;
 
 // The path with one prefactor more.
 pub(crate) fn pushed(path: Path, prefactor: u64) -> Path
     requires { ⌜ (prefactor < 32) × (path .count < 24) ⌝ }
-    ensures { λ r. ⌜ termAt r ≡ record { scale = path .scale; boys = path .boys; prefactors = termAt path .prefactors ++ (prefactor ∷ []) } ⌝ }
+    ensures { λ r. ⌜ pathTerm r ≡ record { scale = path .scale; boys = path .boys; prefactors = pathTerm path .prefactors ++ (prefactor ∷ []) } ⌝ }
 {
     if path.count == 12 {
         return Path {
@@ -36,7 +36,7 @@ pub(crate) fn pushed(path: Path, prefactor: u64) -> Path
 // Writes the last `count` digits of a word, the last digit at the end.
 fn put_digits(out: &mut [u8], at: usize, count: usize, word: u64)
     requires { ⌜ at + count ≤ length (now out) ⌝ }
-    ensures { λ _. ⌜ now (out .exit) ≡ sets (now (out .entry)) at (digits count word) ⌝ }
+    ensures { λ _. ⌜ now (out .exit) ≡ sets (now (out .entry)) at (fiveBits count word) ⌝ }
 {
     let mut rest = word;
     let mut i = count;
@@ -50,7 +50,7 @@ fn put_digits(out: &mut [u8], at: usize, count: usize, word: u64)
 // Writes the prefactors, one byte each.
 fn put_prefactors(out: &mut [u8], at: usize, count: usize, low: u64, high: u64)
     requires { ⌜ at + count ≤ length (now out) ⌝ }
-    ensures { λ _. ⌜ now (out .exit) ≡ sets (now (out .entry)) at (prefactorsOf count low high) ⌝ }
+    ensures { λ _. ⌜ now (out .exit) ≡ sets (now (out .entry)) at (pathPrefactors count low high) ⌝ }
 {
     if count <= 12 {
         put_digits(out, at, count, low);
@@ -62,7 +62,7 @@ fn put_prefactors(out: &mut [u8], at: usize, count: usize, low: u64, high: u64)
 
 // Writes a number. Most have one byte.
 pub(crate) fn put_number(out: &mut [u8], at: usize, n: u64) -> usize
-    requires { ⌜ NumberFits n at (now out) ⌝ }
+    requires { ⌜ NumberMay n at (now out) ⌝ }
     ensures { λ r. ⌜ Emitted (bytesOf n) at (now (out .entry)) r (now (out .exit)) ⌝ }
 {
     if n < 128 {
@@ -78,8 +78,8 @@ pub(crate) fn put_number(out: &mut [u8], at: usize, n: u64) -> usize
 
 // Writes what stands after the scale, one byte each.
 fn put_rest(out: &mut [u8], at: usize, boys: u64, count: usize, low: u64, high: u64) -> usize
-    requires { ⌜ RestFits boys count at (now out) ⌝ }
-    ensures { λ r. ⌜ Emitted (boys ∷ count ∷ prefactorsOf count low high) at (now (out .entry)) r (now (out .exit)) ⌝ }
+    requires { ⌜ RestMay boys count at (now out) ⌝ }
+    ensures { λ r. ⌜ Emitted (boys ∷ count ∷ pathPrefactors count low high) at (now (out .entry)) r (now (out .exit)) ⌝ }
 {
     out[at] = boys as u8;
     out[at + 1] = count as u8;
@@ -89,8 +89,8 @@ fn put_rest(out: &mut [u8], at: usize, boys: u64, count: usize, low: u64, high: 
 
 // Writes a term, for which there is room.
 pub(crate) fn emit(out: &mut [u8], at: usize, path: Path) -> usize
-    requires { ⌜ Emits path at (now out) ⌝ }
-    ensures { λ r. ⌜ Emitted (termBytes (termAt path)) at (now (out .entry)) r (now (out .exit)) ⌝ }
+    requires { ⌜ EmitMay path at (now out) ⌝ }
+    ensures { λ r. ⌜ Emitted (termBytes (pathTerm path)) at (now (out .entry)) r (now (out .exit)) ⌝ }
 {
     let next = put_number(out, at, path.scale);
     put_rest(
@@ -105,8 +105,8 @@ pub(crate) fn emit(out: &mut [u8], at: usize, path: Path) -> usize
 
 // The path one step further on.
 pub(crate) fn moved(path: Path, times: u64, raises: u64, adds: u64) -> Path
-    requires { ⌜ Moves path times raises adds ⌝ }
-    ensures { λ r. ⌜ termAt r ≡ further (termAt path) times raises adds ⌝ }
+    requires { ⌜ MoveMay path times raises adds ⌝ }
+    ensures { λ r. ⌜ pathTerm r ≡ movedOn (pathTerm path) times raises adds ⌝ }
 {
     let on = Path {
         scale: path.scale * times,

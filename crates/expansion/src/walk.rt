@@ -1,19 +1,18 @@
 // The walk over all complete histories. A term's children are written in turn before its next sibling.
 ghost use mathlib.Core.Path.{_≡_};
 ghost use Prim.Native.Nat.{_+_, _%_};
-ghost use Rattle.steps.specs.Packed.{orders};
+ghost use Rattle.steps.specs.inner.Packed.{orders};
 ghost use Rattle.roll.specs.Bytes.{termsBytes};
-ghost use Rattle.expansion.specs.View.{Emitted};
-ghost use Rattle.expansion.specs.Walking.{Good, Turn, ChildOf, lowering, termsBelow, termsFrom, NodeMay, BranchMay};
+ghost use Rattle.expansion.specs.inner.View.{Emitted};
+ghost use Rattle.expansion.specs.inner.Walking.{Good, TurnMay, ChildOf, lowering, termsBelow, termsFrom, NodeMay, BranchMay};
 use crate::Child;
+use crate::Lowered;
 use crate::Lowering;
 use crate::Path;
 use crate::terms::emit;
 use crate::terms::moved;
 use kind::Kind;
-use steps::Axis;
-use steps::Centre;
-use steps::Component;
+use steps::AxisChoice;
 use steps::Fun;
 
 // The centre and the axis that are lowered.
@@ -26,34 +25,32 @@ pub(crate) fn choose(kind: Kind, left: u64) -> Lowering
         Fun::Lower(centre) => {
             let component = steps::find_component_to_lower(left, centre);
             match component {
-                Component::Nowhere => Lowering::Nothing,
-                Component::Along(axis) => Lowering::At(centre, axis),
+                AxisChoice::Nowhere => Lowering::Nothing,
+                AxisChoice::Along(axis) => Lowering::At(Lowered {
+                    centre: centre,
+                    axis: axis,
+                }),
             }
         }
     }
 }
 
 // Where a legal branch leads.
-fn child(
-    kind: Kind,
-    left: u64,
-    path: Path,
-    centre: Centre,
-    axis: Axis,
-    number: u8,
-    times: u64,
-) -> Child
+fn child(kind: Kind, left: u64, path: Path, lowered: Lowered, times: u64, number: u8) -> Child
     requires { ⌜ Good kind left path ⌝ }
-    requires { ⌜ Turn kind left centre axis times number ⌝ }
+    requires { ⌜ TurnMay kind left (lowered .centre) (lowered .axis) times number ⌝ }
     requires { ⌜ (times % 16 ≡ 0 → ⊥) ⌝ }
-    ensures { λ r. ⌜ ChildOf kind left path centre axis number r ⌝ }
+    ensures { λ r. ⌜ ChildOf kind left path (lowered .centre) (lowered .axis) number r ⌝ }
 {
+    let centre = lowered.centre;
+    let axis = lowered.axis;
     let step = steps::branch(kind, centre, axis, number);
     let goes_on = step.kind;
     let on = moved(path, times % 16, step.raises, step.adds);
+    let below = left - step.falls;
     Child {
         kind: goes_on,
-        left: left - step.falls,
+        left: below,
         path: on,
     }
 }
@@ -75,12 +72,14 @@ fn inner(out: &mut [u8], at: usize, kind: Kind, left: u64, path: Path) -> usize
     requires { ⌜ (left ≡ 0 → ⊥) ⌝ }
     ensures { λ r. ⌜ Emitted (termsBytes (termsBelow kind left path)) at (now (out .entry)) r (now (out .exit)) ⌝ }
 {
-    let lowered = choose(kind, left);
-    match lowered {
+    let choice = choose(kind, left);
+    match choice {
         Lowering::Nothing => at,
-        Lowering::At(centre, axis) => {
+        Lowering::At(lowered) => {
+            let centre = lowered.centre;
+            let axis = lowered.axis;
             let times = steps::multipliers(kind, left, centre, axis);
-            branch(out, at, kind, left, path, centre, axis, times, 0)
+            branch(out, at, kind, left, path, lowered, times, 0)
         }
     }
 }
@@ -92,31 +91,20 @@ fn branch(
     kind: Kind,
     left: u64,
     path: Path,
-    centre: Centre,
-    axis: Axis,
+    lowered: Lowered,
     times: u64,
     number: u8,
 ) -> usize
-    requires { ⌜ BranchMay kind left path centre axis times number at (now out) ⌝ }
-    ensures { λ r. ⌜ Emitted (termsBytes (termsFrom kind left path centre axis number)) at (now (out .entry)) r (now (out .exit)) ⌝ }
+    requires { ⌜ BranchMay kind left path (lowered .centre) (lowered .axis) times number at (now out) ⌝ }
+    ensures { λ r. ⌜ Emitted (termsBytes (termsFrom kind left path (lowered .centre) (lowered .axis) number)) at (now (out .entry)) r (now (out .exit)) ⌝ }
 {
     if times == 0 {
         return at;
     }
     if times % 16 == 0 {
-        return branch(
-            out,
-            at,
-            kind,
-            left,
-            path,
-            centre,
-            axis,
-            times / 16,
-            number + 1,
-        );
+        return branch(out, at, kind, left, path, lowered, times / 16, number + 1);
     }
-    let next = child(kind, left, path, centre, axis, number, times);
+    let next = child(kind, left, path, lowered, times, number);
     let goes_on = next.kind;
     let on = next.path;
     let after = node(out, at, goes_on, next.left, on);
@@ -124,5 +112,5 @@ fn branch(
     if rest == 0 {
         return after;
     }
-    branch(out, after, kind, left, path, centre, axis, rest, number + 1)
+    branch(out, after, kind, left, path, lowered, rest, number + 1)
 }

@@ -7,7 +7,7 @@ use mathlib.Core.List.List·Memᴰ.{List·Memᴰ·head, List·Memᴰ·tail}
 use native.Mathlib.Omega.{arith}
 use Rattle.laws.specs.Total.{total}
 use Rattle.steps.specs.States.{State, Next, nexts}
-use Rattle.histories.specs.History.{over, after, histories, Before, ends-sooner, branches-lower, branches-alike, Ascending, no-more, and-then}
+use Rattle.histories.specs.History.{inTurn, after, histories, Before, ends-sooner, branches-lower, branches-alike, Ascending, no-more, and-then}
 use Rattle.histories.proofs.Walk.{histories-done, histories-more}
 use Rattle.histories.proofs.Demand.{Numbered, no-next, next-then, nexts-numbered, by-depth}
 
@@ -55,23 +55,23 @@ pub record Under {A : Type 0} (f : Next → List A) (ns : List Next) (y : A) : T
   pub in-row : List·Memᴰ next ns
   pub inside : List·Memᴰ y (f next)
 
-pub under : {A : Type 0} (f : Next → List A) (ns : List Next) (y : A) → List·Memᴰ y (over f ns) → Under f ns y
-unfolding over
+pub under : {A : Type 0} (f : Next → List A) (ns : List Next) (y : A) → List·Memᴰ y (inTurn f ns) → Under f ns y
+unfolding inTurn
 under f [] y m = elim m [ ]
 under f (n ∷ ns) y m =
     ⊎-elim (λ (i : List·Memᴰ y (f n)). record { next = n; in-row = List·Memᴰ·head refl; inside = i })
-    (λ (i : List·Memᴰ y (over f ns)). later (under f ns y i)) (List·Memᴰ·append-cases (f n) m)
+    (λ (i : List·Memᴰ y (inTurn f ns)). later (under f ns y i)) (List·Memᴰ·append-cases (f n) m)
   where
     later : Under f ns y → Under f (n ∷ ns) y
     later u = record { next = u .next; in-row = List·Memᴰ·tail (u .in-row); inside = u .inside }
 
-ascending-over : (f : Next → List (List ℕ)) (ns : List Next) → Numbered ns → ((n : Next) → List·Memᴰ n ns → Ascending (after n (f n))) → Ascending (over (λ (n : Next). after n (f n)) ns)
-unfolding over
-ascending-over f [] p h = no-more
-ascending-over f (n ∷ ns) (next-then lower p) h =
-    ascending-append (after n (f n)) (over (λ (m : Next). after m (f m)) ns) (h n (List·Memᴰ·head refl))
-    (ascending-over f ns p (λ (m : Next) (i : List·Memᴰ m ns). h m (List·Memᴰ·tail i)))
-    (λ (x y : List ℕ) (i : List·Memᴰ x (after n (f n))) (j : List·Memᴰ y (over (λ (m : Next). after m (f m)) ns)).
+ascending-in-turn : (f : Next → List (List ℕ)) (ns : List Next) → Numbered ns → ((n : Next) → List·Memᴰ n ns → Ascending (after n (f n))) → Ascending (inTurn (λ (n : Next). after n (f n)) ns)
+unfolding inTurn
+ascending-in-turn f [] p h = no-more
+ascending-in-turn f (n ∷ ns) (next-then lower p) h =
+    ascending-append (after n (f n)) (inTurn (λ (m : Next). after m (f m)) ns) (h n (List·Memᴰ·head refl))
+    (ascending-in-turn f ns p (λ (m : Next) (i : List·Memᴰ m ns). h m (List·Memᴰ·tail i)))
+    (λ (x y : List ℕ) (i : List·Memᴰ x (after n (f n))) (j : List·Memᴰ y (inTurn (λ (m : Next). after m (f m)) ns)).
     let b = behind n (f n) x i in
     let u = under (λ (m : Next). after m (f m)) ns y j in
     let d = behind (u .next) (f (u .next)) y (u .inside) in
@@ -83,4 +83,4 @@ histories-ascend =
     (λ (s : State) (e : total (s .left) ≡ 0). subst Ascending (sym (histories-done s e)) (and-then (λ (g : List ℕ) (m : List·Memᴰ g []). elim m [ ]) no-more))
     (λ (s : State) (e : total (s .left) ≡ 0 → ⊥) (ih : (n : Next) → List·Memᴰ n (nexts s) → Ascending (histories (n .state))).
     subst Ascending (sym (histories-more s e))
-    (ascending-over (λ (n : Next). histories (n .state)) (nexts s) (nexts-numbered s) (λ (n : Next) (m : List·Memᴰ n (nexts s)). ascending-after n (histories (n .state)) (ih n m))))
+    (ascending-in-turn (λ (n : Next). histories (n .state)) (nexts s) (nexts-numbered s) (λ (n : Next) (m : List·Memᴰ n (nexts s)). ascending-after n (histories (n .state)) (ih n m))))

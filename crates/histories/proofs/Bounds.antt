@@ -15,37 +15,22 @@ use Rattle.kind.specs.Kinds.{tableOf, usesBoys}
 use Rattle.kind.specs.Limits.{mostOrder, mostL·any, mostScale}
 use Rattle.term.specs.Terms.{Term}
 use Rattle.term.specs.Weights.{weight, weights}
-use Rattle.steps.specs.declared.Centre.{Centre}
+use Rattle.steps.specs.declared.CentreName.{CentreName}
 use Rattle.steps.specs.declared.Axis.{Axis}
-use Rattle.steps.specs.Choice.{place, orderOf, operator, pick}
+use Rattle.steps.specs.Choice.{orderPlace, orderOf, operator, pick}
 use Rattle.steps.specs.Steps.{Falls, a, a-twice, a-and-b, a-and-c, a-and-d, a-and-o, nothing, Branch, times, less, lowered, partner, other-c, other-d}
 use Rattle.laws.specs.Total.{total}
 use Rattle.steps.specs.States.{State, Next, start, step, nexts}
-use Rattle.histories.specs.History.{depth, over, expand}
+use Rattle.histories.specs.History.{depth, inTurn, expand}
 use Rattle.histories.proofs.Orders.{fallen}
-use Rattle.histories.proofs.Fair.{Fair, follows, boysStep}
+use Rattle.histories.specs.inner.OnTheWay.{follows, SmallOrders, Reached}
+use Rattle.histories.proofs.Fair.{Fair, boysStep}
 use Rattle.histories.proofs.Nexts.{Legal, legal}
 use Rattle.histories.proofs.Walk.{follows-itself, fair-step, step-total, step-down, expand-done, expand-more}
 use Rattle.histories.proofs.Demand.{by-depth}
 use Rattle.histories.proofs.Ascends.{under}
 
--- no order is above the limit
-unfoldable pub Small : List ℕ → Type 0
-Small left = (i : ℕ) → getD left i 0 ≤ mostOrder
-
--- what holds of a state on the way from a request
-pub record Reached (request : Kind) (orders : List ℕ) (s : State) : Type 0 where
-  pub followed : follows request (s .kind) ≡ true
-  pub small : Small (s .left)
-  pub weighed : weights request (s .term .prefactors) + total (s .left) ≡ total orders
-  pub listed : (p : ℕ) → List·Memᴰ p (s .term .prefactors) → p < tableOf request
-  pub counted : length (s .term .prefactors) + depth s ≤ depth (start request orders)
-  pub boys-most : s .term .boys + total (s .left) ≤ total orders
-  pub boys-none : usesBoys request ≡ false → s .term .boys ≡ 0
-  pub scale-least : 0 < s .term .scale
-  pub scale-most : s .term .scale * s .term .scale * mostOrder ^ total (s .left) ≤ mostOrder ^ total orders
-
-pub started : (request : Kind) (orders : List ℕ) → Small orders → Reached request orders (start request orders)
+pub started : (request : Kind) (orders : List ℕ) → SmallOrders orders → Reached request orders (start request orders)
 unfolding weights
 started request orders h =
     record {
@@ -65,9 +50,9 @@ unfolding weights
 weights-snoc k [] p = omega arith
 weights-snoc k (q ∷ ps) p = let h = weights-snoc k ps p in omega arith
 
-less-small : (left : List ℕ) (c : Centre) (x : Axis) → Small left → Small (less left c x)
-unfolding Small
-less-small left c x h = at left (place c x) (orderOf left c x - 1) h (let k = h (place c x) in omega arith)
+less-small : (left : List ℕ) (c : CentreName) (x : Axis) → SmallOrders left → SmallOrders (less left c x)
+unfolding SmallOrders
+less-small left c x h = at left (orderPlace c x) (orderOf left c x - 1) h (let k = h (orderPlace c x) in omega arith)
   where
     at : (l : List ℕ) (i v : ℕ) → ((j : ℕ) → getD l j 0 ≤ mostOrder) → v ≤ mostOrder → (j : ℕ) → getD (set l i v) j 0 ≤ mostOrder
     at [] i v f g j = f j
@@ -76,7 +61,7 @@ less-small left c x h = at left (place c x) (orderOf left c x - 1) h (let k = h 
     at (n ∷ l) (suc i) v f g zero = f zero
     at (n ∷ l) (suc i) v f g (suc j) = at l i v (λ (k : ℕ). f (suc k)) g j
 
-lowered-small : (f : Falls) (c : Centre) (x : Axis) (left : List ℕ) → Small left → Small (lowered f c x left)
+lowered-small : (f : Falls) (c : CentreName) (x : Axis) (left : List ℕ) → SmallOrders left → SmallOrders (lowered f c x left)
 unfolding lowered
 lowered-small a c x left h = less-small left c x h
 lowered-small a-twice c x left h = less-small (less left c x) c x (less-small left c x h)
@@ -86,10 +71,10 @@ lowered-small a-and-d c x left h = less-small (less left c x) (other-d c) x (les
 lowered-small a-and-o c x left h = less-small (less left c x) operator x (less-small left c x h)
 lowered-small nothing c x left h = h
 
-times-small : (f : Falls) (c : Centre) (x : Axis) (left : List ℕ) → Small left → times f c x left ≤ mostOrder
-unfolding times Small
+times-small : (f : Falls) (c : CentreName) (x : Axis) (left : List ℕ) → SmallOrders left → times f c x left ≤ mostOrder
+unfolding times SmallOrders
 times-small a c x left h = omega arith
-times-small a-twice c x left h = let k = h (place c x) in omega arith
+times-small a-twice c x left h = let k = h (orderPlace c x) in omega arith
 times-small a-and-b c x left h = h _
 times-small a-and-c c x left h = h _
 times-small a-and-d c x left h = h _
@@ -97,7 +82,7 @@ times-small a-and-o c x left h = h _
 times-small nothing c x left h = omega arith
 
 -- each step with a multiplier above 1 lowers two orders
-one-or-two : (f : Falls) (c : Centre) (x : Axis) (left : List ℕ) → (times f c x left ≡ 1) ⊎ (fallen f ≡ 2)
+one-or-two : (f : Falls) (c : CentreName) (x : Axis) (left : List ℕ) → (times f c x left ≡ 1) ⊎ (fallen f ≡ 2)
 unfolding times
 one-or-two a c x left = inl refl
 one-or-two a-twice c x left = inr refl
@@ -139,7 +124,7 @@ square-le n m h = at (decLe n m)
         absurd (omega arith)
 
 -- a legal step keeps all of it
-module _ (request : Kind) (orders : List ℕ) (s : State) (c : Centre) (x : Axis) (b : Branch) (f : Fair request (s .kind) c b)
+module _ (request : Kind) (orders : List ℕ) (s : State) (c : CentreName) (x : Axis) (b : Branch) (f : Fair request (s .kind) c b)
     (falls : total (lowered (b .falls) c x (s .left)) + fallen (b .falls) ≡ total (s .left)) (legal : 0 < times (b .falls) c x (s .left)) (r : Reached request orders s) where
   step-boys-none : usesBoys request ≡ false → s .term .boys + b .raises ≡ 0
   step-boys-none e =
@@ -227,7 +212,7 @@ kept request orders =
     ih (u .next) (u .in-row) (reached request orders s (u .next) (u .in-row) r) t (u .inside))
 
 -- demand 3, of the terms of a request whose orders are within the limits
-pub terms-kept : (request : Kind) (orders : List ℕ) → Small orders → (t : Term) → List·Memᴰ t (expand (start request orders)) → Kept request orders t
+pub terms-kept : (request : Kind) (orders : List ℕ) → SmallOrders orders → (t : Term) → List·Memᴰ t (expand (start request orders)) → Kept request orders t
 terms-kept request orders h = kept request orders (start request orders) (started request orders h)
 
 -- the scale is at most the limit

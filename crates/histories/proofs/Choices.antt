@@ -9,27 +9,27 @@ use lib.Dec.{ltb}
 use Rattle.laws.proofs.Cases.{clash}
 use Rattle.kind.specs.declared.Kind.{Kind}
 use Rattle.kind.specs.declared.Kind.the-variants.{Overlap, Kinetic, Nuclear, Moment, Coulomb}
-use Rattle.steps.specs.declared.Centre.{Centre}
-use Rattle.steps.specs.declared.Centre.the-variants.{A, B, C, D}
+use Rattle.steps.specs.declared.CentreName.{CentreName}
+use Rattle.steps.specs.declared.CentreName.the-variants.{A, B, C, D}
 use Rattle.steps.specs.declared.Axis.{Axis}
 use Rattle.steps.specs.declared.Axis.the-variants.{X, Y, Z}
 use Rattle.steps.specs.declared.Fun.{Fun}
 use Rattle.steps.specs.declared.Fun.the-variants.{Lower, Nothing}
 use Rattle.steps.specs.declared.Best.{Best}
-use Rattle.steps.specs.Choice.{place, orderOf, sumOf, pick, orBefore, smallest, onceExhausted, chosen}
+use Rattle.steps.specs.Choice.{orderPlace, orderOf, sumOf, pick, orBefore, smallest, onceExhausted, chosen}
 use Rattle.laws.specs.Total.{total}
 use Rattle.steps.specs.States.{State, Next, onFun, nexts}
-use Rattle.histories.proofs.Orders.{order-le-total}
-use Rattle.histories.proofs.Fair.{own}
+use Rattle.laws.proofs.Totals.{getD-le-total}
+use Rattle.histories.specs.inner.OnTheWay.{own}
 
-same-centre : (c d : Centre) → Lower c ≡ Lower d → d ≡ c
+same-centre : (c d : CentreName) → Lower c ≡ Lower d → d ≡ c
 same-centre c d e = cc
 
-pub none-is-none : (c : Centre) → Nothing ≡ Lower c → ⊥
+pub none-is-none : (c : CentreName) → Nothing ≡ Lower c → ⊥
 none-is-none c e = clash (cc)
 
 -- what is chosen is among the centres looked at
-smallest-among : (left : List ℕ) (cs : List Centre) (d : Centre) → smallest left cs .fun ≡ Lower d → List·Memᴰ d cs
+smallest-among : (left : List ℕ) (cs : List CentreName) (d : CentreName) → smallest left cs .fun ≡ Lower d → List·Memᴰ d cs
 smallest-among left [] d e = absurd (none-is-none d e)
 smallest-among left (c ∷ cs) d e = by-sum (sumOf left c) e (λ (f : smallest left cs .fun ≡ Lower d). smallest-among left cs d f)
   where
@@ -46,11 +46,11 @@ smallest-among left (c ∷ cs) d e = by-sum (sumOf left c) e (λ (f : smallest l
     by-sum zero f ih = List·Memᴰ·tail (ih f)
     by-sum (suc n) f ih = at-test n (ltb 0 (smallest left cs .sum)) (ltb (smallest left cs .sum) (suc n)) f ih
 
-two-own : (k : Kind) (d : Centre) → own k A ≡ true → own k B ≡ true → List·Memᴰ d (A ∷ B ∷ []) → own k d ≡ true
+two-own : (k : Kind) (d : CentreName) → own k A ≡ true → own k B ≡ true → List·Memᴰ d (A ∷ B ∷ []) → own k d ≡ true
 two-own k d p q (List·Memᴰ·head e) = ap (own k) e ∙ p
 two-own k d p q (List·Memᴰ·tail (List·Memᴰ·head e)) = ap (own k) e ∙ q
 
-pub chosen-own : (k : Kind) (left : List ℕ) (d : Centre) → chosen k left ≡ Lower d → own k d ≡ true
+pub chosen-own : (k : Kind) (left : List ℕ) (d : CentreName) → chosen k left ≡ Lower d → own k d ≡ true
 unfolding chosen
 chosen-own Overlap left d e = two-own Overlap d refl refl (smallest-among left (A ∷ B ∷ []) d e)
 chosen-own Kinetic left d e = two-own Kinetic d refl refl (smallest-among left (A ∷ B ∷ []) d e)
@@ -66,14 +66,14 @@ chosen-own Moment left d e = exhausted (smallest left (A ∷ B ∷ []) .fun) ref
 chosen-own Coulomb left d e = refl
 
 module _ (left : List ℕ) (none : total left ≡ 0) where
-  sum-none : (c : Centre) → sumOf left c ≡ 0
+  sum-none : (c : CentreName) → sumOf left c ≡ 0
   sum-none c =
-      let x = order-le-total left (place c X) in
-      let y = order-le-total left (place c Y) in
-      let z = order-le-total left (place c Z) in
+      let x = getD-le-total left (orderPlace c X) in
+      let y = getD-le-total left (orderPlace c Y) in
+      let z = getD-le-total left (orderPlace c Z) in
       omega arith
 
-  smallest-none : (cs : List Centre) → smallest left cs ≡ record { fun = Nothing; sum = 0 }
+  smallest-none : (cs : List CentreName) → smallest left cs ≡ record { fun = Nothing; sum = 0 }
   smallest-none [] = refl
   smallest-none (c ∷ cs) = ap (orBefore (smallest left cs) c) (sum-none c) ∙ smallest-none cs
 

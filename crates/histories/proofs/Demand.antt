@@ -10,18 +10,18 @@ use borrow.Author.Tests.{eq-eqb, ne-eqb}
 use lib.Dec.{eqb}
 use lib.ListN.{length, length-map}
 use Rattle.term.specs.Terms.{Term}
-use Rattle.steps.specs.declared.Centre.{Centre}
+use Rattle.steps.specs.declared.CentreName.{CentreName}
 use Rattle.steps.specs.declared.Axis.{Axis}
 use Rattle.steps.specs.declared.Fun.{Fun}
 use Rattle.steps.specs.declared.Fun.the-variants.{Lower, Nothing}
-use Rattle.steps.specs.declared.Component.{Component}
-use Rattle.steps.specs.declared.Component.the-variants.{Along, Nowhere}
+use Rattle.steps.specs.declared.AxisChoice.{AxisChoice}
+use Rattle.steps.specs.declared.AxisChoice.the-variants.{Along, Nowhere}
 use Rattle.steps.specs.Choice.{pick, chosen, firstAxis}
 use Rattle.steps.specs.Steps.{Branch, branches, times}
 use Rattle.laws.specs.Total.{total}
 use Rattle.steps.specs.States.{State, Next, step, ifLegal, turns, onAxis, onFun, nexts}
-use Rattle.histories.specs.History.{Complete, finished, lowered-by, led, replay, depth, over, expand, after, histories, Before, ends-sooner, branches-lower, branches-alike, Ascending, no-more, and-then}
-use Rattle.histories.proofs.Nexts.{turned}
+use Rattle.histories.specs.History.{Complete, finished, lowered-by, led, replay, depth, inTurn, expand, after, histories, Before, ends-sooner, branches-lower, branches-alike, Ascending, no-more, and-then}
+use Rattle.histories.proofs.Nexts.{turn-of}
 use Rattle.histories.proofs.Choices.{none-legal}
 use Rattle.histories.proofs.Walk.{step-down, expand-done, expand-more, histories-done, histories-more}
 
@@ -30,20 +30,20 @@ pub data Numbered : List Next → Type 0 where
   no-next : Numbered []
   next-then : {n : Next} {ns : List Next} → ((m : Next) → List·Memᴰ m ns → n .number < m .number) → Numbered ns → Numbered (n ∷ ns)
 
-turns-numbered : (c : Centre) (x : Axis) (k : ℕ) (s : State) (bs : List Branch) → Numbered (turns c x k s bs)
+turns-numbered : (c : CentreName) (x : Axis) (k : ℕ) (s : State) (bs : List Branch) → Numbered (turns c x k s bs)
 unfolding turns
 turns-numbered c x k s [] = no-next
 turns-numbered c x k s (b ∷ bs) = by-times (times (b .falls) c x (s .left)) (turns-numbered c x (suc k) s bs)
   where
     by-times : (v : ℕ) → Numbered (turns c x (suc k) s bs) → Numbered (ifLegal v (record { number = k; state = step s c x b }) (turns c x (suc k) s bs))
     by-times zero ih = ih
-    by-times (suc v) ih = next-then (λ (m : Next) (i : List·Memᴰ m (turns c x (suc k) s bs)). turned c x (suc k) s bs m i .from) ih
+    by-times (suc v) ih = next-then (λ (m : Next) (i : List·Memᴰ m (turns c x (suc k) s bs)). turn-of c x (suc k) s bs m i .from) ih
 
 pub nexts-numbered : (s : State) → Numbered (nexts s)
 unfolding nexts
 nexts-numbered s = on-fun (chosen (s .kind) (s .left))
   where
-    on-axis : (c : Centre) (v : Component) → Numbered (onAxis c v s)
+    on-axis : (c : CentreName) (v : AxisChoice) → Numbered (onAxis c v s)
     on-axis c Nowhere = no-next
     on-axis c (Along x) = turns-numbered c x 0 s (branches (s .kind) c x)
 
@@ -73,7 +73,7 @@ module _ (P : State → Type 0) (done : (s : State) → total (s .left) ≡ 0 �
 
 -- The expansion is the replay of the list of histories, each on its own.
 pub expansion-is-replay : (s : State) → expand s ≡ map (replay s) (histories s)
-unfolding replay over
+unfolding replay inTurn
 expansion-is-replay =
     by-depth (λ (s : State). expand s ≡ map (replay s) (histories s))
     (λ (s : State) (e : total (s .left) ≡ 0). expand-done s e ∙ sym (ap (map (replay s)) (histories-done s e)))
@@ -86,11 +86,11 @@ expansion-is-replay =
         ∙ sym (map-map (replay s) (λ (h : List ℕ). n .number ∷ h) (histories (n .state)))
 
     each : (s : State) (ns : List Next) → ((n : Next) → List·Memᴰ n ns → expand (n .state) ≡ map (replay s) (after n (histories (n .state))))
-        → over (λ (n : Next). expand (n .state)) ns ≡ map (replay s) (over (λ (n : Next). after n (histories (n .state))) ns)
+        → inTurn (λ (n : Next). expand (n .state)) ns ≡ map (replay s) (inTurn (λ (n : Next). after n (histories (n .state))) ns)
     each s [] f = refl
     each s (n ∷ ns) f =
         ap₂ _++_ (f n (List·Memᴰ·head refl)) (each s ns (λ (m : Next) (i : List·Memᴰ m ns). f m (List·Memᴰ·tail i)))
-        ∙ sym (map-append (replay s) (after n (histories (n .state))) (over (λ (m : Next). after m (histories (m .state))) ns))
+        ∙ sym (map-append (replay s) (after n (histories (n .state))) (inTurn (λ (m : Next). after m (histories (m .state))) ns))
 
 -- So refusal 4, which counts terms, counts histories.
 pub as-many : (s : State) → length (expand s) ≡ length (histories s)

@@ -1,68 +1,41 @@
 -- What holds of every branch of every kind, computed once over all kinds, centres and axes.
 use Prim.Native.Nat.{ℕ, suc, _+_, _≤_, _<_}
 use mathlib.Core.Path.{_≡_, refl, sym, ap, subst, _∙_}
-use mathlib.Core.Bool.{Bool, true, false}
+use mathlib.Core.Bool.{Bool, true, false, _&&_}
 use mathlib.Core.List.{List, [], _∷_, List·Memᴰ}
 use mathlib.Core.List.List·Memᴰ.{List·Memᴰ·head, List·Memᴰ·tail}
 use native.Mathlib.Omega.{arith}
 use borrow.Author.Tests.{ltb-true, leb-true, eqb-true}
 use lib.Dec.{eqb, leb, ltb}
-use Rattle.laws.proofs.Cases.{clash}
+use Rattle.laws.proofs.Cases.{and-left, and-right}
 use Rattle.kind.specs.declared.Kind.{Kind}
 use Rattle.kind.specs.declared.Kind.the-variants.{Overlap, Kinetic, Nuclear, Moment, Coulomb}
-use Rattle.kind.specs.Kinds.{tableOf, usesBoys, numberOf}
+use Rattle.kind.specs.Kinds.{tableOf, usesBoys}
 use Rattle.term.specs.Weights.{weight}
-use Rattle.steps.specs.declared.Centre.{Centre}
-use Rattle.steps.specs.declared.Centre.the-variants.{A, B, C, D}
+use Rattle.steps.specs.declared.CentreName.{CentreName}
+use Rattle.steps.specs.declared.CentreName.the-variants.{A, B, C, D}
 use Rattle.steps.specs.declared.Axis.{Axis}
 use Rattle.steps.specs.declared.Axis.the-variants.{X, Y, Z}
-use Rattle.steps.specs.Choice.{centreNumber, pick}
+use Rattle.steps.specs.Choice.{pick}
 use Rattle.steps.specs.Steps.{Branch, branches}
 use Rattle.histories.specs.History.{stage}
+use Rattle.histories.specs.inner.OnTheWay.{follows, own}
 use Rattle.histories.proofs.Orders.{fallen, apart}
-
-abbrev and : Bool → Bool → Bool
-and true b = b
-and false b = false
 
 abbrev every : {A : Type 0} → (A → Bool) → List A → Bool
 every f [] = true
-every f (x ∷ xs) = and (f x) (every f xs)
-
-and-left : (a b : Bool) → and a b ≡ true → a ≡ true
-and-left true b e = refl
-and-left false b e = e
-
-and-right : (a b : Bool) → and a b ≡ true → b ≡ true
-and-right true b e = e
-and-right false b e = absurd (clash (cc))
+every f (x ∷ xs) = f x && every f xs
 
 every-at : {A : Type 0} (f : A → Bool) (l : List A) → every f l ≡ true → (x : A) → List·Memᴰ x l → f x ≡ true
 every-at f (y ∷ l) e x (List·Memᴰ·head p) = ap f p ∙ and-left (f y) (every f l) e
 every-at f (y ∷ l) e x (List·Memᴰ·tail m) = every-at f l (and-right (f y) (every f l) e) x m
-
--- what a term of a kind can go on as: itself, and kinetic as overlap
-abbrev pub follows : Kind → Kind → Bool
-follows Overlap k = eqb (numberOf k) 0
-follows Kinetic k = leb (numberOf k) 1
-follows Nuclear k = eqb (numberOf k) 2
-follows Moment k = eqb (numberOf k) 3
-follows Coulomb k = eqb (numberOf k) 4
-
--- the centres that a kind has
-abbrev pub own : Kind → Centre → Bool
-own Overlap c = ltb (centreNumber c) 2
-own Kinetic c = ltb (centreNumber c) 2
-own Nuclear c = ltb (centreNumber c) 2
-own Moment c = ltb (centreNumber c) 3
-own Coulomb c = true
 
 abbrev pub boysStep : Bool → ℕ
 boysStep true = 1
 boysStep false = 0
 
 -- of a branch: it is a step of its request's kind
-pub record Fair (request k : Kind) (c : Centre) (b : Branch) : Type 0 where
+pub record Fair (request k : Kind) (c : CentreName) (b : Branch) : Type 0 where
   pub weighs : weight request (b .adds) ≡ fallen (b .falls)
   pub in-table : b .adds < tableOf request
   pub raises-less : b .raises ≤ fallen (b .falls)
@@ -71,7 +44,7 @@ pub record Fair (request k : Kind) (c : Centre) (b : Branch) : Type 0 where
   pub goes-down : stage (pick (b .as-overlap) Overlap k) < stage k + fallen (b .falls)
   pub goes-on : follows request (pick (b .as-overlap) Overlap k) ≡ true
 
-abbrev tests : Kind → Kind → Centre → Branch → List Bool
+abbrev tests : Kind → Kind → CentreName → Branch → List Bool
 tests request k c b =
     eqb (weight request (b .adds)) (fallen (b .falls))
     ∷ ltb (b .adds) (tableOf request)
@@ -85,13 +58,13 @@ tests request k c b =
 abbrev holds : Bool → Bool
 holds v = v
 
-fair : Kind → Kind → Centre → Branch → Bool
+fair : Kind → Kind → CentreName → Branch → Bool
 fair request k c b = every holds (tests request k c b)
 
 abbrev kinds : List Kind
 kinds = Overlap ∷ Kinetic ∷ Nuclear ∷ Moment ∷ Coulomb ∷ []
 
-abbrev centres : List Centre
+abbrev centres : List CentreName
 centres = A ∷ B ∷ C ∷ D ∷ []
 
 abbrev axes : List Axis
@@ -101,10 +74,10 @@ abbrev unless : Bool → Bool → Bool
 unless true b = b
 unless false b = true
 
-fairAt : Kind → Kind → Centre → Axis → Bool
-fairAt request k c x = unless (and (follows request k) (own k c)) (every (fair request k c) (branches k c x))
+fairAt : Kind → Kind → CentreName → Axis → Bool
+fairAt request k c x = unless (follows request k && own k c) (every (fair request k c) (branches k c x))
 
-all-fair : every (λ (request : Kind). every (λ (k : Kind). every (λ (c : Centre). every (fairAt request k c) axes) centres) kinds) kinds ≡ true
+all-fair : every (λ (request : Kind). every (λ (k : Kind). every (λ (c : CentreName). every (fairAt request k c) axes) centres) kinds) kinds ≡ true
 unfolding fairAt fair branches weight
 all-fair = refl
 
@@ -115,7 +88,7 @@ is-kind Nuclear = List·Memᴰ·tail (List·Memᴰ·tail (List·Memᴰ·head ref
 is-kind Moment = List·Memᴰ·tail (List·Memᴰ·tail (List·Memᴰ·tail (List·Memᴰ·head refl)))
 is-kind Coulomb = List·Memᴰ·tail (List·Memᴰ·tail (List·Memᴰ·tail (List·Memᴰ·tail (List·Memᴰ·head refl))))
 
-is-centre : (c : Centre) → List·Memᴰ c centres
+is-centre : (c : CentreName) → List·Memᴰ c centres
 is-centre A = List·Memᴰ·head refl
 is-centre B = List·Memᴰ·tail (List·Memᴰ·head refl)
 is-centre C = List·Memᴰ·tail (List·Memᴰ·tail (List·Memᴰ·head refl))
@@ -126,7 +99,7 @@ is-axis X = List·Memᴰ·head refl
 is-axis Y = List·Memᴰ·tail (List·Memᴰ·head refl)
 is-axis Z = List·Memᴰ·tail (List·Memᴰ·tail (List·Memᴰ·head refl))
 
-fair-is : (request k : Kind) (c : Centre) (b : Branch) → fair request k c b ≡ true → Fair request k c b
+fair-is : (request k : Kind) (c : CentreName) (b : Branch) → fair request k c b ≡ true → Fair request k c b
 unfolding fair
 fair-is request k c b e =
     record {
@@ -145,14 +118,14 @@ fair-is request k c b e =
     at {v} m = every-at holds (tests request k c b) e v m
 
 -- every branch at a centre of the kind is fair to the request
-pub fair-branch : (request k : Kind) (c : Centre) (x : Axis) (b : Branch) → follows request k ≡ true → own k c ≡ true → List·Memᴰ b (branches k c x) → Fair request k c b
+pub fair-branch : (request k : Kind) (c : CentreName) (x : Axis) (b : Branch) → follows request k ≡ true → own k c ≡ true → List·Memᴰ b (branches k c x) → Fair request k c b
 unfolding fairAt
 fair-branch request k c x b f o m =
     let at : fairAt request k c x ≡ true =
     every-at (fairAt request k c) axes
-    (every-at (λ (d : Centre). every (fairAt request k d) axes) centres
-    (every-at (λ (j : Kind). every (λ (d : Centre). every (fairAt request j d) axes) centres) kinds
-    (every-at (λ (r : Kind). every (λ (j : Kind). every (λ (d : Centre). every (fairAt r j d) axes) centres) kinds) kinds all-fair request (is-kind request))
+    (every-at (λ (d : CentreName). every (fairAt request k d) axes) centres
+    (every-at (λ (j : Kind). every (λ (d : CentreName). every (fairAt request j d) axes) centres) kinds
+    (every-at (λ (r : Kind). every (λ (j : Kind). every (λ (d : CentreName). every (fairAt r j d) axes) centres) kinds) kinds all-fair request (is-kind request))
     k (is-kind k))
     c (is-centre c))
     x (is-axis x) in

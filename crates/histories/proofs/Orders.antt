@@ -10,15 +10,17 @@ use lib.Dec.{ltb}
 use lib.ListN.{length, getD, set, List·getD-eq-default}
 use lib.Seq.{getD-set-same, getD-set-other}
 use Rattle.laws.proofs.Cases.{clash}
-use Rattle.steps.specs.declared.Centre.{Centre}
-use Rattle.steps.specs.declared.Centre.the-variants.{A, B, C, D}
+use Rattle.steps.specs.declared.CentreName.{CentreName}
+use Rattle.steps.specs.declared.CentreName.the-variants.{A, B, C, D}
 use Rattle.steps.specs.declared.Axis.{Axis}
 use Rattle.steps.specs.declared.Axis.the-variants.{X, Y, Z}
-use Rattle.steps.specs.declared.Component.{Component}
-use Rattle.steps.specs.declared.Component.the-variants.{Along, Nowhere}
-use Rattle.steps.specs.Choice.{axisNumber, centreNumber, place, orderOf, operator, firstAxis, pick}
+use Rattle.steps.specs.declared.AxisChoice.{AxisChoice}
+use Rattle.steps.specs.declared.AxisChoice.the-variants.{Along, Nowhere}
+use Rattle.steps.specs.Choice.{axisNumber, centreNumber, orderPlace, orderOf, operator, firstAxis, pick}
 use Rattle.steps.specs.Steps.{Falls, a, a-twice, a-and-b, a-and-c, a-and-d, a-and-o, nothing, times, lowered, less, partner, other-c, other-d}
 use Rattle.laws.specs.Total.{total}
+use Rattle.laws.proofs.Lists.{in-range}
+use Rattle.laws.proofs.Totals.{less-total}
 
 -- how many orders fall
 abbrev pub fallen : Falls → ℕ
@@ -31,13 +33,13 @@ fallen a-and-o = 2
 fallen nothing = 0
 
 -- the operator does not fall together with itself
-abbrev pub isOperator : Centre → Bool
+abbrev pub isOperator : CentreName → Bool
 isOperator A = false
 isOperator B = false
 isOperator C = true
 isOperator D = false
 
-abbrev pub apart : Falls → Centre → Bool
+abbrev pub apart : Falls → CentreName → Bool
 apart a c = true
 apart a-twice c = true
 apart a-and-b c = true
@@ -49,65 +51,48 @@ apart a-and-o C = false
 apart a-and-o D = true
 apart nothing c = true
 
-pub order-le-total : (l : List ℕ) (i : ℕ) → getD l i 0 ≤ total l
-unfolding total
-order-le-total [] i = omega arith
-order-le-total (n ∷ ns) zero = omega arith
-order-le-total (n ∷ ns) (suc i) = let h = order-le-total ns i in omega arith
-
-in-range : (l : List ℕ) (i : ℕ) → 0 < getD l i 0 → i < length l
-in-range [] i h = absurd (omega arith)
-in-range (n ∷ ns) zero h = omega arith
-in-range (n ∷ ns) (suc i) h = let k = in-range ns i h in omega arith
-
-less-total : (l : List ℕ) (i : ℕ) → 0 < getD l i 0 → total (set l i (getD l i 0 - 1)) + 1 ≡ total l
-unfolding total
-less-total [] i h = absurd (omega arith)
-less-total (n ∷ ns) zero h = omega arith
-less-total (n ∷ ns) (suc i) h = let k = less-total ns i h in omega arith
-
-module _ (left : List ℕ) (c d : Centre) (x : Axis) (first : 0 < orderOf left c x) where
-  apart-total : place d x ≢ place c x → 0 < orderOf left d x → total (less (less left c x) d x) + 2 ≡ total left
+module _ (left : List ℕ) (c d : CentreName) (x : Axis) (first : 0 < orderOf left c x) where
+  apart-total : orderPlace d x ≢ orderPlace c x → 0 < orderOf left d x → total (less (less left c x) d x) + 2 ≡ total left
   apart-total ne second =
-      let same : orderOf (less left c x) d x ≡ orderOf left d x = getD-set-other left (place c x) (place d x) (orderOf left c x - 1) 0 ne in
-      let one = less-total (less left c x) (place d x) (rw same second) in
-      let two = less-total left (place c x) first in
+      let same : orderOf (less left c x) d x ≡ orderOf left d x = getD-set-other left (orderPlace c x) (orderPlace d x) (orderOf left c x - 1) 0 ne in
+      let one = less-total (less left c x) (orderPlace d x) (rw same second) in
+      let two = less-total left (orderPlace c x) first in
       omega arith
 
-twice-total : (left : List ℕ) (c : Centre) (x : Axis) → 0 < orderOf left c x → 0 < orderOf left c x - 1 → total (less (less left c x) c x) + 2 ≡ total left
+twice-total : (left : List ℕ) (c : CentreName) (x : Axis) → 0 < orderOf left c x → 0 < orderOf left c x - 1 → total (less (less left c x) c x) + 2 ≡ total left
 twice-total left c x first second =
-    let same : orderOf (less left c x) c x ≡ orderOf left c x - 1 = getD-set-same left (place c x) (orderOf left c x - 1) 0 (in-range left (place c x) first) in
-    let one = less-total (less left c x) (place c x) (rw same second) in
-    let two = less-total left (place c x) first in
+    let same : orderOf (less left c x) c x ≡ orderOf left c x - 1 = getD-set-same left (orderPlace c x) (orderOf left c x - 1) 0 (in-range left (orderPlace c x) first) in
+    let one = less-total (less left c x) (orderPlace c x) (rw same second) in
+    let two = less-total left (orderPlace c x) first in
     omega arith
 
-pub partner-apart : (c : Centre) (x : Axis) → place (partner c) x ≢ place c x
+pub partner-apart : (c : CentreName) (x : Axis) → orderPlace (partner c) x ≢ orderPlace c x
 partner-apart A x = omega arith
 partner-apart B x = omega arith
 partner-apart C x = omega arith
 partner-apart D x = omega arith
 
-pub other-c-apart : (c : Centre) (x : Axis) → place (other-c c) x ≢ place c x
+pub other-c-apart : (c : CentreName) (x : Axis) → orderPlace (other-c c) x ≢ orderPlace c x
 other-c-apart A x = omega arith
 other-c-apart B x = omega arith
 other-c-apart C x = omega arith
 other-c-apart D x = omega arith
 
-pub other-d-apart : (c : Centre) (x : Axis) → place (other-d c) x ≢ place c x
+pub other-d-apart : (c : CentreName) (x : Axis) → orderPlace (other-d c) x ≢ orderPlace c x
 other-d-apart A x = omega arith
 other-d-apart B x = omega arith
 other-d-apart C x = omega arith
 other-d-apart D x = omega arith
 
-pub operator-apart : (c : Centre) (x : Axis) → apart a-and-o c ≡ true → place operator x ≢ place c x
+pub operator-apart : (c : CentreName) (x : Axis) → apart a-and-o c ≡ true → orderPlace operator x ≢ orderPlace c x
 operator-apart A x e = omega arith
 operator-apart B x e = omega arith
 operator-apart C x e = absurd (clash (cc))
 operator-apart D x e = omega arith
 
-pub lowered-total : (f : Falls) (c : Centre) (x : Axis) (left : List ℕ) → apart f c ≡ true → 0 < orderOf left c x → 0 < times f c x left → total (lowered f c x left) + fallen f ≡ total left
+pub lowered-total : (f : Falls) (c : CentreName) (x : Axis) (left : List ℕ) → apart f c ≡ true → 0 < orderOf left c x → 0 < times f c x left → total (lowered f c x left) + fallen f ≡ total left
 unfolding times lowered
-lowered-total a c x left p h l = less-total left (place c x) h
+lowered-total a c x left p h l = less-total left (orderPlace c x) h
 lowered-total a-twice c x left p h l = twice-total left c x h l
 lowered-total a-and-b c x left p h l = apart-total left c (partner c) x h (partner-apart c x) l
 lowered-total a-and-c c x left p h l = apart-total left c (other-c c) x h (other-c-apart c x) l
@@ -116,7 +101,7 @@ lowered-total a-and-o c x left p h l = apart-total left c operator x h (operator
 lowered-total nothing c x left p h l = omega arith
 
 -- the axis found has an order left
-pub axis-positive : (left : List ℕ) (c : Centre) (x : Axis) → firstAxis left c ≡ Along x → 0 < orderOf left c x
+pub axis-positive : (left : List ℕ) (c : CentreName) (x : Axis) → firstAxis left c ≡ Along x → 0 < orderOf left c x
 unfolding firstAxis
 axis-positive left c x e = first (ltb 0 (orderOf left c X)) refl e
   where

@@ -14,22 +14,22 @@ use Rattle.kind.specs.declared.Kind.{Kind}
 use Rattle.kind.specs.declared.Kind.the-variants.{Overlap, Kinetic, Nuclear, Moment, Coulomb}
 use Rattle.kind.specs.Kinds.{ordersOf}
 use Rattle.term.specs.Terms.{Term}
-use Rattle.steps.specs.declared.Centre.{Centre}
-use Rattle.steps.specs.declared.Centre.the-variants.{A, B, C, D}
+use Rattle.steps.specs.declared.CentreName.{CentreName}
+use Rattle.steps.specs.declared.CentreName.the-variants.{A, B, C, D}
 use Rattle.steps.specs.declared.Axis.{Axis}
 use Rattle.steps.specs.declared.Axis.the-variants.{X, Y, Z}
 use Rattle.steps.specs.declared.Fun.{Fun}
 use Rattle.steps.specs.declared.Fun.the-variants.{Lower, Nothing}
-use Rattle.steps.specs.declared.Component.{Component}
-use Rattle.steps.specs.declared.Component.the-variants.{Along, Nowhere}
+use Rattle.steps.specs.declared.AxisChoice.{AxisChoice}
+use Rattle.steps.specs.declared.AxisChoice.the-variants.{Along, Nowhere}
 use Rattle.steps.specs.declared.Best.{Best}
-use Rattle.steps.specs.Choice.{operator, place, orderOf, sumOf, pick, orBefore, smallest, onceExhausted, chosen, firstAxis}
+use Rattle.steps.specs.Choice.{operator, orderPlace, orderOf, sumOf, pick, orBefore, smallest, onceExhausted, chosen, firstAxis}
 use Rattle.steps.specs.Steps.{Falls, a, a-twice, a-and-b, a-and-c, a-and-d, a-and-o, nothing, Branch, branches, times, less, lowered, partner, other-c, other-d}
 use Rattle.laws.specs.Total.{total}
 use Rattle.steps.specs.States.{State, Next, start, step, ifLegal, turns, onAxis, onFun, nexts}
-use Rattle.histories.specs.History.{over, expand}
+use Rattle.histories.specs.History.{inTurn, expand}
 use Rattle.histories.proofs.Nexts.{Legal, legal}
-use Rattle.histories.proofs.Fair.{follows, own}
+use Rattle.histories.specs.inner.OnTheWay.{follows, own}
 use Rattle.histories.proofs.Choices.{chosen-own, none-is-none}
 use Rattle.histories.proofs.Walk.{follows-itself, fair-step, expand-done, expand-more}
 use Rattle.histories.proofs.Demand.{by-depth}
@@ -38,18 +38,18 @@ use Rattle.histories.proofs.Demand.{by-depth}
 unfoldable pub Unused : Kind → List ℕ → Type 0
 Unused k left = (i : ℕ) → ordersOf k ≤ i → getD left i 0 ≡ 0
 
-some-is-some : (c : Centre) → Lower c ≡ Nothing → ⊥
+some-is-some : (c : CentreName) → Lower c ≡ Nothing → ⊥
 some-is-some c e = none-is-none c (sym e)
 
 -- no centre is chosen only where every sum looked at is 0
-record Best0 (left : List ℕ) (cs : List Centre) : Type 0 where
-  sums : smallest left cs .fun ≡ Nothing → (c : Centre) → List·Memᴰ c cs → sumOf left c ≡ 0
+record Best0 (left : List ℕ) (cs : List CentreName) : Type 0 where
+  sums : smallest left cs .fun ≡ Nothing → (c : CentreName) → List·Memᴰ c cs → sumOf left c ≡ 0
   none : smallest left cs .fun ≡ Nothing → smallest left cs .sum ≡ 0
-  some : (c : Centre) → smallest left cs .fun ≡ Lower c → 0 < sumOf left c
+  some : (c : CentreName) → smallest left cs .fun ≡ Lower c → 0 < sumOf left c
 
-module _ (left : List ℕ) (d : Centre) (cs : List Centre) (later : Best0 left cs) where
-  here : (n : ℕ) → sumOf left d ≡ suc n → (c : Centre) → Lower d ≡ Lower c → 0 < sumOf left c
-  here n s c e = let same : d ≡ c = cc in subst (λ (b : Centre). 0 < sumOf left b) same (omega arith)
+module _ (left : List ℕ) (d : CentreName) (cs : List CentreName) (later : Best0 left cs) where
+  here : (n : ℕ) → sumOf left d ≡ suc n → (c : CentreName) → Lower d ≡ Lower c → 0 < sumOf left c
+  here n s c e = let same : d ≡ c = cc in subst (λ (b : CentreName). 0 < sumOf left b) same (omega arith)
 
   tested : (n : ℕ) → sumOf left d ≡ suc n → (v w : Bool) → ltb 0 (smallest left cs .sum) ≡ v → pick v (pick w (smallest left cs) (record { fun = Lower d; sum = suc n })) (record { fun = Lower d; sum = suc n }) .fun ≡ Nothing → ⊥
   tested n s true true t e = let h = ltb-true 0 (smallest left cs .sum) t in let z = later .none e in omega arith
@@ -59,7 +59,7 @@ module _ (left : List ℕ) (d : Centre) (cs : List Centre) (later : Best0 left c
   impossible : (n : ℕ) → sumOf left d ≡ suc n → orBefore (smallest left cs) d (suc n) .fun ≡ Nothing → ⊥
   impossible n s e = tested n s (ltb 0 (smallest left cs .sum)) (ltb (smallest left cs .sum) (suc n)) refl e
 
-  all : (n : ℕ) → sumOf left d ≡ n → orBefore (smallest left cs) d n .fun ≡ Nothing → (c : Centre) → List·Memᴰ c (d ∷ cs) → sumOf left c ≡ 0
+  all : (n : ℕ) → sumOf left d ≡ n → orBefore (smallest left cs) d n .fun ≡ Nothing → (c : CentreName) → List·Memᴰ c (d ∷ cs) → sumOf left c ≡ 0
   all zero s e c (List·Memᴰ·head f) = ap (sumOf left) f ∙ s
   all zero s e c (List·Memᴰ·tail m) = later .sums e c m
   all (suc n) s e c m = absurd (impossible n s e)
@@ -68,29 +68,29 @@ module _ (left : List ℕ) (d : Centre) (cs : List Centre) (later : Best0 left c
   zero-sum zero s e = later .none e
   zero-sum (suc n) s e = absurd (impossible n s e)
 
-  chosen-at : (n : ℕ) → sumOf left d ≡ suc n → (c : Centre) (v w : Bool) → pick v (pick w (smallest left cs) (record { fun = Lower d; sum = suc n })) (record { fun = Lower d; sum = suc n }) .fun ≡ Lower c → 0 < sumOf left c
+  chosen-at : (n : ℕ) → sumOf left d ≡ suc n → (c : CentreName) (v w : Bool) → pick v (pick w (smallest left cs) (record { fun = Lower d; sum = suc n })) (record { fun = Lower d; sum = suc n }) .fun ≡ Lower c → 0 < sumOf left c
   chosen-at n s c true true e = later .some c e
   chosen-at n s c true false e = here n s c e
   chosen-at n s c false w e = here n s c e
 
-  positive : (n : ℕ) → sumOf left d ≡ n → (c : Centre) → orBefore (smallest left cs) d n .fun ≡ Lower c → 0 < sumOf left c
+  positive : (n : ℕ) → sumOf left d ≡ n → (c : CentreName) → orBefore (smallest left cs) d n .fun ≡ Lower c → 0 < sumOf left c
   positive zero s c e = later .some c e
   positive (suc n) s c e = chosen-at n s c (ltb 0 (smallest left cs .sum)) (ltb (smallest left cs .sum) (suc n)) e
 
   before : Best0 left (d ∷ cs)
   before =
       record {
-        sums = λ (e : orBefore (smallest left cs) d (sumOf left d) .fun ≡ Nothing) (c : Centre) (m : List·Memᴰ c (d ∷ cs)). all (sumOf left d) refl e c m;
+        sums = λ (e : orBefore (smallest left cs) d (sumOf left d) .fun ≡ Nothing) (c : CentreName) (m : List·Memᴰ c (d ∷ cs)). all (sumOf left d) refl e c m;
         none = λ (e : orBefore (smallest left cs) d (sumOf left d) .fun ≡ Nothing). zero-sum (sumOf left d) refl e;
-        some = λ (c : Centre) (e : orBefore (smallest left cs) d (sumOf left d) .fun ≡ Lower c). positive (sumOf left d) refl c e;
+        some = λ (c : CentreName) (e : orBefore (smallest left cs) d (sumOf left d) .fun ≡ Lower c). positive (sumOf left d) refl c e;
       }
 
-best : (left : List ℕ) (cs : List Centre) → Best0 left cs
-best left [] = record { sums = λ (e : Nothing ≡ Nothing) (c : Centre) (m : List·Memᴰ c []). elim m [ ]; none = λ (e : Nothing ≡ Nothing). refl; some = λ (c : Centre) (e : Nothing ≡ Lower c). absurd (none-is-none c e) }
+best : (left : List ℕ) (cs : List CentreName) → Best0 left cs
+best left [] = record { sums = λ (e : Nothing ≡ Nothing) (c : CentreName) (m : List·Memᴰ c []). elim m [ ]; none = λ (e : Nothing ≡ Nothing). refl; some = λ (c : CentreName) (e : Nothing ≡ Lower c). absurd (none-is-none c e) }
 best left (d ∷ cs) = before left d cs (best left cs)
 
 -- the centre chosen has an order left
-chosen-positive : (k : Kind) (left : List ℕ) (c : Centre) → chosen k left ≡ Lower c → 0 < sumOf left c
+chosen-positive : (k : Kind) (left : List ℕ) (c : CentreName) → chosen k left ≡ Lower c → 0 < sumOf left c
 unfolding chosen
 chosen-positive Overlap left c e = best left (A ∷ B ∷ []) .some c e
 chosen-positive Kinetic left c e = best left (A ∷ B ∷ []) .some c e
@@ -102,7 +102,7 @@ chosen-positive Moment left c e = exhausted (smallest left (A ∷ B ∷ []) .fun
     exhausted (Lower d) f g = best left (A ∷ B ∷ []) .some c (f ∙ g)
 chosen-positive Coulomb left c e = best left (A ∷ B ∷ C ∷ D ∷ []) .some c e
 
-axis-there : (left : List ℕ) (c : Centre) → 0 < sumOf left c → firstAxis left c ≡ Nowhere → ⊥
+axis-there : (left : List ℕ) (c : CentreName) → 0 < sumOf left c → firstAxis left c ≡ Nowhere → ⊥
 unfolding firstAxis
 axis-there left c h e = first (ltb 0 (orderOf left c X)) refl e
   where
@@ -168,12 +168,12 @@ less-at-most (n ∷ l) zero (suc j) = omega arith
 less-at-most (n ∷ l) (suc i) zero = omega arith
 less-at-most (n ∷ l) (suc i) (suc j) = less-at-most l i j
 
-two-at-most : (left : List ℕ) (c d : Centre) (x : Axis) (j : ℕ) → getD (less (less left c x) d x) j 0 ≤ getD left j 0
-two-at-most left c d x j = let a = less-at-most (less left c x) (place d x) j in let b = less-at-most left (place c x) j in omega arith
+two-at-most : (left : List ℕ) (c d : CentreName) (x : Axis) (j : ℕ) → getD (less (less left c x) d x) j 0 ≤ getD left j 0
+two-at-most left c d x j = let a = less-at-most (less left c x) (orderPlace d x) j in let b = less-at-most left (orderPlace c x) j in omega arith
 
-lowered-at-most : (f : Falls) (c : Centre) (x : Axis) (left : List ℕ) (j : ℕ) → getD (lowered f c x left) j 0 ≤ getD left j 0
+lowered-at-most : (f : Falls) (c : CentreName) (x : Axis) (left : List ℕ) (j : ℕ) → getD (lowered f c x left) j 0 ≤ getD left j 0
 unfolding lowered
-lowered-at-most a c x left j = less-at-most left (place c x) j
+lowered-at-most a c x left j = less-at-most left (orderPlace c x) j
 lowered-at-most a-twice c x left j = two-at-most left c c x j
 lowered-at-most a-and-b c x left j = two-at-most left c (partner c) x j
 lowered-at-most a-and-c c x left j = two-at-most left c (other-c c) x j
@@ -221,7 +221,7 @@ unused-kept s n m u i h =
     omega arith
 
 -- branch 0 of a centre of the kind is always there and always legal
-first-branch : (k : Kind) (c : Centre) (x : Axis) → own k c ≡ true → (b : Branch) × (bs : List Branch) × (branches k c x ≡ b ∷ bs) × (b .falls ≡ a)
+first-branch : (k : Kind) (c : CentreName) (x : Axis) → own k c ≡ true → (b : Branch) × (bs : List Branch) × (branches k c x ≡ b ∷ bs) × (b .falls ≡ a)
 unfolding branches
 first-branch Overlap c x o = (_, _, refl, refl)
 first-branch Kinetic c x o = (_, _, refl, refl)
@@ -232,11 +232,11 @@ first-branch Moment C x o = (_, _, refl, refl)
 first-branch Moment D x o = absurd (clash (cc))
 first-branch Coulomb c x o = (_, _, refl, refl)
 
-times-one : (c : Centre) (x : Axis) (left : List ℕ) → times a c x left ≡ 1
+times-one : (c : CentreName) (x : Axis) (left : List ℕ) → times a c x left ≡ 1
 unfolding times
 times-one c x left = refl
 
-first-turn : (s : State) (c : Centre) (x : Axis) (b : Branch) (bs : List Branch) → b .falls ≡ a → (n : Next) × List·Memᴰ n (turns c x 0 s (b ∷ bs))
+first-turn : (s : State) (c : CentreName) (x : Axis) (b : Branch) (bs : List Branch) → b .falls ≡ a → (n : Next) × List·Memᴰ n (turns c x 0 s (b ∷ bs))
 unfolding turns
 first-turn s c x b bs e = (
   record { number = 0; state = step s c x b },
@@ -250,10 +250,10 @@ pub some-next : (s : State) → Unused (s .kind) (s .left) → (total (s .left) 
 unfolding Unused nexts
 some-next s u some = by-fun (chosen (s .kind) (s .left)) refl
   where
-    on-branches : (c : Centre) (x : Axis) → own (s .kind) c ≡ true → (n : Next) × List·Memᴰ n (turns c x 0 s (branches (s .kind) c x))
+    on-branches : (c : CentreName) (x : Axis) → own (s .kind) c ≡ true → (n : Next) × List·Memᴰ n (turns c x 0 s (branches (s .kind) c x))
     on-branches c x o = let f = first-branch (s .kind) c x o in subst (λ (bs : List Branch). (n : Next) × List·Memᴰ n (turns c x 0 s bs)) (sym (f .2)) (first-turn s c x (f .0) (f .1) (f .3))
 
-    by-axis : (c : Centre) → chosen (s .kind) (s .left) ≡ Lower c → (v : Component) → firstAxis (s .left) c ≡ v → (n : Next) × List·Memᴰ n (onAxis c v s)
+    by-axis : (c : CentreName) → chosen (s .kind) (s .left) ≡ Lower c → (v : AxisChoice) → firstAxis (s .left) c ≡ v → (n : Next) × List·Memᴰ n (onAxis c v s)
     by-axis c e Nowhere f = absurd (axis-there (s .left) c (chosen-positive (s .kind) (s .left) c e) f)
     by-axis c e (Along x) f = on-branches c x (chosen-own (s .kind) (s .left) c e)
 
@@ -261,10 +261,10 @@ some-next s u some = by-fun (chosen (s .kind) (s .left)) refl
     by-fun Nothing e = absurd (some (zero-total (s .left) (all-zero (s .left) (s .kind) u e)))
     by-fun (Lower c) e = by-axis c e (firstAxis (s .left) c) refl
 
-over-longer : (f : Next → List Term) (ns : List Next) (n : Next) → List·Memᴰ n ns → length (f n) ≤ length (over f ns)
-unfolding over
-over-longer f (m ∷ ns) n (List·Memᴰ·head e) = let h = length-append (f m) (over f ns) in let g = ap (λ (p : Next). length (f p)) e in omega arith
-over-longer f (m ∷ ns) n (List·Memᴰ·tail i) = let h = length-append (f m) (over f ns) in let g = over-longer f ns n i in omega arith
+over-longer : (f : Next → List Term) (ns : List Next) (n : Next) → List·Memᴰ n ns → length (f n) ≤ length (inTurn f ns)
+unfolding inTurn
+over-longer f (m ∷ ns) n (List·Memᴰ·head e) = let h = length-append (f m) (inTurn f ns) in let g = ap (λ (p : Next). length (f p)) e in omega arith
+over-longer f (m ∷ ns) n (List·Memᴰ·tail i) = let h = length-append (f m) (inTurn f ns) in let g = over-longer f ns n i in omega arith
 
 -- at least one term
 pub some-term : (s : State) → Unused (s .kind) (s .left) → 1 ≤ length (expand s)

@@ -10,17 +10,18 @@ use lib.Dec.{eqb}
 use Rattle.kind.specs.declared.Kind.{Kind}
 use Rattle.kind.specs.declared.Kind.the-variants.{Overlap, Kinetic, Nuclear, Moment, Coulomb}
 use Rattle.term.specs.Terms.{Term}
-use Rattle.steps.specs.declared.Centre.{Centre}
+use Rattle.steps.specs.declared.CentreName.{CentreName}
 use Rattle.steps.specs.declared.Axis.{Axis}
 use Rattle.steps.specs.Choice.{orderOf}
 use Rattle.steps.specs.Steps.{Branch, branches, times}
 use Rattle.laws.specs.Total.{total}
 use Rattle.steps.specs.States.{State, Next, step, nexts}
-use Rattle.histories.specs.History.{stage, depth, over, walk, termOf, alone, expand, nothingMore, after, histories}
+use Rattle.histories.specs.History.{stage, depth, inTurn, walk, termSoFar, alone, expand, nothingMore, after, histories}
 use Rattle.histories.proofs.Orders.{fallen, lowered-total, axis-positive}
-use Rattle.histories.proofs.Fair.{Fair, follows, own, fair-branch}
+use Rattle.histories.specs.inner.OnTheWay.{follows, own}
+use Rattle.histories.proofs.Fair.{Fair, fair-branch}
 use Rattle.histories.proofs.Choices.{chosen-own}
-use Rattle.histories.proofs.Nexts.{Legal, Turned, legal}
+use Rattle.histories.proofs.Nexts.{Legal, TurnOf, legal}
 
 pub follows-itself : (k : Kind) → follows k k ≡ true
 follows-itself Overlap = refl
@@ -50,10 +51,10 @@ step-down s n m =
     let k = ap (λ (t : State). stage (t .kind)) (l .turn .is) in
     omega (arith, f .goes-down)
 
-over-alike : {A : Type 0} (f g : Next → List A) (ns : List Next) → ((n : Next) → List·Memᴰ n ns → f n ≡ g n) → over f ns ≡ over g ns
-unfolding over
-over-alike f g [] h = refl
-over-alike f g (n ∷ ns) h = ap₂ _++_ (h n (List·Memᴰ·head refl)) (over-alike f g ns (λ (m : Next) (i : List·Memᴰ m ns). h m (List·Memᴰ·tail i)))
+in-turn-alike : {A : Type 0} (f g : Next → List A) (ns : List Next) → ((n : Next) → List·Memᴰ n ns → f n ≡ g n) → inTurn f ns ≡ inTurn g ns
+unfolding inTurn
+in-turn-alike f g [] h = refl
+in-turn-alike f g (n ∷ ns) h = ap₂ _++_ (h n (List·Memᴰ·head refl)) (in-turn-alike f g ns (λ (m : Next) (i : List·Memᴰ m ns). h m (List·Memᴰ·tail i)))
 
 none-left : (s : State) → depth s ≤ 0 → total (s .left) ≡ 0
 unfolding depth
@@ -65,7 +66,7 @@ module _ {A : Type 0} (leaf : State → A) (joined : Next → List A → List A)
   walk-done zero s e = refl
   walk-done (suc d) s e = rw (eq-eqb (total (s .left)) 0 e, walk)
 
-  walk-more : (d : ℕ) (s : State) → (total (s .left) ≡ 0 → ⊥) → walk leaf joined (suc d) s ≡ over (λ (n : Next). joined n (walk leaf joined d (n .state))) (nexts s)
+  walk-more : (d : ℕ) (s : State) → (total (s .left) ≡ 0 → ⊥) → walk leaf joined (suc d) s ≡ inTurn (λ (n : Next). joined n (walk leaf joined d (n .state))) (nexts s)
   unfolding walk
   walk-more d s e = rw (ne-eqb (total (s .left)) 0 e, walk)
 
@@ -83,35 +84,35 @@ module _ {A : Type 0} (leaf : State → A) (joined : Next → List A → List A)
       at-test true t ih = walk-done (suc d) s (eqb-true _ _ t) ∙ sym (walk-done (suc e) s (eqb-true _ _ t))
       at-test false t ih =
           walk-more d s (eqb-false _ _ t)
-          ∙ over-alike (λ (n : Next). joined n (walk leaf joined d (n .state))) (λ (n : Next). joined n (walk leaf joined e (n .state))) (nexts s) ih
+          ∙ in-turn-alike (λ (n : Next). joined n (walk leaf joined d (n .state))) (λ (n : Next). joined n (walk leaf joined e (n .state))) (nexts s) ih
           ∙ sym (walk-more e s (eqb-false _ _ t))
 
   -- a walk at its own depth
-  pub walk-all : (s : State) → (total (s .left) ≡ 0 → ⊥) → walk leaf joined (depth s) s ≡ over (λ (n : Next). joined n (walk leaf joined (depth (n .state)) (n .state))) (nexts s)
+  pub walk-all : (s : State) → (total (s .left) ≡ 0 → ⊥) → walk leaf joined (depth s) s ≡ inTurn (λ (n : Next). joined n (walk leaf joined (depth (n .state)) (n .state))) (nexts s)
   walk-all s e =
       walk-enough (depth s) (suc (depth s)) s (omega arith) (omega arith)
       ∙ walk-more (depth s) s e
-      ∙ over-alike (λ (n : Next). joined n (walk leaf joined (depth s) (n .state))) (λ (n : Next). joined n (walk leaf joined (depth (n .state)) (n .state))) (nexts s)
+      ∙ in-turn-alike (λ (n : Next). joined n (walk leaf joined (depth s) (n .state))) (λ (n : Next). joined n (walk leaf joined (depth (n .state)) (n .state))) (nexts s)
       (λ (n : Next) (m : List·Memᴰ n (nexts s)). ap (joined n) (walk-enough (depth s) (depth (n .state)) (n .state) (let k = step-down s n m in omega arith) (omega arith)))
 
 pub expand-done : (s : State) → total (s .left) ≡ 0 → expand s ≡ s .term ∷ []
 unfolding expand
-expand-done s e = walk-done termOf alone (depth s) s e
+expand-done s e = walk-done termSoFar alone (depth s) s e
 
-pub expand-more : (s : State) → (total (s .left) ≡ 0 → ⊥) → expand s ≡ over (λ (n : Next). expand (n .state)) (nexts s)
+pub expand-more : (s : State) → (total (s .left) ≡ 0 → ⊥) → expand s ≡ inTurn (λ (n : Next). expand (n .state)) (nexts s)
 unfolding expand
-expand-more s e = walk-all termOf alone s e
+expand-more s e = walk-all termSoFar alone s e
 
 pub histories-done : (s : State) → total (s .left) ≡ 0 → histories s ≡ [] ∷ []
 unfolding histories
 histories-done s e = walk-done nothingMore after (depth s) s e
 
-pub histories-more : (s : State) → (total (s .left) ≡ 0 → ⊥) → histories s ≡ over (λ (n : Next). after n (histories (n .state))) (nexts s)
+pub histories-more : (s : State) → (total (s .left) ≡ 0 → ⊥) → histories s ≡ inTurn (λ (n : Next). after n (histories (n .state))) (nexts s)
 unfolding histories
 histories-more s e = walk-all nothingMore after s e
 
 -- a branch at a centre of the kind lowers the depth
-pub branch-down : (s : State) (c : Centre) (x : Axis) (b : Branch) → own (s .kind) c ≡ true → List·Memᴰ b (branches (s .kind) c x) → 0 < orderOf (s .left) c x → 0 < times (b .falls) c x (s .left)
+pub branch-down : (s : State) (c : CentreName) (x : Axis) (b : Branch) → own (s .kind) c ≡ true → List·Memᴰ b (branches (s .kind) c x) → 0 < orderOf (s .left) c x → 0 < times (b .falls) c x (s .left)
     → depth (step s c x b) < depth s
 unfolding depth step
 branch-down s c x b o m h l =

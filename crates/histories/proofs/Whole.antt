@@ -6,7 +6,7 @@ use mathlib.Core.List.List·Memᴰ.{List·Memᴰ·head, List·Memᴰ·tail}
 use native.Mathlib.Omega.{arith}
 use Rattle.laws.specs.Total.{total}
 use Rattle.steps.specs.States.{State, Next, nexts}
-use Rattle.histories.specs.History.{Complete, finished, lowered-by, over, after, histories}
+use Rattle.histories.specs.History.{Complete, finished, lowered-by, inTurn, after, histories}
 use Rattle.histories.proofs.Choices.{none-legal}
 use Rattle.histories.proofs.Walk.{histories-done, histories-more}
 use Rattle.histories.proofs.Demand.{by-depth}
@@ -16,10 +16,10 @@ into-after : (n : Next) (hs : List (List ℕ)) (h : List ℕ) → List·Memᴰ h
 into-after n (g ∷ hs) h (List·Memᴰ·head e) = List·Memᴰ·head (ap (λ (l : List ℕ). n .number ∷ l) e)
 into-after n (g ∷ hs) h (List·Memᴰ·tail m) = List·Memᴰ·tail (into-after n hs h m)
 
-into-over : {A : Type 0} (f : Next → List A) (ns : List Next) (n : Next) (y : A) → List·Memᴰ n ns → List·Memᴰ y (f n) → List·Memᴰ y (over f ns)
-unfolding over
-into-over f (m ∷ ns) n y (List·Memᴰ·head e) i = Memᴰ·append-left (over f ns) (subst (λ (p : Next). List·Memᴰ y (f p)) e i)
-into-over f (m ∷ ns) n y (List·Memᴰ·tail j) i = Memᴰ·append-right (f m) (into-over f ns n y j i)
+into-turn : {A : Type 0} (f : Next → List A) (ns : List Next) (n : Next) (y : A) → List·Memᴰ n ns → List·Memᴰ y (f n) → List·Memᴰ y (inTurn f ns)
+unfolding inTurn
+into-turn f (m ∷ ns) n y (List·Memᴰ·head e) i = Memᴰ·append-left (inTurn f ns) (subst (λ (p : Next). List·Memᴰ y (f p)) e i)
+into-turn f (m ∷ ns) n y (List·Memᴰ·tail j) i = Memᴰ·append-right (f m) (into-turn f ns n y j i)
 
 pub listed-is-complete : (s : State) (h : List ℕ) → List·Memᴰ h (histories s) → Complete s h
 listed-is-complete =
@@ -43,4 +43,4 @@ pub complete-is-listed : (s : State) (h : List ℕ) → Complete s h → List·M
 complete-is-listed s h (finished e) = subst (List·Memᴰ []) (sym (histories-done s e)) (List·Memᴰ·head refl)
 complete-is-listed s h (lowered-by {h = g} n m c) =
     subst (List·Memᴰ (n .number ∷ g)) (sym (histories-more s (not-done s n m)))
-    (into-over (λ (p : Next). after p (histories (p .state))) (nexts s) n (n .number ∷ g) m (into-after n (histories (n .state)) g (complete-is-listed (n .state) g c)))
+    (into-turn (λ (p : Next). after p (histories (p .state))) (nexts s) n (n .number ∷ g) m (into-after n (histories (n .state)) g (complete-is-listed (n .state) g c)))

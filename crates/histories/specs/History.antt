@@ -38,25 +38,28 @@ unfoldable pub depth : State → ℕ
 depth s = stage (s .kind) + total (s .left)
 
 -- what each next state gives, in turn
-unfoldable pub over : {A : Type 0} → (Next → List A) → List Next → List A
-over f [] = []
-over f (n ∷ ns) = f n ++ over f ns
+unfoldable pub inTurn : {A : Type 0} → (Next → List A) → List Next → List A
+inTurn f [] = []
+inTurn f (n ∷ ns) = f n ++ inTurn f ns
 
 -- A term's children are expanded in turn before its next sibling. `leaf` is what a state with no order left gives, `joined` what
 -- a branch makes of all that its own state gives.
+-- The number is the steps that may still be taken: a definition has to be seen to end. It bounds nothing, since each legal step lowers
+-- `depth` (step-down in proofs/Walk.antt): `depth s` is enough for every history of `s`, and more gives the same (walk-enough there).
+-- So a walk from `depth s` comes to the line of zero only where no order is left, and there gives what the other line gives.
 unfoldable pub walk : {A : Type 0} → (State → A) → (Next → List A → List A) → ℕ → State → List A
 walk leaf joined zero s = leaf s ∷ []
-walk leaf joined (suc d) s = elim (eqb (total (s .left)) 0) [ true ↦ leaf s ∷ [] | false ↦ over (λ (n : Next). joined n (walk leaf joined d (n .state))) (nexts s) ]
+walk leaf joined (suc d) s = elim (eqb (total (s .left)) 0) [ true ↦ leaf s ∷ [] | false ↦ inTurn (λ (n : Next). joined n (walk leaf joined d (n .state))) (nexts s) ]
 
-abbrev pub termOf : State → Term
-termOf s = s .term
+abbrev pub termSoFar : State → Term
+termSoFar s = s .term
 
 abbrev pub alone : Next → List Term → List Term
 alone n ts = ts
 
 -- the list of terms, one for each complete history
 unfoldable pub expand : State → List Term
-expand s = walk termOf alone (depth s) s
+expand s = walk termSoFar alone (depth s) s
 
 abbrev pub nothingMore : State → List ℕ
 nothingMore s = []

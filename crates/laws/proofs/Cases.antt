@@ -37,3 +37,9 @@ and-first x a b e f = ap (λ (v : Bool). v && b) (sym f ∙ e)
 
 pub and-then : (x y a b : Bool) → x ≡ a → x ≡ true → y ≡ b → y ≡ (a && b)
 and-then x y a b e t h = h ∙ ap (λ (v : Bool). v && b) (sym t ∙ e)
+
+pub and-left : (p q : Bool) → (p && q) ≡ true → p ≡ true
+and-left p q e = and-true-both p q e .0
+
+pub and-right : (p q : Bool) → (p && q) ≡ true → q ≡ true
+and-right p q e = and-true-both p q e .1

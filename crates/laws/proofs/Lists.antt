@@ -49,10 +49,17 @@ pub getD-later : {A : Type 0} (l tail : List A) (x d : A) (i : ℕ) → l ≡ x 
 getD-later l tail x d zero e some = absurd (not-suc-le-zero some)
 getD-later l tail x d (suc i) e some = let less : suc i - 1 ≡ i = omega arith in rw (e, less)
 
+-- what stands inside a list is one of its members
 pub getD-in : {A : Type 0} (l : List A) (i : ℕ) (d : A) → i < length l → List·Memᴰ (getD l i d) l
 getD-in [] i d h = absurd (omega arith)
 getD-in (y ∷ l) zero d h = List·Memᴰ·head refl
 getD-in (y ∷ l) (suc i) d h = List·Memᴰ·tail (getD-in l i d (omega arith))
+
+-- where something stands is inside
+pub in-range : (l : List ℕ) (i : ℕ) → 0 < getD l i 0 → i < length l
+in-range [] i h = absurd (omega arith)
+in-range (n ∷ ns) zero h = omega arith
+in-range (n ∷ ns) (suc i) h = let k = in-range ns i h in omega arith
 
 -- ---- lists of lists
 

@@ -8,12 +8,13 @@ use native.Mathlib.Nat.{pow-suc}
 use lib.ListN.{length, getD, set, List·getD-eq-default}
 use lib.Seq.{getD-set-same, getD-set-other}
 use Rattle.kind.specs.Limits.{requestOrders}
-use Rattle.steps.specs.declared.Centre.{Centre}
+use Rattle.steps.specs.declared.CentreName.{CentreName}
 use Rattle.steps.specs.declared.Axis.{Axis}
-use Rattle.steps.specs.Choice.{place, orderOf, operator}
+use Rattle.steps.specs.Choice.{orderPlace, orderOf, operator}
 use Rattle.steps.specs.Steps.{Falls, a, a-twice, a-and-b, a-and-c, a-and-d, a-and-o, nothing, times, lowered, less, partner, other-c, other-d}
 use Rattle.laws.specs.Total.{total}
-use Rattle.steps.specs.Packed.{nibbles, orders, unit, fallWord}
+use Rattle.laws.proofs.Lists.{in-range}
+use Rattle.steps.specs.inner.Packed.{nibbles, orders, unit, fallWord}
 use Rattle.steps.proofs.Packed.{length-nibbles}
 
 -- an order of a word is below sixteen
@@ -23,10 +24,10 @@ nibble-small zero i w = omega arith
 nibble-small (suc n) zero w = omega arith
 nibble-small (suc n) (suc i) w = nibble-small n i (w / 16)
 
-pub order-small : (w : ℕ) (c : Centre) (x : Axis) → orderOf (orders w) c x < 16
-order-small w c x = nibble-small requestOrders (place c x) w
+pub order-small : (w : ℕ) (c : CentreName) (x : Axis) → orderOf (orders w) c x < 16
+order-small w c x = nibble-small requestOrders (orderPlace c x) w
 
-pub times-small : (f : Falls) (c : Centre) (x : Axis) (w : ℕ) → times f c x (orders w) < 16
+pub times-small : (f : Falls) (c : CentreName) (x : Axis) (w : ℕ) → times f c x (orders w) < 16
 unfolding times
 times-small a c x w = omega arith
 times-small a-twice c x w = let h = order-small w c x in omega arith
@@ -54,16 +55,16 @@ nibble-less (suc n) (suc i) w h =
     let rest : (w - 16 ^ suc i) / 16 ≡ w / 16 - 16 ^ i = omega arith in
     ap₂ _∷_ first (ap (nibbles n) rest ∙ nibble-less n i (w / 16) h)
 
-less-word : (w : ℕ) (c : Centre) (x : Axis) → 0 < orderOf (orders w) c x → orders (w - unit c x) ≡ less (orders w) c x
-less-word w c x h = nibble-less requestOrders (place c x) w h
+less-word : (w : ℕ) (c : CentreName) (x : Axis) → 0 < orderOf (orders w) c x → orders (w - unit c x) ≡ less (orders w) c x
+less-word w c x h = nibble-less requestOrders (orderPlace c x) w h
 
-held-word : (w : ℕ) (c : Centre) (x : Axis) → 0 < orderOf (orders w) c x → unit c x ≤ w
-held-word w c x h = nibble-held requestOrders (place c x) w h
+held-word : (w : ℕ) (c : CentreName) (x : Axis) → 0 < orderOf (orders w) c x → unit c x ≤ w
+held-word w c x h = nibble-held requestOrders (orderPlace c x) w h
 
 apart-sub : (w m n : ℕ) → w - (m + n) ≡ w - m - n
 apart-sub w m n = omega arith
 
-module _ (w : ℕ) (c d : Centre) (x : Axis) (first : 0 < orderOf (orders w) c x) (second : 0 < orderOf (less (orders w) c x) d x) where
+module _ (w : ℕ) (c d : CentreName) (x : Axis) (first : 0 < orderOf (orders w) c x) (second : 0 < orderOf (less (orders w) c x) d x) where
   after : 0 < orderOf (orders (w - unit c x)) d x
   after = rw (less-word w c x first) second
 
@@ -75,28 +76,20 @@ module _ (w : ℕ) (c d : Centre) (x : Axis) (first : 0 < orderOf (orders w) c x
       ap (λ (n : ℕ). orders n) (apart-sub w (unit c x) (unit d x))
       ∙ less-word (w - unit c x) d x after ∙ ap (λ (l : List ℕ). less l d x) (less-word w c x first)
 
-in-list : (w : ℕ) (c : Centre) (x : Axis) → 0 < orderOf (orders w) c x → place c x < length (orders w)
-in-list w c x h = at (orders w) (place c x) h
-  where
-    at : (l : List ℕ) (i : ℕ) → 0 < getD l i 0 → i < length l
-    at [] i k = absurd (omega arith)
-    at (n ∷ ns) zero k = omega arith
-    at (n ∷ ns) (suc i) k = let m = at ns i k in omega arith
+other-second : (w : ℕ) (c d : CentreName) (x : Axis) → orderPlace d x ≢ orderPlace c x → 0 < orderOf (orders w) d x → 0 < orderOf (less (orders w) c x) d x
+other-second w c d x ne h = rw (getD-set-other (orders w) (orderPlace c x) (orderPlace d x) (orderOf (orders w) c x - 1) 0 ne) h
 
-other-second : (w : ℕ) (c d : Centre) (x : Axis) → place d x ≢ place c x → 0 < orderOf (orders w) d x → 0 < orderOf (less (orders w) c x) d x
-other-second w c d x ne h = rw (getD-set-other (orders w) (place c x) (place d x) (orderOf (orders w) c x - 1) 0 ne) h
-
-same-second : (w : ℕ) (c : Centre) (x : Axis) → 0 < orderOf (orders w) c x → 0 < orderOf (orders w) c x - 1 → 0 < orderOf (less (orders w) c x) c x
-same-second w c x h k = rw (getD-set-same (orders w) (place c x) (orderOf (orders w) c x - 1) 0 (in-list w c x h)) k
+same-second : (w : ℕ) (c : CentreName) (x : Axis) → 0 < orderOf (orders w) c x → 0 < orderOf (orders w) c x - 1 → 0 < orderOf (less (orders w) c x) c x
+same-second w c x h k = rw (getD-set-same (orders w) (orderPlace c x) (orderOf (orders w) c x - 1) 0 (in-range (orders w) (orderPlace c x) h)) k
 
 -- the places that fall together lie apart
-pub record Apart (c : Centre) (x : Axis) : Type 0 where
-  pub from-partner : place (partner c) x ≢ place c x
-  pub from-c : place (other-c c) x ≢ place c x
-  pub from-d : place (other-d c) x ≢ place c x
+pub record Apart (c : CentreName) (x : Axis) : Type 0 where
+  pub from-partner : orderPlace (partner c) x ≢ orderPlace c x
+  pub from-c : orderPlace (other-c c) x ≢ orderPlace c x
+  pub from-d : orderPlace (other-d c) x ≢ orderPlace c x
 
-module _ (c : Centre) (x : Axis) (w : ℕ) (p : Apart c x) (first : 0 < orderOf (orders w) c x) where
-  pub falls-word : (f : Falls) → (f ≡ a-and-o → place operator x ≢ place c x) → 0 < times f c x (orders w) → orders (w - fallWord f c x) ≡ lowered f c x (orders w)
+module _ (c : CentreName) (x : Axis) (w : ℕ) (p : Apart c x) (first : 0 < orderOf (orders w) c x) where
+  pub falls-word : (f : Falls) → (f ≡ a-and-o → orderPlace operator x ≢ orderPlace c x) → 0 < times f c x (orders w) → orders (w - fallWord f c x) ≡ lowered f c x (orders w)
   unfolding times lowered fallWord
   falls-word a o h = less-word w c x first
   falls-word a-twice o h = ap (λ (n : ℕ). orders (w - n)) (omega arith) ∙ two-less w c c x first (same-second w c x first h)
@@ -106,7 +99,7 @@ module _ (c : Centre) (x : Axis) (w : ℕ) (p : Apart c x) (first : 0 < orderOf 
   falls-word a-and-o o h = two-less w c operator x first (other-second w c operator x (o refl) h)
   falls-word nothing o h = ap (λ (n : ℕ). orders n) (omega arith)
 
-  pub falls-held : (f : Falls) → (f ≡ a-and-o → place operator x ≢ place c x) → 0 < times f c x (orders w) → fallWord f c x ≤ w
+  pub falls-held : (f : Falls) → (f ≡ a-and-o → orderPlace operator x ≢ orderPlace c x) → 0 < times f c x (orders w) → fallWord f c x ≤ w
   unfolding times fallWord
   falls-held a o h = held-word w c x first
   falls-held a-twice o h = let k = two-held w c c x first (same-second w c x first h) in omega arith

@@ -1,5 +1,5 @@
-pub mod Chosen
+pub mod BranchesLaws
+pub mod ChoiceLaws
 pub mod Falling
-pub mod Moves
 pub mod Only
 pub mod Packed

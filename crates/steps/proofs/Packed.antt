@@ -7,12 +7,12 @@ use native.Mathlib.Omega.{arith}
 use lib.ListN.{length, getD, set}
 use lib.Pow.{pow-add}
 use Rattle.kind.specs.Limits.{requestOrders}
-use Rattle.steps.specs.declared.Centre.{Centre}
-use Rattle.steps.specs.declared.Centre.the-variants.{A, B, C, D}
+use Rattle.steps.specs.declared.CentreName.{CentreName}
+use Rattle.steps.specs.declared.CentreName.the-variants.{A, B, C, D}
 use Rattle.steps.specs.declared.Axis.{Axis}
 use Rattle.steps.specs.declared.Axis.the-variants.{X, Y, Z}
-use Rattle.steps.specs.Choice.{centreNumber, axisNumber, place, orderOf, sumOf}
-use Rattle.steps.specs.Packed.{nibbles, orders}
+use Rattle.steps.specs.Choice.{centreNumber, axisNumber, orderPlace, orderOf, sumOf}
+use Rattle.steps.specs.inner.Packed.{nibbles, orders}
 
 pub length-nibbles : (n w : ℕ) → length (nibbles n w) ≡ n
 unfolding nibbles
@@ -27,46 +27,26 @@ nibble-at (suc n) (suc i) w h =
     nibble-at n i (w / 16) (omega arith)
     ∙ ap (λ (k : ℕ). k % 16) (div-div-eq-div-mul w 16 (16 ^ i) ∙ ap (λ (k : ℕ). w / k) (mul-comm 16 (16 ^ i) ∙ sym (pow-suc 16 i)))
 
-place-below : (c : Centre) (x : Axis) → place c x < requestOrders
-place-below A X = omega arith
-place-below A Y = omega arith
-place-below A Z = omega arith
-place-below B X = omega arith
-place-below B Y = omega arith
-place-below B Z = omega arith
-place-below C X = omega arith
-place-below C Y = omega arith
-place-below C Z = omega arith
-place-below D X = omega arith
-place-below D Y = omega arith
-place-below D Z = omega arith
-
--- an order of a word
-pub order-is : (w : ℕ) (c : Centre) (x : Axis) → w / 16 ^ (3 * centreNumber c) / 16 ^ axisNumber x % 16 ≡ orderOf (orders w) c x
-order-is w c x =
-    ap (λ (k : ℕ). k % 16)
-    (div-div-eq-div-mul w (16 ^ (3 * centreNumber c)) (16 ^ axisNumber x) ∙ ap (λ (k : ℕ). w / k) (sym (pow-add 16 (3 * centreNumber c) (axisNumber x))))
-    ∙ sym (nibble-at requestOrders (place c x) w (place-below c x))
+order-place-below : (c : CentreName) (x : Axis) → orderPlace c x < requestOrders
+order-place-below A X = omega arith
+order-place-below A Y = omega arith
+order-place-below A Z = omega arith
+order-place-below B X = omega arith
+order-place-below B Y = omega arith
+order-place-below B Z = omega arith
+order-place-below C X = omega arith
+order-place-below C Y = omega arith
+order-place-below C Z = omega arith
+order-place-below D X = omega arith
+order-place-below D Y = omega arith
+order-place-below D Z = omega arith
 
 -- four bits an order
 pub sixteen-pow : (n : ℕ) → 2 ^ (4 * n) ≡ 16 ^ n
 sixteen-pow zero = refl
 sixteen-pow (suc n) = ap (λ (k : ℕ). 2 ^ k) (mul-suc 4 n) ∙ pow-add 2 (4 * n) 4 ∙ ap (λ (k : ℕ). k * 16) (sixteen-pow n) ∙ sym (pow-suc 16 n)
 
-pub order-shifted : (w k : ℕ) (c : Centre) (x : Axis) → k ≡ 4 * place c x → w / 2 ^ k % 16 ≡ orderOf (orders w) c x
+pub order-shifted : (w k : ℕ) (c : CentreName) (x : Axis) → k ≡ 4 * orderPlace c x → w / 2 ^ k % 16 ≡ orderOf (orders w) c x
 order-shifted w k c x e =
-    ap (λ (m : ℕ). w / m % 16) (ap (λ (m : ℕ). 2 ^ m) e ∙ sixteen-pow (place c x))
-    ∙ sym (nibble-at requestOrders (place c x) w (place-below c x))
-
-module _ (w rest : ℕ) (c : Centre) (starts : rest ≡ w / 16 ^ (3 * centreNumber c)) where
-  along-x : rest % 16 ≡ orderOf (orders w) c X
-  along-x = ap (λ (k : ℕ). k % 16) (sym (div-one rest)) ∙ rw starts (order-is w c X)
-
-  along-y : rest / 16 % 16 ≡ orderOf (orders w) c Y
-  along-y = rw starts (order-is w c Y)
-
-  along-z : rest / 256 % 16 ≡ orderOf (orders w) c Z
-  along-z = rw starts (order-is w c Z)
-
-  pub sum-is : rest % 16 + rest / 16 % 16 + rest / 256 % 16 ≡ sumOf (orders w) c
-  sum-is = rw (along-x, along-y, along-z)
+    ap (λ (m : ℕ). w / m % 16) (ap (λ (m : ℕ). 2 ^ m) e ∙ sixteen-pow (orderPlace c x))
+    ∙ sym (nibble-at requestOrders (orderPlace c x) w (order-place-below c x))

@@ -6,24 +6,24 @@ use lib.ListN.{getD}
 use lib.Dec.{ltb}
 use Rattle.kind.specs.declared.Kind.{Kind}
 use Rattle.kind.specs.declared.Kind.the-variants.{Overlap, Kinetic, Nuclear, Moment, Coulomb}
-use Rattle.steps.specs.declared.Centre.{Centre}
-use Rattle.steps.specs.declared.Centre.the-variants.{A, B, C, D}
+use Rattle.steps.specs.declared.CentreName.{CentreName}
+use Rattle.steps.specs.declared.CentreName.the-variants.{A, B, C, D}
 use Rattle.steps.specs.declared.Axis.{Axis}
 use Rattle.steps.specs.declared.Axis.the-variants.{X, Y, Z}
 use Rattle.steps.specs.declared.Fun.{Fun}
 use Rattle.steps.specs.declared.Fun.the-variants.{Lower, Nothing}
-use Rattle.steps.specs.declared.Component.{Component}
-use Rattle.steps.specs.declared.Component.the-variants.{Along, Nowhere}
+use Rattle.steps.specs.declared.AxisChoice.{AxisChoice}
+use Rattle.steps.specs.declared.AxisChoice.the-variants.{Along, Nowhere}
 use Rattle.steps.specs.declared.Best.{Best}
 
 -- centre number A 0 to D 3; the operator of a moment stands in C's place
-abbrev pub centreNumber : Centre → ℕ
+abbrev pub centreNumber : CentreName → ℕ
 centreNumber A = 0
 centreNumber B = 1
 centreNumber C = 2
 centreNumber D = 3
 
-abbrev pub operator : Centre
+abbrev pub operator : CentreName
 operator = C
 
 -- axis (0, 1, 2)
@@ -33,13 +33,13 @@ axisNumber Y = 1
 axisNumber Z = 2
 
 -- orders stand by centre, x y z each
-abbrev pub place : Centre → Axis → ℕ
-place c x = 3 * centreNumber c + axisNumber x
+abbrev pub orderPlace : CentreName → Axis → ℕ
+orderPlace c x = 3 * centreNumber c + axisNumber x
 
-abbrev pub orderOf : List ℕ → Centre → Axis → ℕ
-orderOf left c x = getD left (place c x) 0
+abbrev pub orderOf : List ℕ → CentreName → Axis → ℕ
+orderOf left c x = getD left (orderPlace c x) 0
 
-abbrev pub sumOf : List ℕ → Centre → ℕ
+abbrev pub sumOf : List ℕ → CentreName → ℕ
 sumOf left c = orderOf left c X + orderOf left c Y + orderOf left c Z
 
 abbrev pub pick : {A : Type 0} → Bool → A → A → A
@@ -51,11 +51,11 @@ abbrev pub noBest : Best
 noBest = record { fun = Nothing; sum = 0 }
 
 -- the smallest positive sum, first on a tie: a centre stands before those after it, unless its sum is 0 or one of theirs is smaller
-abbrev pub orBefore : Best → Centre → ℕ → Best
+abbrev pub orBefore : Best → CentreName → ℕ → Best
 orBefore later c zero = later
 orBefore later c (suc n) = pick (ltb 0 (later .sum)) (pick (ltb (later .sum) (suc n)) later (record { fun = Lower c; sum = suc n })) (record { fun = Lower c; sum = suc n })
 
-abbrev pub smallest : List ℕ → List Centre → Best
+abbrev pub smallest : List ℕ → List CentreName → Best
 smallest left [] = noBest
 smallest left (c ∷ cs) = orBefore (smallest left cs) c (sumOf left c)
 
@@ -72,7 +72,7 @@ chosen Moment left = onceExhausted (smallest left (A ∷ B ∷ []) .fun) (smalle
 chosen Coulomb left = smallest left (A ∷ B ∷ C ∷ D ∷ []) .fun
 
 -- the first axis with a positive order left there
-unfoldable pub firstAxis : List ℕ → Centre → Component
+unfoldable pub firstAxis : List ℕ → CentreName → AxisChoice
 firstAxis left c =
     pick (ltb 0 (orderOf left c X)) (Along X)
     (pick (ltb 0 (orderOf left c Y)) (Along Y)

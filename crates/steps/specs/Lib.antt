@@ -1,4 +1,4 @@
 pub mod Choice
-pub mod Packed
 pub mod States
 pub mod Steps
+pub mod inner

@@ -5,12 +5,12 @@ use mathlib.Core.List.{List, [], _∷_, _++_}
 use Rattle.kind.specs.declared.Kind.{Kind}
 use Rattle.kind.specs.declared.Kind.the-variants.{Overlap}
 use Rattle.term.specs.Terms.{Term}
-use Rattle.steps.specs.declared.Centre.{Centre}
+use Rattle.steps.specs.declared.CentreName.{CentreName}
 use Rattle.steps.specs.declared.Axis.{Axis}
 use Rattle.steps.specs.declared.Fun.{Fun}
 use Rattle.steps.specs.declared.Fun.the-variants.{Lower, Nothing}
-use Rattle.steps.specs.declared.Component.{Component}
-use Rattle.steps.specs.declared.Component.the-variants.{Along, Nowhere}
+use Rattle.steps.specs.declared.AxisChoice.{AxisChoice}
+use Rattle.steps.specs.declared.AxisChoice.the-variants.{Along, Nowhere}
 use Rattle.steps.specs.Choice.{pick, chosen, firstAxis}
 use Rattle.steps.specs.Steps.{Branch, branches, times, lowered}
 
@@ -28,7 +28,7 @@ start k orders = record { kind = k; left = orders; term = record { scale = 1; bo
 abbrev pub stepped : Term → ℕ → Branch → Term
 stepped t m b = record { scale = t .scale * m; boys = t .boys + b .raises; prefactors = t .prefactors ++ (b .adds ∷ []) }
 
-unfoldable pub step : State → Centre → Axis → Branch → State
+unfoldable pub step : State → CentreName → Axis → Branch → State
 step s c x b = record { kind = pick (b .as-overlap) Overlap (s .kind); left = lowered (b .falls) c x (s .left); term = stepped (s .term) (times (b .falls) c x (s .left)) b }
 
 -- a branch number and where it leads
@@ -41,11 +41,11 @@ abbrev pub ifLegal : ℕ → Next → List Next → List Next
 ifLegal zero n others = others
 ifLegal (suc m) n others = n ∷ others
 
-unfoldable pub turns : Centre → Axis → ℕ → State → List Branch → List Next
+unfoldable pub turns : CentreName → Axis → ℕ → State → List Branch → List Next
 turns c x k s [] = []
 turns c x k s (b ∷ bs) = ifLegal (times (b .falls) c x (s .left)) (record { number = k; state = step s c x b }) (turns c x (suc k) s bs)
 
-abbrev pub onAxis : Centre → Component → State → List Next
+abbrev pub onAxis : CentreName → AxisChoice → State → List Next
 onAxis c Nowhere s = []
 onAxis c (Along x) s = turns c x 0 s (branches (s .kind) c x)
 

@@ -5,10 +5,10 @@ use mathlib.Core.List.{List, [], _∷_}
 use lib.ListN.{getD, set}
 use Rattle.kind.specs.declared.Kind.{Kind}
 use Rattle.kind.specs.declared.Kind.the-variants.{Overlap, Kinetic, Nuclear, Moment, Coulomb}
-use Rattle.steps.specs.declared.Centre.{Centre}
-use Rattle.steps.specs.declared.Centre.the-variants.{A, B, C, D}
+use Rattle.steps.specs.declared.CentreName.{CentreName}
+use Rattle.steps.specs.declared.CentreName.the-variants.{A, B, C, D}
 use Rattle.steps.specs.declared.Axis.{Axis}
-use Rattle.steps.specs.Choice.{centreNumber, axisNumber, operator, place, orderOf}
+use Rattle.steps.specs.Choice.{centreNumber, axisNumber, operator, orderPlace, orderOf}
 
 -- what falls: a is the chosen centre, b its partner, o the operator
 pub data Falls : Type 0 where
@@ -40,10 +40,10 @@ abbrev pub _adds-and-goes-on-as-overlap_ : Falls → ℕ → Branch
 f adds-and-goes-on-as-overlap p = record { falls = f; adds = p; raises = 0; as-overlap = true }
 
 -- P = 2·axis for A, one more for B
-abbrev pub P : Centre → Axis → ℕ
+abbrev pub P : CentreName → Axis → ℕ
 P c x = 2 * axisNumber x + centreNumber c
 
-abbrev pub overlap : Centre → Axis → List Branch
+abbrev pub overlap : CentreName → Axis → List Branch
 overlap c x =
     a adds P c x
     ∷ a-twice adds 6
@@ -51,7 +51,7 @@ overlap c x =
     ∷ []
 
 -- 9 for A, 10 for B
-abbrev pub kinetic : Centre → Axis → List Branch
+abbrev pub kinetic : CentreName → Axis → List Branch
 kinetic c x =
     a adds P c x
     ∷ a-twice adds 6
@@ -60,7 +60,7 @@ kinetic c x =
     ∷ a-twice adds-and-goes-on-as-overlap (9 + centreNumber c)
     ∷ []
 
-abbrev pub nuclear : Centre → Axis → List Branch
+abbrev pub nuclear : CentreName → Axis → List Branch
 nuclear c x =
     a adds P c x
     ∷ a adds-and-raises (6 + axisNumber x)
@@ -70,7 +70,7 @@ nuclear c x =
     ∷ a-and-b adds-and-raises 10
     ∷ []
 
-abbrev pub moment : Centre → Axis → List Branch
+abbrev pub moment : CentreName → Axis → List Branch
 moment c x =
     a adds P c x
     ∷ a-twice adds 9
@@ -86,19 +86,19 @@ moment-on-operator x =
     ∷ []
 
 -- one more for C, D than for A, B
-abbrev pub side : Centre → ℕ
+abbrev pub side : CentreName → ℕ
 side A = 0
 side B = 0
 side C = 1
 side D = 1
 
-abbrev pub R : Centre → Axis → ℕ
+abbrev pub R : CentreName → Axis → ℕ
 R c x = 6 * axisNumber x + centreNumber c
 
-abbrev pub Q : Centre → Axis → ℕ
+abbrev pub Q : CentreName → Axis → ℕ
 Q c x = 6 * axisNumber x + (4 + side c)
 
-abbrev pub coulomb : Centre → Axis → List Branch
+abbrev pub coulomb : CentreName → Axis → List Branch
 coulomb c x =
     a adds R c x
     ∷ a adds-and-raises Q c x
@@ -110,13 +110,13 @@ coulomb c x =
     ∷ a-and-d adds-and-raises 22
     ∷ []
 
-abbrev pub moments : Centre → Axis → List Branch
+abbrev pub moments : CentreName → Axis → List Branch
 moments A x = moment A x
 moments B x = moment B x
 moments C x = moment-on-operator x
 moments D x = []
 
-unfoldable pub branches : Kind → Centre → Axis → List Branch
+unfoldable pub branches : Kind → CentreName → Axis → List Branch
 branches Overlap c x = overlap c x
 branches Kinetic c x = kinetic c x
 branches Nuclear c x = nuclear c x
@@ -124,27 +124,27 @@ branches Moment c x = moments c x
 branches Coulomb c x = coulomb c x
 
 -- its partner: A with B, C with D
-abbrev pub partner : Centre → Centre
+abbrev pub partner : CentreName → CentreName
 partner A = B
 partner B = A
 partner C = D
 partner D = C
 
 -- c, d are D, C when a is A or B, and B, A otherwise
-abbrev pub other-c : Centre → Centre
+abbrev pub other-c : CentreName → CentreName
 other-c A = D
 other-c B = D
 other-c C = B
 other-c D = B
 
-abbrev pub other-d : Centre → Centre
+abbrev pub other-d : CentreName → CentreName
 other-d A = C
 other-d B = C
 other-d C = A
 other-d D = A
 
 -- the multiplier: 1, a−1, or the order left on the other centre
-unfoldable pub times : Falls → Centre → Axis → List ℕ → ℕ
+unfoldable pub times : Falls → CentreName → Axis → List ℕ → ℕ
 times a c x left = 1
 times a-twice c x left = orderOf left c x - 1
 times a-and-b c x left = orderOf left (partner c) x
@@ -154,10 +154,10 @@ times a-and-o c x left = orderOf left operator x
 times nothing c x left = 1
 
 -- one order less at a place
-abbrev pub less : List ℕ → Centre → Axis → List ℕ
-less left c x = set left (place c x) (orderOf left c x - 1)
+abbrev pub less : List ℕ → CentreName → Axis → List ℕ
+less left c x = set left (orderPlace c x) (orderOf left c x - 1)
 
-unfoldable pub lowered : Falls → Centre → Axis → List ℕ → List ℕ
+unfoldable pub lowered : Falls → CentreName → Axis → List ℕ → List ℕ
 lowered a c x left = less left c x
 lowered a-twice c x left = less (less left c x) c x
 lowered a-and-b c x left = less (less left c x) (partner c) x

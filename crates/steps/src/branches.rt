@@ -2,17 +2,17 @@
 ghost use mathlib.Core.Path.{_≡_};
 ghost use Prim.Native.Nat.{_+_, _*_, _-_, _^_, _≤_, _<_};
 ghost use Rattle.steps.specs.Choice.{centreNumber, axisNumber, operator, orderOf};
-ghost use Rattle.steps.specs.Packed.{orders, unit, moveIn, multiplierWord};
+ghost use Rattle.steps.specs.inner.Packed.{orders, unit, moveIn, multiplierWord};
 ghost use Rattle.steps.specs.Steps.{branches, overlap, kinetic, nuclear, moment, moment-on-operator, moments, coulomb, partner, other-c, other-d, side, P, R, Q};
 use crate::Axis;
-use crate::Centre;
+use crate::CentreName;
 use crate::Move;
 use crate::choice::bits;
 use crate::choice::order;
 use kind::Kind;
 
 // One order of a centre.
-fn unit(centre: Centre, axis: Axis) -> u64
+fn unit(centre: CentreName, axis: Axis) -> u64
     ensures { λ r. ⌜ (r ≡ unit centre axis) × (r ≤ 16 ^ 11) ⌝ }
 {
     let below = bits(centre, axis);
@@ -20,40 +20,40 @@ fn unit(centre: Centre, axis: Axis) -> u64
 }
 
 // One order of a centre and one of its partner.
-fn with_b(centre: Centre, axis: Axis) -> u64
+fn with_b(centre: CentreName, axis: Axis) -> u64
     ensures { λ r. ⌜ r ≡ unit centre axis + unit (partner centre) axis ⌝ }
 {
     unit(centre, axis) + unit(centre.partner(), axis)
 }
 
-fn with_c(centre: Centre, axis: Axis) -> u64
+fn with_c(centre: CentreName, axis: Axis) -> u64
     ensures { λ r. ⌜ r ≡ unit centre axis + unit (other-c centre) axis ⌝ }
 {
     unit(centre, axis) + unit(centre.other_c(), axis)
 }
 
-fn with_d(centre: Centre, axis: Axis) -> u64
+fn with_d(centre: CentreName, axis: Axis) -> u64
     ensures { λ r. ⌜ r ≡ unit centre axis + unit (other-d centre) axis ⌝ }
 {
     unit(centre, axis) + unit(centre.other_d(), axis)
 }
 
 // One order of a centre and one of the operator.
-fn with_o(centre: Centre, axis: Axis) -> u64
+fn with_o(centre: CentreName, axis: Axis) -> u64
     ensures { λ r. ⌜ r ≡ unit centre axis + unit operator axis ⌝ }
 {
-    unit(centre, axis) + unit(Centre::C, axis)
+    unit(centre, axis) + unit(CentreName::C, axis)
 }
 
 // Two orders of a centre.
-fn twice(a: Centre, axis: Axis) -> u64
+fn twice(a: CentreName, axis: Axis) -> u64
     ensures { λ r. ⌜ r ≡ 2 * unit a axis ⌝ }
 {
     2 * unit(a, axis)
 }
 
 // One less than the order of a centre, or 0.
-fn less_one(left: u64, centre: Centre, axis: Axis) -> u64
+fn less_one(left: u64, centre: CentreName, axis: Axis) -> u64
     ensures { λ r. ⌜ (r ≡ orderOf (orders left) centre axis - 1) × (r < 16) ⌝ }
 {
     let n = order(left, centre, axis);
@@ -63,26 +63,26 @@ fn less_one(left: u64, centre: Centre, axis: Axis) -> u64
     n - 1
 }
 
-fn of_partner(left: u64, centre: Centre, axis: Axis) -> u64
+fn of_partner(left: u64, centre: CentreName, axis: Axis) -> u64
     ensures { λ r. ⌜ (r ≡ orderOf (orders left) (partner centre) axis) × (r < 16) ⌝ }
 {
     order(left, centre.partner(), axis)
 }
 
-fn of_c(left: u64, centre: Centre, axis: Axis) -> u64
+fn of_c(left: u64, centre: CentreName, axis: Axis) -> u64
     ensures { λ r. ⌜ (r ≡ orderOf (orders left) (other-c centre) axis) × (r < 16) ⌝ }
 {
     order(left, centre.other_c(), axis)
 }
 
-fn of_d(left: u64, centre: Centre, axis: Axis) -> u64
+fn of_d(left: u64, centre: CentreName, axis: Axis) -> u64
     ensures { λ r. ⌜ (r ≡ orderOf (orders left) (other-d centre) axis) × (r < 16) ⌝ }
 {
     order(left, centre.other_d(), axis)
 }
 
 // The multipliers of a branch stand four bits each, the first lowest.
-fn overlap_multipliers(left: u64, centre: Centre, axis: Axis) -> u64
+fn overlap_multipliers(left: u64, centre: CentreName, axis: Axis) -> u64
     ensures { λ r. ⌜ r ≡ multiplierWord centre axis (orders left) (overlap centre axis) ⌝ }
 {
     let a = less_one(left, centre, axis);
@@ -91,7 +91,7 @@ fn overlap_multipliers(left: u64, centre: Centre, axis: Axis) -> u64
 }
 
 // Branch 3 is always legal while orders are left.
-fn kinetic_multipliers(left: u64, centre: Centre, axis: Axis) -> u64
+fn kinetic_multipliers(left: u64, centre: CentreName, axis: Axis) -> u64
     ensures { λ r. ⌜ r ≡ multiplierWord centre axis (orders left) (kinetic centre axis) ⌝ }
 {
     let a = less_one(left, centre, axis);
@@ -100,7 +100,7 @@ fn kinetic_multipliers(left: u64, centre: Centre, axis: Axis) -> u64
 }
 
 // Each way to lower comes twice, plain and raised.
-fn nuclear_multipliers(left: u64, centre: Centre, axis: Axis) -> u64
+fn nuclear_multipliers(left: u64, centre: CentreName, axis: Axis) -> u64
     ensures { λ r. ⌜ r ≡ multiplierWord centre axis (orders left) (nuclear centre axis) ⌝ }
 {
     let a = less_one(left, centre, axis);
@@ -108,35 +108,35 @@ fn nuclear_multipliers(left: u64, centre: Centre, axis: Axis) -> u64
     0x11 + 0x1100 * a + 0x11_0000 * b
 }
 
-fn moment_on_centre_multipliers(left: u64, centre: Centre, axis: Axis) -> u64
+fn moment_on_centre_multipliers(left: u64, centre: CentreName, axis: Axis) -> u64
     ensures { λ r. ⌜ r ≡ multiplierWord centre axis (orders left) (moment centre axis) ⌝ }
 {
     let a = less_one(left, centre, axis);
     let b = of_partner(left, centre, axis);
-    let o = order(left, Centre::C, axis);
+    let o = order(left, CentreName::C, axis);
     1 + 0x10 * a + 0x100 * b + 0x1000 * o
 }
 
-fn moment_on_operator_multipliers(left: u64, centre: Centre, axis: Axis) -> u64
+fn moment_on_operator_multipliers(left: u64, centre: CentreName, axis: Axis) -> u64
     ensures { λ r. ⌜ r ≡ multiplierWord centre axis (orders left) (moment-on-operator axis) ⌝ }
 {
     let a = less_one(left, centre, axis);
     1 + 0x10 * a
 }
 
-fn moment_multipliers(left: u64, centre: Centre, axis: Axis) -> u64
+fn moment_multipliers(left: u64, centre: CentreName, axis: Axis) -> u64
     ensures { λ r. ⌜ r ≡ multiplierWord centre axis (orders left) (moments centre axis) ⌝ }
 {
     match centre {
-        Centre::A => moment_on_centre_multipliers(left, centre, axis),
-        Centre::B => moment_on_centre_multipliers(left, centre, axis),
-        Centre::C => moment_on_operator_multipliers(left, centre, axis),
-        Centre::D => 0,
+        CentreName::A => moment_on_centre_multipliers(left, centre, axis),
+        CentreName::B => moment_on_centre_multipliers(left, centre, axis),
+        CentreName::C => moment_on_operator_multipliers(left, centre, axis),
+        CentreName::D => 0,
     }
 }
 
 // As nuclear, then the two centres of the other side.
-fn coulomb_multipliers(left: u64, centre: Centre, axis: Axis) -> u64
+fn coulomb_multipliers(left: u64, centre: CentreName, axis: Axis) -> u64
     ensures { λ r. ⌜ r ≡ multiplierWord centre axis (orders left) (coulomb centre axis) ⌝ }
 {
     let a = less_one(left, centre, axis);
@@ -147,7 +147,7 @@ fn coulomb_multipliers(left: u64, centre: Centre, axis: Axis) -> u64
 }
 
 // The multipliers of all branches at a centre and an axis; 0 where a branch is not legal.
-pub fn multipliers(kind: Kind, left: u64, centre: Centre, axis: Axis) -> u64
+pub fn multipliers(kind: Kind, left: u64, centre: CentreName, axis: Axis) -> u64
     ensures { λ r. ⌜ r ≡ multiplierWord centre axis (orders left) (branches kind centre axis) ⌝ }
 {
     match kind {
@@ -182,47 +182,49 @@ fn raised(kind: Kind, falls: u64, adds: u64) -> Move
 }
 
 // 2·axis for A, one more for B.
-fn p(centre: Centre, axis: Axis) -> u64
+fn p(centre: CentreName, axis: Axis) -> u64
     ensures { λ r. ⌜ r ≡ P centre axis ⌝ }
 {
     2 * axis.number() + centre.number()
 }
 
-fn r(centre: Centre, axis: Axis) -> u64
+fn r(centre: CentreName, axis: Axis) -> u64
     ensures { λ r. ⌜ r ≡ R centre axis ⌝ }
 {
     6 * axis.number() + centre.number()
 }
 
-// 9 for A, 10 for B.
-fn nine(centre: Centre) -> u64
-    ensures { λ r. ⌜ r ≡ 9 + centreNumber centre ⌝ }
+// One more for each centre after A.
+fn by_centre(n: u64, centre: CentreName) -> u64
+    requires { ⌜ n < 32 ⌝ }
+    ensures { λ r. ⌜ r ≡ n + centreNumber centre ⌝ }
 {
-    9 + centre.number()
+    n + centre.number()
 }
 
-// 6, 7 or 8 by the axis.
-fn six(axis: Axis) -> u64
-    ensures { λ r. ⌜ r ≡ 6 + axisNumber axis ⌝ }
+// One more for each axis after x.
+fn by_axis(n: u64, axis: Axis) -> u64
+    requires { ⌜ n < 32 ⌝ }
+    ensures { λ r. ⌜ r ≡ n + axisNumber axis ⌝ }
 {
-    6 + axis.number()
+    n + axis.number()
 }
 
 // One more for C and D.
-fn by_side(n: u64, centre: Centre) -> u64
+fn by_side(n: u64, centre: CentreName) -> u64
     requires { ⌜ n < 32 ⌝ }
     ensures { λ r. ⌜ r ≡ n + side centre ⌝ }
 {
     n + centre.side()
 }
 
-fn q(centre: Centre, axis: Axis) -> u64
+fn q(centre: CentreName, axis: Axis) -> u64
     ensures { λ r. ⌜ r ≡ Q centre axis ⌝ }
 {
     6 * axis.number() + (4 + centre.side())
 }
 
-fn overlap_move(centre: Centre, axis: Axis, number: u8) -> Move
+fn overlap_move(centre: CentreName, axis: Axis, number: u8) -> Move
     ensures { λ r. ⌜ r ≡ moveIn Kind.Overlap centre axis (overlap centre axis) number ⌝ }
 {
     match number {
@@ -233,7 +235,7 @@ fn overlap_move(centre: Centre, axis: Axis, number: u8) -> Move
     }
 }
 
-fn kinetic_move(centre: Centre, axis: Axis, number: u8) -> Move
+fn kinetic_move(centre: CentreName, axis: Axis, number: u8) -> Move
     ensures { λ r. ⌜ r ≡ moveIn Kind.Kinetic centre axis (kinetic centre axis) number ⌝ }
 {
     match number {
@@ -241,17 +243,17 @@ fn kinetic_move(centre: Centre, axis: Axis, number: u8) -> Move
         1 => plain(Kind::Kinetic, twice(centre, axis), 6),
         2 => plain(Kind::Kinetic, with_b(centre, axis), 7),
         3 => plain(Kind::Overlap, 0, 8),
-        4 => plain(Kind::Overlap, twice(centre, axis), nine(centre)),
+        4 => plain(Kind::Overlap, twice(centre, axis), by_centre(9, centre)),
         _ => plain(Kind::Kinetic, 0, 0),
     }
 }
 
-fn nuclear_move(centre: Centre, axis: Axis, number: u8) -> Move
+fn nuclear_move(centre: CentreName, axis: Axis, number: u8) -> Move
     ensures { λ r. ⌜ r ≡ moveIn Kind.Nuclear centre axis (nuclear centre axis) number ⌝ }
 {
     match number {
         0 => plain(Kind::Nuclear, unit(centre, axis), p(centre, axis)),
-        1 => raised(Kind::Nuclear, unit(centre, axis), six(axis)),
+        1 => raised(Kind::Nuclear, unit(centre, axis), by_axis(6, axis)),
         2 => plain(Kind::Nuclear, twice(centre, axis), 9),
         3 => raised(Kind::Nuclear, twice(centre, axis), 10),
         4 => plain(Kind::Nuclear, with_b(centre, axis), 9),
@@ -260,7 +262,7 @@ fn nuclear_move(centre: Centre, axis: Axis, number: u8) -> Move
     }
 }
 
-fn moment_on_centre(centre: Centre, axis: Axis, number: u8) -> Move
+fn moment_on_centre(centre: CentreName, axis: Axis, number: u8) -> Move
     ensures { λ r. ⌜ r ≡ moveIn Kind.Moment centre axis (moment centre axis) number ⌝ }
 {
     match number {
@@ -272,28 +274,28 @@ fn moment_on_centre(centre: Centre, axis: Axis, number: u8) -> Move
     }
 }
 
-fn moment_on_operator(centre: Centre, axis: Axis, number: u8) -> Move
+fn moment_on_operator(centre: CentreName, axis: Axis, number: u8) -> Move
     ensures { λ r. ⌜ r ≡ moveIn Kind.Moment centre axis (moment-on-operator axis) number ⌝ }
 {
     match number {
-        0 => plain(Kind::Moment, unit(centre, axis), six(axis)),
+        0 => plain(Kind::Moment, unit(centre, axis), by_axis(6, axis)),
         1 => plain(Kind::Moment, twice(centre, axis), 9),
         _ => plain(Kind::Moment, 0, 0),
     }
 }
 
-fn moment_move(centre: Centre, axis: Axis, number: u8) -> Move
+fn moment_move(centre: CentreName, axis: Axis, number: u8) -> Move
     ensures { λ r. ⌜ r ≡ moveIn Kind.Moment centre axis (moments centre axis) number ⌝ }
 {
     match centre {
-        Centre::A => moment_on_centre(centre, axis, number),
-        Centre::B => moment_on_centre(centre, axis, number),
-        Centre::C => moment_on_operator(centre, axis, number),
-        Centre::D => plain(Kind::Moment, 0, 0),
+        CentreName::A => moment_on_centre(centre, axis, number),
+        CentreName::B => moment_on_centre(centre, axis, number),
+        CentreName::C => moment_on_operator(centre, axis, number),
+        CentreName::D => plain(Kind::Moment, 0, 0),
     }
 }
 
-fn coulomb_move(centre: Centre, axis: Axis, number: u8) -> Move
+fn coulomb_move(centre: CentreName, axis: Axis, number: u8) -> Move
     ensures { λ r. ⌜ r ≡ moveIn Kind.Coulomb centre axis (coulomb centre axis) number ⌝ }
 {
     match number {
@@ -310,7 +312,7 @@ fn coulomb_move(centre: Centre, axis: Axis, number: u8) -> Move
 }
 
 // The branch of a number, counted from 0; one that is none takes nothing.
-pub fn branch(kind: Kind, centre: Centre, axis: Axis, number: u8) -> Move
+pub fn branch(kind: Kind, centre: CentreName, axis: Axis, number: u8) -> Move
     ensures { λ r. ⌜ r ≡ moveIn kind centre axis (branches kind centre axis) number ⌝ }
 {
     match kind {

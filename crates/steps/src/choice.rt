@@ -1,37 +1,25 @@
 // The centre and the axis that are lowered.
 ghost use mathlib.Core.Path.{_≡_};
 ghost use mathlib.Core.List.{[], _∷_};
-ghost use Prim.Native.Nat.{_*_, _/_, _^_, _≤_, _<_};
-ghost use Rattle.steps.specs.Packed.{orders};
-ghost use Rattle.steps.specs.Choice.{centreNumber, place, orderOf, sumOf, orBefore, smallest, noBest, onceExhausted, chosen, firstAxis};
+ghost use Prim.Native.Nat.{_*_, _≤_, _<_};
+ghost use Rattle.steps.specs.inner.Packed.{orders};
+ghost use Rattle.steps.specs.Choice.{operator, orderPlace, orderOf, sumOf, orBefore, smallest, noBest, onceExhausted, chosen, firstAxis};
 use crate::Axis;
+use crate::AxisChoice;
 use crate::Best;
-use crate::Centre;
-use crate::Component;
+use crate::CentreName;
 use crate::Fun;
 use kind::Kind;
 
-// The orders of a centre and of those after it, the centre's x lowest.
-fn from(left: u64, centre: Centre) -> u64
-    ensures { λ r. ⌜ r ≡ left / 16 ^ (3 * centreNumber centre) ⌝ }
-{
-    match centre {
-        Centre::A => left / 1,
-        Centre::B => left / 0x1000,
-        Centre::C => left / 0x100_0000,
-        Centre::D => left / 0x10_0000_0000,
-    }
-}
-
 // The bits below an order of the word.
-pub(crate) fn bits(centre: Centre, axis: Axis) -> u64
-    ensures { λ r. ⌜ (r ≡ 4 * place centre axis) × (r ≤ 44) ⌝ }
+pub(crate) fn bits(centre: CentreName, axis: Axis) -> u64
+    ensures { λ r. ⌜ (r ≡ 4 * orderPlace centre axis) × (r ≤ 44) ⌝ }
 {
     4 * (3 * centre.number() + axis.number())
 }
 
 // The order left on one axis of a centre.
-pub(crate) fn order(left: u64, centre: Centre, axis: Axis) -> u64
+pub(crate) fn order(left: u64, centre: CentreName, axis: Axis) -> u64
     ensures { λ r. ⌜ (r ≡ orderOf (orders left) centre axis) × (r < 16) ⌝ }
 {
     let below = bits(centre, axis);
@@ -39,15 +27,14 @@ pub(crate) fn order(left: u64, centre: Centre, axis: Axis) -> u64
 }
 
 // The sum of the orders left on a centre.
-fn sum(left: u64, centre: Centre) -> u64
+fn sum(left: u64, centre: CentreName) -> u64
     ensures { λ r. ⌜ r ≡ sumOf (orders left) centre ⌝ }
 {
-    let rest = from(left, centre);
-    rest % 16 + rest / 16 % 16 + rest / 256 % 16
+    order(left, centre, Axis::X) + order(left, centre, Axis::Y) + order(left, centre, Axis::Z)
 }
 
 // A centre before those after it.
-fn or_before(later: Best, centre: Centre, sum: u64) -> Best
+fn or_before(later: Best, centre: CentreName, sum: u64) -> Best
     ensures { λ r. ⌜ r ≡ orBefore later centre sum ⌝ }
 {
     if sum == 0 {
@@ -68,6 +55,13 @@ fn or_before(later: Best, centre: Centre, sum: u64) -> Best
     }
 }
 
+// The best of a centre and those after it.
+fn from(left: u64, centre: CentreName, later: Best) -> Best
+    ensures { λ r. ⌜ r ≡ orBefore later centre (sumOf (orders left) centre) ⌝ }
+{
+    or_before(later, centre, sum(left, centre))
+}
+
 fn no_best() -> Best
     ensures { λ r. ⌜ r ≡ noBest ⌝ }
 {
@@ -78,21 +72,28 @@ fn no_best() -> Best
 }
 
 // The smaller of A and B.
-fn of_two(left: u64) -> Best
-    ensures { λ r. ⌜ r ≡ smallest (orders left) (Centre.A ∷ Centre.B ∷ []) ⌝ }
+fn of_two(left: u64) -> Fun
+    ensures { λ r. ⌜ r ≡ smallest (orders left) (CentreName.A ∷ CentreName.B ∷ []) .fun ⌝ }
 {
-    let later = or_before(no_best(), Centre::B, sum(left, Centre::B));
-    or_before(later, Centre::A, sum(left, Centre::A))
+    let b = from(left, CentreName::B, no_best());
+    from(left, CentreName::A, b).fun
 }
 
 // The smallest of all four.
-fn of_four(left: u64) -> Best
-    ensures { λ r. ⌜ r ≡ smallest (orders left) (Centre.A ∷ Centre.B ∷ Centre.C ∷ Centre.D ∷ []) ⌝ }
+fn of_four(left: u64) -> Fun
+    ensures { λ r. ⌜ r ≡ smallest (orders left) (CentreName.A ∷ CentreName.B ∷ CentreName.C ∷ CentreName.D ∷ []) .fun ⌝ }
 {
-    let d = or_before(no_best(), Centre::D, sum(left, Centre::D));
-    let c = or_before(d, Centre::C, sum(left, Centre::C));
-    let b = or_before(c, Centre::B, sum(left, Centre::B));
-    or_before(b, Centre::A, sum(left, Centre::A))
+    let d = from(left, CentreName::D, no_best());
+    let c = from(left, CentreName::C, d);
+    let b = from(left, CentreName::B, c);
+    from(left, CentreName::A, b).fun
+}
+
+// The operator, where it has orders.
+fn of_operator(left: u64) -> Fun
+    ensures { λ r. ⌜ r ≡ smallest (orders left) (operator ∷ []) .fun ⌝ }
+{
+    from(left, CentreName::C, no_best()).fun
 }
 
 // The operator only once A and B are exhausted.
@@ -106,12 +107,10 @@ fn once_exhausted(two: Fun, operator: Fun) -> Fun
 }
 
 fn of_moment(left: u64) -> Fun
-    ensures { λ r. ⌜ r ≡ onceExhausted (smallest (orders left) (Centre.A ∷ Centre.B ∷ []) .fun) (smallest (orders left) (Centre.C ∷ []) .fun) ⌝ }
+    ensures { λ r. ⌜ r ≡ onceExhausted (smallest (orders left) (CentreName.A ∷ CentreName.B ∷ []) .fun) (smallest (orders left) (operator ∷ []) .fun) ⌝ }
 {
-    let two = of_two(left);
-    let operator = or_before(no_best(), Centre::C, sum(left, Centre::C));
-    let fun = two.fun;
-    let other = operator.fun;
+    let fun = of_two(left);
+    let other = of_operator(left);
     once_exhausted(fun, other)
 }
 
@@ -120,26 +119,26 @@ pub fn find_fun_to_lower(kind: Kind, left: u64) -> Fun
     ensures { λ r. ⌜ r ≡ chosen kind (orders left) ⌝ }
 {
     match kind {
-        Kind::Overlap => of_two(left).fun,
-        Kind::Kinetic => of_two(left).fun,
-        Kind::Nuclear => of_two(left).fun,
+        Kind::Overlap => of_two(left),
+        Kind::Kinetic => of_two(left),
+        Kind::Nuclear => of_two(left),
         Kind::Moment => of_moment(left),
-        Kind::Coulomb => of_four(left).fun,
+        Kind::Coulomb => of_four(left),
     }
 }
 
 // The first axis of the centre with a positive order left.
-pub fn find_component_to_lower(left: u64, centre: Centre) -> Component
+pub fn find_component_to_lower(left: u64, centre: CentreName) -> AxisChoice
     ensures { λ r. ⌜ r ≡ firstAxis (orders left) centre ⌝ }
 {
     if 0 < order(left, centre, Axis::X) {
-        return Component::Along(Axis::X);
+        return AxisChoice::Along(Axis::X);
     }
     if 0 < order(left, centre, Axis::Y) {
-        return Component::Along(Axis::Y);
+        return AxisChoice::Along(Axis::Y);
     }
     if 0 < order(left, centre, Axis::Z) {
-        return Component::Along(Axis::Z);
+        return AxisChoice::Along(Axis::Z);
     }
-    Component::Nowhere
+    AxisChoice::Nowhere
 }

@@ -15,22 +15,22 @@ ghost use Rattle.steps.specs.Steps.{partner, other-c, other-d, side};
 use kind::Kind;
 
 // The operator of a moment stands in C's place.
-pub enum Centre {
+pub enum CentreName {
     A,
     B,
     C,
     D,
 }
 
-impl Centre {
+impl CentreName {
     pub(crate) fn number(self) -> u64
         ensures { λ r. ⌜ (r ≡ centreNumber self) × (r ≤ 3) ⌝ }
     {
         match self {
-            Centre::A => 0,
-            Centre::B => 1,
-            Centre::C => 2,
-            Centre::D => 3,
+            CentreName::A => 0,
+            CentreName::B => 1,
+            CentreName::C => 2,
+            CentreName::D => 3,
         }
     }
 
@@ -39,46 +39,46 @@ impl Centre {
         ensures { λ r. ⌜ (r ≡ side self) × (r ≤ 1) ⌝ }
     {
         match self {
-            Centre::A => 0,
-            Centre::B => 0,
-            Centre::C => 1,
-            Centre::D => 1,
+            CentreName::A => 0,
+            CentreName::B => 0,
+            CentreName::C => 1,
+            CentreName::D => 1,
         }
     }
 
     // A with B, C with D.
-    pub(crate) fn partner(self) -> Centre
+    pub(crate) fn partner(self) -> CentreName
         ensures { λ r. ⌜ r ≡ partner self ⌝ }
     {
         match self {
-            Centre::A => Centre::B,
-            Centre::B => Centre::A,
-            Centre::C => Centre::D,
-            Centre::D => Centre::C,
+            CentreName::A => CentreName::B,
+            CentreName::B => CentreName::A,
+            CentreName::C => CentreName::D,
+            CentreName::D => CentreName::C,
         }
     }
 
     // The centre that branch 6 of Coulomb lowers.
-    pub(crate) fn other_c(self) -> Centre
+    pub(crate) fn other_c(self) -> CentreName
         ensures { λ r. ⌜ r ≡ other-c self ⌝ }
     {
         match self {
-            Centre::A => Centre::D,
-            Centre::B => Centre::D,
-            Centre::C => Centre::B,
-            Centre::D => Centre::B,
+            CentreName::A => CentreName::D,
+            CentreName::B => CentreName::D,
+            CentreName::C => CentreName::B,
+            CentreName::D => CentreName::B,
         }
     }
 
     // The centre that branch 7 of Coulomb lowers.
-    pub(crate) fn other_d(self) -> Centre
+    pub(crate) fn other_d(self) -> CentreName
         ensures { λ r. ⌜ r ≡ other-d self ⌝ }
     {
         match self {
-            Centre::A => Centre::C,
-            Centre::B => Centre::C,
-            Centre::C => Centre::A,
-            Centre::D => Centre::A,
+            CentreName::A => CentreName::C,
+            CentreName::B => CentreName::C,
+            CentreName::C => CentreName::A,
+            CentreName::D => CentreName::A,
         }
     }
 }
@@ -103,12 +103,12 @@ impl Axis {
 
 // What find_fun_to_lower finds.
 pub enum Fun {
-    Lower(Centre),
+    Lower(CentreName),
     Nothing,
 }
 
 // What find_component_to_lower finds.
-pub enum Component {
+pub enum AxisChoice {
     Along(Axis),
     Nowhere,
 }

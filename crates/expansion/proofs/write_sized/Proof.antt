@@ -1,5 +1,5 @@
 -- `write_sized` meets its contract.
-use Rattle.expansion.proofs.Headers.{orders-add}
+use Rattle.expansion.proofs.HeaderLaws.{orders-add}
 use Rattle.expansion.proofs.Answers.{header-fits, roll-fits, told-full, roll-may, told-roll}
 use borrow.Author.Needs.{needs}
 use Rattle.expansion.proofs.write_sized.Statement.{statement}

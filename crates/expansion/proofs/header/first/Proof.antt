@@ -1,11 +1,11 @@
 -- `first` meets its contract.
 use mathlib.Core.Path.{refl}
-use Rattle.expansion.specs.View.{prefactorsOf, digits}
+use Rattle.expansion.specs.inner.View.{pathPrefactors, fiveBits}
 use Rattle.expansion.proofs.header.first.Statement.{statement}
 use Rattle.expansion.proofs.header.first.Tie as tie
 
 returns : tie.Need-returns
-unfolding prefactorsOf digits
+unfolding pathPrefactors fiveBits
 returns c = refl
 
 pub first-spec : {M : Type 1} → statement M

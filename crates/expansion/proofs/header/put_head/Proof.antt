@@ -1,5 +1,5 @@
 -- `put_head` meets its contract.
-use Rattle.expansion.proofs.Headers.{orders-add, kept-through, head-inside, orders-few, orders-room, count-fits, head-put}
+use Rattle.expansion.proofs.HeaderLaws.{orders-add, kept-through, head-inside, orders-few, orders-room, count-fits, head-put}
 use borrow.Author.Needs.{needs}
 use Rattle.expansion.proofs.header.put_head.Statement.{statement}
 use Rattle.expansion.proofs.header.put_head.Tie as tie

@@ -1,7 +1,7 @@
 -- `put_orders` meets its contract.
 use native.Mathlib.Omega.{arith}
 use Prim.Native.Nat.{_-_}
-use Rattle.expansion.proofs.Headers.{Ordering, ordering-first, ordering-more, ordering-last, ordering-length}
+use Rattle.expansion.proofs.HeaderLaws.{Ordering, ordering-first, ordering-more, ordering-last, ordering-length}
 use Rattle.expansion.proofs.header.put_orders.Statement.{statement}
 use Rattle.expansion.proofs.header.put_orders.Tie as tie
 

@@ -1,5 +1,5 @@
 -- `put_roll` meets its contract.
-use Rattle.expansion.proofs.Headers.{head-may, node-may, roll-put}
+use Rattle.expansion.proofs.HeaderLaws.{head-may, node-may, roll-put}
 use borrow.Author.Needs.{needs}
 use Rattle.expansion.proofs.header.put_roll.Statement.{statement}
 use Rattle.expansion.proofs.header.put_roll.Tie as tie

@@ -1,6 +1,6 @@
 -- `measure_branch`, `measure_inner` and `measure_node` meet their contracts. Assumes nothing.
 use borrow.Author.Needs.{needs}
-use Rattle.expansion.proofs.Counting.{nodeCount, innerCount, branchCount, end-told, number-next, skip-count, skip-turn, skip-told, fall-fits, scale-fits, count-fits, child-count, child-measured, rest-number, rest-count, rest-turn, over-told, last-told, rest-told, leaf-scale, leaf-count, leaf-told, inner-count, first-count, turn-first, none-told, first-told}
+use Rattle.expansion.proofs.MeasureCycle.{nodeCount, innerCount, branchCount, end-told, number-next, skip-count, skip-turn, skip-told, fall-fits, scale-fits, count-fits, child-count, child-measured, rest-number, rest-count, rest-turn, over-told, last-told, rest-told, leaf-scale, leaf-count, leaf-told, inner-count, first-count, turn-first, none-told, first-told}
 use Prim.Native.Nat.{ℕ, _<_}
 use borrow.Fn.Kinds.{In}
 use borrow.Fn.PlainCycle.{Measures, is, falls, and}
@@ -25,7 +25,7 @@ use Rattle.expansion.proofs.measure.+measure_branch+measure_inner+measu
 use Rattle.expansion.proofs.measure.+measure_branch+measure_inner+measure_node.Tie.{close}
 
 abbrev μ-measure-branch : Measures 0 measure-branch-kinds.ps ℕ
-μ-measure-branch κs a = branchCount (a .0) (a .1 .0) (a .1 .1 .1 .1 .1 .1 .1 .0)
+μ-measure-branch κs a = branchCount (a .0) (a .1 .0) (a .1 .1 .1 .1 .1 .1 .0)
 
 abbrev μ-measure-inner : Measures 0 measure-inner-kinds.ps ℕ
 μ-measure-inner κs a = innerCount (a .0) (a .1 .0)
@@ -73,518 +73,113 @@ measure-node-below t =
     (falls 0 measure-node-kinds.ps _<_ μ-measure-node t)
     measure-node.Pre
 
--- src/measure.rt:132:9
-measure-branch-returns : (t : ℕ) → measure-branch-lts.Need-returns (
-  measure-branch-below t,
-  measure-branch.Post,
-  branch-reads.Asked,
-  branch-reads.Learnt,
-  measure-node-below t,
-  measure-node.Post,
-  width-reads.Asked,
-  width-reads.Learnt,
-  group-reads.Asked,
-  group-reads.Learnt,
-  skip-reads.Asked,
-  skip-reads.Learnt,
-  plus-reads.Asked,
-  plus-reads.Learnt,
-) (measure-branch-at t) measure-branch.Post
+-- what each may ask and learns of the functions that it calls
+abbrev measure-branch-claims : ℕ → measure-branch-lts.Claims
+measure-branch-claims t = (measure-branch-below t, measure-branch.Post, branch-reads.Asked, branch-reads.Learnt, measure-node-below t, measure-node.Post, width-reads.Asked, width-reads.Learnt, group-reads.Asked, group-reads.Learnt, skip-reads.Asked, skip-reads.Learnt, plus-reads.Asked, plus-reads.Learnt)
+
+abbrev measure-inner-claims : ℕ → measure-inner-lts.Claims
+measure-inner-claims t = (choose-reads.Asked, choose-reads.Learnt, multipliers-reads.Asked, multipliers-reads.Learnt, measure-branch-below t, measure-branch.Post)
+
+abbrev measure-node-claims : ℕ → measure-node-lts.Claims
+measure-node-claims t = (leaf-reads.Asked, leaf-reads.Learnt, measure-inner-below t, measure-inner.Post)
+
+measure-branch-returns : (t : ℕ) → measure-branch-lts.Need-returns (measure-branch-claims t) (measure-branch-at t) measure-branch.Post
 measure-branch-returns t c = search end-told
 
--- src/measure.rt:143:13
-measure-branch-add-measure-branch : (t : ℕ) → measure-branch-lts.Need-add-measure-branch (
-  measure-branch-below t,
-  measure-branch.Post,
-  branch-reads.Asked,
-  branch-reads.Learnt,
-  measure-node-below t,
-  measure-node.Post,
-  width-reads.Asked,
-  width-reads.Learnt,
-  group-reads.Asked,
-  group-reads.Learnt,
-  skip-reads.Asked,
-  skip-reads.Learnt,
-  plus-reads.Asked,
-  plus-reads.Learnt,
-) (measure-branch-at t) measure-branch.Post
+measure-branch-add-measure-branch : (t : ℕ) → measure-branch-lts.Need-add-measure-branch (measure-branch-claims t) (measure-branch-at t) measure-branch.Post
 measure-branch-add-measure-branch t c = record { fits = search number-next }
 
--- src/measure.rt:135:9
-measure-branch-measure-branch-requires : (t : ℕ) → measure-branch-lts.Need-measure-branch-requires (
-  measure-branch-below t,
-  measure-branch.Post,
-  branch-reads.Asked,
-  branch-reads.Learnt,
-  measure-node-below t,
-  measure-node.Post,
-  width-reads.Asked,
-  width-reads.Learnt,
-  group-reads.Asked,
-  group-reads.Learnt,
-  skip-reads.Asked,
-  skip-reads.Learnt,
-  plus-reads.Asked,
-  plus-reads.Learnt,
-) (measure-branch-at t) measure-branch.Post
+measure-branch-measure-branch-requires : (t : ℕ) → measure-branch-lts.Need-measure-branch-requires (measure-branch-claims t) (measure-branch-at t) measure-branch.Post
 measure-branch-measure-branch-requires t c κs = (search skip-count, (search, search skip-turn))
 
--- src/measure.rt:135:9
-measure-branch-returns-2 : (t : ℕ) → measure-branch-lts.Need-returns-2 (
-  measure-branch-below t,
-  measure-branch.Post,
-  branch-reads.Asked,
-  branch-reads.Learnt,
-  measure-node-below t,
-  measure-node.Post,
-  width-reads.Asked,
-  width-reads.Learnt,
-  group-reads.Asked,
-  group-reads.Learnt,
-  skip-reads.Asked,
-  skip-reads.Learnt,
-  plus-reads.Asked,
-  plus-reads.Learnt,
-) (measure-branch-at t) measure-branch.Post
+measure-branch-returns-2 : (t : ℕ) → measure-branch-lts.Need-returns-2 (measure-branch-claims t) (measure-branch-at t) measure-branch.Post
 measure-branch-returns-2 t c = search skip-told
 
--- src/measure.rt:146:9
-measure-branch-branch-requires : (t : ℕ) → measure-branch-lts.Need-branch-requires (
-  measure-branch-below t,
-  measure-branch.Post,
-  branch-reads.Asked,
-  branch-reads.Learnt,
-  measure-node-below t,
-  measure-node.Post,
-  width-reads.Asked,
-  width-reads.Learnt,
-  group-reads.Asked,
-  group-reads.Learnt,
-  skip-reads.Asked,
-  skip-reads.Learnt,
-  plus-reads.Asked,
-  plus-reads.Learnt,
-) (measure-branch-at t) measure-branch.Post
+measure-branch-branch-requires : (t : ℕ) → measure-branch-lts.Need-branch-requires (measure-branch-claims t) (measure-branch-at t) measure-branch.Post
 measure-branch-branch-requires t c κs = search needs
 
--- src/measure.rt:148:39
-measure-branch-sub-measure-node : (t : ℕ) → measure-branch-lts.Need-sub-measure-node (
-  measure-branch-below t,
-  measure-branch.Post,
-  branch-reads.Asked,
-  branch-reads.Learnt,
-  measure-node-below t,
-  measure-node.Post,
-  width-reads.Asked,
-  width-reads.Learnt,
-  group-reads.Asked,
-  group-reads.Learnt,
-  skip-reads.Asked,
-  skip-reads.Learnt,
-  plus-reads.Asked,
-  plus-reads.Learnt,
-) (measure-branch-at t) measure-branch.Post
+measure-branch-sub-measure-node : (t : ℕ) → measure-branch-lts.Need-sub-measure-node (measure-branch-claims t) (measure-branch-at t) measure-branch.Post
 measure-branch-sub-measure-node t c = search fall-fits
 
--- src/measure.rt:148:58
-measure-branch-mul-measure-node : (t : ℕ) → measure-branch-lts.Need-mul-measure-node (
-  measure-branch-below t,
-  measure-branch.Post,
-  branch-reads.Asked,
-  branch-reads.Learnt,
-  measure-node-below t,
-  measure-node.Post,
-  width-reads.Asked,
-  width-reads.Learnt,
-  group-reads.Asked,
-  group-reads.Learnt,
-  skip-reads.Asked,
-  skip-reads.Learnt,
-  plus-reads.Asked,
-  plus-reads.Learnt,
-) (measure-branch-at t) measure-branch.Post
+measure-branch-mul-measure-node : (t : ℕ) → measure-branch-lts.Need-mul-measure-node (measure-branch-claims t) (measure-branch-at t) measure-branch.Post
 measure-branch-mul-measure-node t c = record { fits = search scale-fits }
 
--- src/measure.rt:148:80
-measure-branch-add-measure-node : (t : ℕ) → measure-branch-lts.Need-add-measure-node (
-  measure-branch-below t,
-  measure-branch.Post,
-  branch-reads.Asked,
-  branch-reads.Learnt,
-  measure-node-below t,
-  measure-node.Post,
-  width-reads.Asked,
-  width-reads.Learnt,
-  group-reads.Asked,
-  group-reads.Learnt,
-  skip-reads.Asked,
-  skip-reads.Learnt,
-  plus-reads.Asked,
-  plus-reads.Learnt,
-) (measure-branch-at t) measure-branch.Post
+measure-branch-add-measure-node : (t : ℕ) → measure-branch-lts.Need-add-measure-node (measure-branch-claims t) (measure-branch-at t) measure-branch.Post
 measure-branch-add-measure-node t c = record { fits = search count-fits }
 
--- src/measure.rt:148:9
-measure-branch-measure-node-requires : (t : ℕ) → measure-branch-lts.Need-measure-node-requires (
-  measure-branch-below t,
-  measure-branch.Post,
-  branch-reads.Asked,
-  branch-reads.Learnt,
-  measure-node-below t,
-  measure-node.Post,
-  width-reads.Asked,
-  width-reads.Learnt,
-  group-reads.Asked,
-  group-reads.Learnt,
-  skip-reads.Asked,
-  skip-reads.Learnt,
-  plus-reads.Asked,
-  plus-reads.Learnt,
-) (measure-branch-at t) measure-branch.Post
+measure-branch-measure-node-requires : (t : ℕ) → measure-branch-lts.Need-measure-node-requires (measure-branch-claims t) (measure-branch-at t) measure-branch.Post
 measure-branch-measure-node-requires t c κs = (search child-count, search child-measured)
 
--- src/measure.rt:149:9
-measure-branch-width-requires : (t : ℕ) → measure-branch-lts.Need-width-requires (
-  measure-branch-below t,
-  measure-branch.Post,
-  branch-reads.Asked,
-  branch-reads.Learnt,
-  measure-node-below t,
-  measure-node.Post,
-  width-reads.Asked,
-  width-reads.Learnt,
-  group-reads.Asked,
-  group-reads.Learnt,
-  skip-reads.Asked,
-  skip-reads.Learnt,
-  plus-reads.Asked,
-  plus-reads.Learnt,
-) (measure-branch-at t) measure-branch.Post
+measure-branch-width-requires : (t : ℕ) → measure-branch-lts.Need-width-requires (measure-branch-claims t) (measure-branch-at t) measure-branch.Post
 measure-branch-width-requires t c κs = search needs
 
--- src/measure.rt:150:9
-measure-branch-group-requires : (t : ℕ) → measure-branch-lts.Need-group-requires (
-  measure-branch-below t,
-  measure-branch.Post,
-  branch-reads.Asked,
-  branch-reads.Learnt,
-  measure-node-below t,
-  measure-node.Post,
-  width-reads.Asked,
-  width-reads.Learnt,
-  group-reads.Asked,
-  group-reads.Learnt,
-  skip-reads.Asked,
-  skip-reads.Learnt,
-  plus-reads.Asked,
-  plus-reads.Learnt,
-) (measure-branch-at t) measure-branch.Post
+measure-branch-group-requires : (t : ℕ) → measure-branch-lts.Need-group-requires (measure-branch-claims t) (measure-branch-at t) measure-branch.Post
 measure-branch-group-requires t c κs = search
 
--- src/measure.rt:151:9
-measure-branch-skip-requires : (t : ℕ) → measure-branch-lts.Need-skip-requires (
-  measure-branch-below t,
-  measure-branch.Post,
-  branch-reads.Asked,
-  branch-reads.Learnt,
-  measure-node-below t,
-  measure-node.Post,
-  width-reads.Asked,
-  width-reads.Learnt,
-  group-reads.Asked,
-  group-reads.Learnt,
-  skip-reads.Asked,
-  skip-reads.Learnt,
-  plus-reads.Asked,
-  plus-reads.Learnt,
-) (measure-branch-at t) measure-branch.Post
+measure-branch-skip-requires : (t : ℕ) → measure-branch-lts.Need-skip-requires (measure-branch-claims t) (measure-branch-at t) measure-branch.Post
 measure-branch-skip-requires t c κs = search needs
 
--- src/measure.rt:153:9
-measure-branch-returns-3 : (t : ℕ) → measure-branch-lts.Need-returns-3 (
-  measure-branch-below t,
-  measure-branch.Post,
-  branch-reads.Asked,
-  branch-reads.Learnt,
-  measure-node-below t,
-  measure-node.Post,
-  width-reads.Asked,
-  width-reads.Learnt,
-  group-reads.Asked,
-  group-reads.Learnt,
-  skip-reads.Asked,
-  skip-reads.Learnt,
-  plus-reads.Asked,
-  plus-reads.Learnt,
-) (measure-branch-at t) measure-branch.Post
+measure-branch-returns-3 : (t : ℕ) → measure-branch-lts.Need-returns-3 (measure-branch-claims t) (measure-branch-at t) measure-branch.Post
 measure-branch-returns-3 t c = search last-told
 
--- src/measure.rt:156:27
-measure-branch-enum-told : (t : ℕ) → measure-branch-lts.Need-enum-told (
-  measure-branch-below t,
-  measure-branch.Post,
-  branch-reads.Asked,
-  branch-reads.Learnt,
-  measure-node-below t,
-  measure-node.Post,
-  width-reads.Asked,
-  width-reads.Learnt,
-  group-reads.Asked,
-  group-reads.Learnt,
-  skip-reads.Asked,
-  skip-reads.Learnt,
-  plus-reads.Asked,
-  plus-reads.Learnt,
-) (measure-branch-at t) measure-branch.Post
+measure-branch-enum-told : (t : ℕ) → measure-branch-lts.Need-enum-told (measure-branch-claims t) (measure-branch-at t) measure-branch.Post
 measure-branch-enum-told t c = search needs
 
--- src/measure.rt:166:17
-measure-branch-enum-told-2 : (t : ℕ) → measure-branch-lts.Need-enum-told-2 (
-  measure-branch-below t,
-  measure-branch.Post,
-  branch-reads.Asked,
-  branch-reads.Learnt,
-  measure-node-below t,
-  measure-node.Post,
-  width-reads.Asked,
-  width-reads.Learnt,
-  group-reads.Asked,
-  group-reads.Learnt,
-  skip-reads.Asked,
-  skip-reads.Learnt,
-  plus-reads.Asked,
-  plus-reads.Learnt,
-) (measure-branch-at t) measure-branch.Post
+measure-branch-enum-told-2 : (t : ℕ) → measure-branch-lts.Need-enum-told-2 (measure-branch-claims t) (measure-branch-at t) measure-branch.Post
 measure-branch-enum-told-2 t c = search needs
 
--- src/measure.rt:166:17
-measure-branch-add-measure-branch-2 : (t : ℕ) → measure-branch-lts.Need-add-measure-branch-2 (
-  measure-branch-below t,
-  measure-branch.Post,
-  branch-reads.Asked,
-  branch-reads.Learnt,
-  measure-node-below t,
-  measure-node.Post,
-  width-reads.Asked,
-  width-reads.Learnt,
-  group-reads.Asked,
-  group-reads.Learnt,
-  skip-reads.Asked,
-  skip-reads.Learnt,
-  plus-reads.Asked,
-  plus-reads.Learnt,
-) (measure-branch-at t) measure-branch.Post
+measure-branch-add-measure-branch-2 : (t : ℕ) → measure-branch-lts.Need-add-measure-branch-2 (measure-branch-claims t) (measure-branch-at t) measure-branch.Post
 measure-branch-add-measure-branch-2 t c = record { fits = search rest-number }
 
--- src/measure.rt:158:17
 measure-branch-measure-branch-requires-2 :
-    (t : ℕ) → measure-branch-lts.Need-measure-branch-requires-2 (
-      measure-branch-below t,
-      measure-branch.Post,
-      branch-reads.Asked,
-      branch-reads.Learnt,
-      measure-node-below t,
-      measure-node.Post,
-      width-reads.Asked,
-      width-reads.Learnt,
-      group-reads.Asked,
-      group-reads.Learnt,
-      skip-reads.Asked,
-      skip-reads.Learnt,
-      plus-reads.Asked,
-      plus-reads.Learnt,
-    ) (measure-branch-at t) measure-branch.Post
+    (t : ℕ) → measure-branch-lts.Need-measure-branch-requires-2 (measure-branch-claims t) (measure-branch-at t) measure-branch.Post
 measure-branch-measure-branch-requires-2 t c κs = (search rest-count, (search, search rest-turn))
 
--- src/measure.rt:168:13
-measure-branch-plus-requires : (t : ℕ) → measure-branch-lts.Need-plus-requires (
-  measure-branch-below t,
-  measure-branch.Post,
-  branch-reads.Asked,
-  branch-reads.Learnt,
-  measure-node-below t,
-  measure-node.Post,
-  width-reads.Asked,
-  width-reads.Learnt,
-  group-reads.Asked,
-  group-reads.Learnt,
-  skip-reads.Asked,
-  skip-reads.Learnt,
-  plus-reads.Asked,
-  plus-reads.Learnt,
-) (measure-branch-at t) measure-branch.Post
+measure-branch-plus-requires : (t : ℕ) → measure-branch-lts.Need-plus-requires (measure-branch-claims t) (measure-branch-at t) measure-branch.Post
 measure-branch-plus-requires t c κs = (search, search)
 
--- src/measure.rt:117:1
-measure-branch-returns-4 : (t : ℕ) → measure-branch-lts.Need-returns-4 (
-  measure-branch-below t,
-  measure-branch.Post,
-  branch-reads.Asked,
-  branch-reads.Learnt,
-  measure-node-below t,
-  measure-node.Post,
-  width-reads.Asked,
-  width-reads.Learnt,
-  group-reads.Asked,
-  group-reads.Learnt,
-  skip-reads.Asked,
-  skip-reads.Learnt,
-  plus-reads.Asked,
-  plus-reads.Learnt,
-) (measure-branch-at t) measure-branch.Post
+measure-branch-returns-4 : (t : ℕ) → measure-branch-lts.Need-returns-4 (measure-branch-claims t) (measure-branch-at t) measure-branch.Post
 measure-branch-returns-4 t c = search over-told
 
--- src/measure.rt:117:1
-measure-branch-returns-5 : (t : ℕ) → measure-branch-lts.Need-returns-5 (
-  measure-branch-below t,
-  measure-branch.Post,
-  branch-reads.Asked,
-  branch-reads.Learnt,
-  measure-node-below t,
-  measure-node.Post,
-  width-reads.Asked,
-  width-reads.Learnt,
-  group-reads.Asked,
-  group-reads.Learnt,
-  skip-reads.Asked,
-  skip-reads.Learnt,
-  plus-reads.Asked,
-  plus-reads.Learnt,
-) (measure-branch-at t) measure-branch.Post
+measure-branch-returns-5 : (t : ℕ) → measure-branch-lts.Need-returns-5 (measure-branch-claims t) (measure-branch-at t) measure-branch.Post
 measure-branch-returns-5 t c = search rest-told
 
--- src/measure.rt:106:9
-measure-inner-choose-requires : (t : ℕ) → measure-inner-lts.Need-choose-requires (
-  choose-reads.Asked,
-  choose-reads.Learnt,
-  multipliers-reads.Asked,
-  multipliers-reads.Learnt,
-  measure-branch-below t,
-  measure-branch.Post,
-) (measure-inner-at t) measure-inner.Post
+measure-inner-choose-requires : (t : ℕ) → measure-inner-lts.Need-choose-requires (measure-inner-claims t) (measure-inner-at t) measure-inner.Post
 measure-inner-choose-requires t c κs = search needs
 
--- src/measure.rt:108:30
-measure-inner-enum-told : (t : ℕ) → measure-inner-lts.Need-enum-told (
-  choose-reads.Asked,
-  choose-reads.Learnt,
-  multipliers-reads.Asked,
-  multipliers-reads.Learnt,
-  measure-branch-below t,
-  measure-branch.Post,
-) (measure-inner-at t) measure-inner.Post
+measure-inner-enum-told : (t : ℕ) → measure-inner-lts.Need-enum-told (measure-inner-claims t) (measure-inner-at t) measure-inner.Post
 measure-inner-enum-told t c = search needs
 
--- src/measure.rt:109:22
-measure-inner-enum-known-lowered : (t : ℕ) → measure-inner-lts.Need-enum-known-lowered (
-  choose-reads.Asked,
-  choose-reads.Learnt,
-  multipliers-reads.Asked,
-  multipliers-reads.Learnt,
-  measure-branch-below t,
-  measure-branch.Post,
-) (measure-inner-at t) measure-inner.Post
-measure-inner-enum-known-lowered t c = search needs
+measure-inner-enum-known-choice : (t : ℕ) → measure-inner-lts.Need-enum-known-choice (measure-inner-claims t) (measure-inner-at t) measure-inner.Post
+measure-inner-enum-known-choice t c = search needs
 
--- src/measure.rt:110:17
-measure-inner-multipliers-requires : (t : ℕ) → measure-inner-lts.Need-multipliers-requires (
-  choose-reads.Asked,
-  choose-reads.Learnt,
-  multipliers-reads.Asked,
-  multipliers-reads.Learnt,
-  measure-branch-below t,
-  measure-branch.Post,
-) (measure-inner-at t) measure-inner.Post
+measure-inner-multipliers-requires : (t : ℕ) → measure-inner-lts.Need-multipliers-requires (measure-inner-claims t) (measure-inner-at t) measure-inner.Post
 measure-inner-multipliers-requires t c κs = search needs
 
--- src/measure.rt:111:13
-measure-inner-measure-branch-requires : (t : ℕ) → measure-inner-lts.Need-measure-branch-requires (
-  choose-reads.Asked,
-  choose-reads.Learnt,
-  multipliers-reads.Asked,
-  multipliers-reads.Learnt,
-  measure-branch-below t,
-  measure-branch.Post,
-) (measure-inner-at t) measure-inner.Post
+measure-inner-measure-branch-requires : (t : ℕ) → measure-inner-lts.Need-measure-branch-requires (measure-inner-claims t) (measure-inner-at t) measure-inner.Post
 measure-inner-measure-branch-requires t c κs = (search first-count, (search, search turn-first))
 
--- src/measure.rt:101:1
-measure-inner-returns : (t : ℕ) → measure-inner-lts.Need-returns (
-  choose-reads.Asked,
-  choose-reads.Learnt,
-  multipliers-reads.Asked,
-  multipliers-reads.Learnt,
-  measure-branch-below t,
-  measure-branch.Post,
-) (measure-inner-at t) measure-inner.Post
+measure-inner-returns : (t : ℕ) → measure-inner-lts.Need-returns (measure-inner-claims t) (measure-inner-at t) measure-inner.Post
 measure-inner-returns t c = search none-told
 
--- src/measure.rt:101:1
-measure-inner-returns-2 : (t : ℕ) → measure-inner-lts.Need-returns-2 (
-  choose-reads.Asked,
-  choose-reads.Learnt,
-  multipliers-reads.Asked,
-  multipliers-reads.Learnt,
-  measure-branch-below t,
-  measure-branch.Post,
-) (measure-inner-at t) measure-inner.Post
+measure-inner-returns-2 : (t : ℕ) → measure-inner-lts.Need-returns-2 (measure-inner-claims t) (measure-inner-at t) measure-inner.Post
 measure-inner-returns-2 t c = search first-told
 
--- src/measure.rt:95:9
-measure-node-leaf-requires : (t : ℕ) → measure-node-lts.Need-leaf-requires (
-  leaf-reads.Asked,
-  leaf-reads.Learnt,
-  measure-inner-below t,
-  measure-inner.Post,
-) (measure-node-at t) measure-node.Post
+measure-node-leaf-requires : (t : ℕ) → measure-node-lts.Need-leaf-requires (measure-node-claims t) (measure-node-at t) measure-node.Post
 measure-node-leaf-requires t c κs = (search leaf-scale, search leaf-count)
 
--- src/measure.rt:95:9
-measure-node-returns : (t : ℕ) → measure-node-lts.Need-returns (
-  leaf-reads.Asked,
-  leaf-reads.Learnt,
-  measure-inner-below t,
-  measure-inner.Post,
-) (measure-node-at t) measure-node.Post
+measure-node-returns : (t : ℕ) → measure-node-lts.Need-returns (measure-node-claims t) (measure-node-at t) measure-node.Post
 measure-node-returns t c = search leaf-told
 
--- src/measure.rt:97:5
-measure-node-measure-inner-requires : (t : ℕ) → measure-node-lts.Need-measure-inner-requires (
-  leaf-reads.Asked,
-  leaf-reads.Learnt,
-  measure-inner-below t,
-  measure-inner.Post,
-) (measure-node-at t) measure-node.Post
+measure-node-measure-inner-requires : (t : ℕ) → measure-node-lts.Need-measure-inner-requires (measure-node-claims t) (measure-node-at t) measure-node.Post
 measure-node-measure-inner-requires t c κs = (search inner-count, (search, search))
 
--- src/measure.rt:90:1
-measure-node-returns-2 : (t : ℕ) → measure-node-lts.Need-returns-2 (
-  leaf-reads.Asked,
-  leaf-reads.Learnt,
-  measure-inner-below t,
-  measure-inner.Post,
-) (measure-node-at t) measure-node.Post
+measure-node-returns-2 : (t : ℕ) → measure-node-lts.Need-returns-2 (measure-node-claims t) (measure-node-at t) measure-node.Post
 measure-node-returns-2 t c = search needs
 
 pub +measure-branch+measure-inner+measure-node-spec : {M : Type 1} → statement M
 +measure-branch+measure-inner+measure-node-spec =
-    close μ-measure-branch μ-measure-inner μ-measure-node (λ t. measure-branch-lts.spec (
-      measure-branch-below t,
-      measure-branch.Post,
-      branch-reads.Asked,
-      branch-reads.Learnt,
-      measure-node-below t,
-      measure-node.Post,
-      width-reads.Asked,
-      width-reads.Learnt,
-      group-reads.Asked,
-      group-reads.Learnt,
-      skip-reads.Asked,
-      skip-reads.Learnt,
-      plus-reads.Asked,
-      plus-reads.Learnt,
-    )
+    close μ-measure-branch μ-measure-inner μ-measure-node (λ t. measure-branch-lts.spec (measure-branch-claims t)
     (measure-branch-at t)
     measure-branch.Post
     (measure-branch-returns t)
@@ -607,25 +202,18 @@ pub +measure-branch+measure-inner+measure-node-spec : {M : Type 1} → statement
     (measure-branch-plus-requires t)
     (measure-branch-returns-4 t)
     (measure-branch-returns-5 t))
-    (λ t. measure-inner-lts.spec (
-      choose-reads.Asked,
-      choose-reads.Learnt,
-      multipliers-reads.Asked,
-      multipliers-reads.Learnt,
-      measure-branch-below t,
-      measure-branch.Post,
-    )
+    (λ t. measure-inner-lts.spec (measure-inner-claims t)
     (measure-inner-at t)
     measure-inner.Post
     (measure-inner-choose-requires t)
     (measure-inner-enum-told t)
-    (measure-inner-enum-known-lowered t)
+    (measure-inner-enum-known-choice t)
     (measure-inner-multipliers-requires t)
     (measure-inner-measure-branch-requires t)
     (measure-inner-returns t)
     (measure-inner-returns-2 t))
     λ t. measure-node-lts.spec
-    (leaf-reads.Asked, leaf-reads.Learnt, measure-inner-below t, measure-inner.Post)
+    (measure-node-claims t)
     (measure-node-at t)
     measure-node.Post
     (measure-node-leaf-requires t)

@@ -1,5 +1,5 @@
 -- `group` meets its contract.
-use Rattle.expansion.proofs.Measuring.{group-two, group-one}
+use Rattle.expansion.proofs.MeasureSizes.{group-two, group-one}
 use borrow.Author.Needs.{needs}
 use Rattle.expansion.proofs.measure.group.Statement.{statement}
 use Rattle.expansion.proofs.measure.group.Tie as tie

@@ -1,5 +1,5 @@
 -- `in_pairs` meets its contract.
-use Rattle.expansion.proofs.Measuring.{no-pair}
+use Rattle.expansion.proofs.MeasureSizes.{no-pair}
 use borrow.Author.Needs.{needs}
 use Rattle.expansion.proofs.measure.in_pairs.Statement.{statement}
 use Rattle.expansion.proofs.measure.in_pairs.Tie as tie

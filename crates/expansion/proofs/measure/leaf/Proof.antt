@@ -1,5 +1,5 @@
 -- `leaf` meets its contract.
-use Rattle.expansion.proofs.Measuring.{leaf-small}
+use Rattle.expansion.proofs.MeasureSizes.{leaf-small}
 use native.Mathlib.Omega.{arith}
 use Rattle.number.proofs.Writing.{length-few}
 use borrow.Author.Needs.{needs}

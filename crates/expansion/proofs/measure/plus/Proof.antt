@@ -1,5 +1,5 @@
 -- `plus` meets its contract.
-use Rattle.expansion.proofs.Measuring.{terms-fit, bytes-fit, plus-few, plus-small, plus-over, plus-over-then, plus-many, small-over}
+use Rattle.expansion.proofs.MeasureSizes.{terms-fit, bytes-fit, plus-few, plus-small, plus-over, plus-over-then, plus-many, small-over}
 use borrow.Author.Needs.{needs}
 use Rattle.expansion.proofs.measure.plus.Statement.{statement}
 use Rattle.expansion.proofs.measure.plus.Tie as tie

@@ -1,5 +1,5 @@
 -- `skip` meets its contract.
-use Rattle.expansion.proofs.Measuring.{skip-two, skip-one}
+use Rattle.expansion.proofs.MeasureSizes.{skip-two, skip-one}
 use Rattle.expansion.proofs.measure.skip.Statement.{statement}
 use Rattle.expansion.proofs.measure.skip.Tie as tie
 

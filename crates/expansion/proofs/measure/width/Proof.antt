@@ -1,5 +1,5 @@
 -- `width` meets its contract.
-use Rattle.expansion.specs.Measuring.{widthOf}
+use Rattle.expansion.specs.inner.Measuring.{widthOf}
 use borrow.Author.Needs.{needs}
 use Rattle.expansion.proofs.measure.width.Statement.{statement}
 use Rattle.expansion.proofs.measure.width.Tie as tie

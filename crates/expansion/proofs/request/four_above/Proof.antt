@@ -1,5 +1,5 @@
 -- `four_above` meets its contract.
-use Rattle.expansion.proofs.Requests.{or-first, or-then}
+use Rattle.laws.proofs.Cases.{or-first, or-then}
 use borrow.Author.Needs.{needs}
 use Rattle.expansion.proofs.request.four_above.Statement.{statement}
 use Rattle.expansion.proofs.request.four_above.Tie as tie

@@ -1,8 +1,8 @@
 -- `packed` meets its contract.
 use native.Mathlib.Omega.{arith}
 use borrow.Author.Needs.{needs}
-use Rattle.expansion.specs.Expanding.{Packed}
-use Rattle.expansion.proofs.Requests.{packed-none, packed-mul, packed-add, packed-more, packed-last}
+use Rattle.expansion.specs.inner.Requests.{Packed}
+use Rattle.expansion.proofs.RequestLaws.{packed-none, packed-mul, packed-add, packed-more, packed-last}
 use Rattle.expansion.proofs.request.packed.Statement.{statement}
 use Rattle.expansion.proofs.request.packed.Tie as tie
 

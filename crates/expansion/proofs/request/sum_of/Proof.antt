@@ -1,5 +1,5 @@
 -- `sum_of` meets its contract.
-use Rattle.expansion.proofs.Requests.{sum-at}
+use Rattle.expansion.proofs.RequestLaws.{sum-at}
 use borrow.Author.Needs.{needs}
 use Rattle.expansion.proofs.request.sum_of.Statement.{statement}
 use Rattle.expansion.proofs.request.sum_of.Tie as tie

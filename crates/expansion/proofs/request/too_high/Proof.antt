@@ -1,5 +1,5 @@
 -- `too_high` meets its contract.
-use Rattle.expansion.proofs.Requests.{high-at}
+use Rattle.expansion.proofs.RequestLaws.{high-at}
 use borrow.Author.Needs.{needs}
 use Rattle.expansion.proofs.request.too_high.Statement.{statement}
 use Rattle.expansion.proofs.request.too_high.Tie as tie

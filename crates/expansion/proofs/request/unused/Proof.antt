@@ -1,5 +1,5 @@
 -- `unused` meets its contract.
-use Rattle.expansion.proofs.Requests.{unused-overlap, unused-kinetic, unused-nuclear, unused-moment, unused-coulomb}
+use Rattle.expansion.proofs.RequestLaws.{unused-overlap, unused-kinetic, unused-nuclear, unused-moment, unused-coulomb}
 use borrow.Author.Needs.{needs}
 use Rattle.expansion.proofs.request.unused.Statement.{statement}
 use Rattle.expansion.proofs.request.unused.Tie as tie

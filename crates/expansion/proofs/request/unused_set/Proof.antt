@@ -1,5 +1,5 @@
 -- `unused_set` meets its contract.
-use Rattle.expansion.proofs.Requests.{set-at}
+use Rattle.expansion.proofs.RequestLaws.{set-at}
 use borrow.Author.Needs.{needs}
 use Rattle.expansion.proofs.request.unused_set.Statement.{statement}
 use Rattle.expansion.proofs.request.unused_set.Tie as tie

@@ -1,5 +1,5 @@
 -- `emit` meets its contract.
-use Rattle.expansion.proofs.Emission.{emits-scale, emits-rest, emitted}
+use Rattle.expansion.proofs.TermsBytes.{emits-scale, emits-rest, emitted}
 use borrow.Author.Needs.{needs}
 use Rattle.expansion.proofs.terms.emit.Statement.{statement}
 use Rattle.expansion.proofs.terms.emit.Tie as tie

@@ -1,5 +1,5 @@
 -- `pushed` meets its contract.
-use Rattle.expansion.proofs.Digits.{pushed-over, pushed-on}
+use Rattle.expansion.proofs.TermsWords.{pushed-over, pushed-on}
 use borrow.Author.Needs.{needs}
 use Rattle.expansion.proofs.terms.pushed.Statement.{statement}
 use Rattle.expansion.proofs.terms.pushed.Tie as tie

@@ -1,6 +1,6 @@
 -- `put_digits` meets its contract.
 use native.Mathlib.Omega.{arith}
-use Rattle.expansion.proofs.Digits.{Putting, putting-first, putting-more, putting-last}
+use Rattle.expansion.proofs.TermsWords.{Putting, putting-first, putting-more, putting-last}
 use Rattle.expansion.proofs.terms.put_digits.Statement.{statement}
 use Rattle.expansion.proofs.terms.put_digits.Tie as tie
 

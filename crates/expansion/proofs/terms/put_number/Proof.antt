@@ -1,5 +1,5 @@
 -- `put_number` meets its contract.
-use Rattle.expansion.proofs.Emission.{number-inside, number-one, number-next, number-never}
+use Rattle.expansion.proofs.TermsBytes.{number-inside, number-one, number-next, number-never}
 use borrow.Author.Needs.{needs}
 use Rattle.expansion.proofs.terms.put_number.Statement.{statement}
 use Rattle.expansion.proofs.terms.put_number.Tie as tie

@@ -1,5 +1,5 @@
 -- `put_prefactors` meets its contract.
-use Rattle.expansion.proofs.Emission.{prefactors-few, prefactors-many}
+use Rattle.expansion.proofs.TermsBytes.{prefactors-few, prefactors-many}
 use borrow.Author.Needs.{needs}
 use Rattle.expansion.proofs.terms.put_prefactors.Statement.{statement}
 use Rattle.expansion.proofs.terms.put_prefactors.Tie as tie

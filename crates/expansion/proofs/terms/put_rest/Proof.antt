@@ -1,7 +1,7 @@
 -- `put_rest` meets its contract.
 use native.Mathlib.Omega.{arith}
 use lib.ListN.{length-set}
-use Rattle.expansion.proofs.Emission.{rest-emitted, kept-two}
+use Rattle.expansion.proofs.TermsBytes.{rest-emitted, kept-two}
 use borrow.Author.Needs.{needs}
 use Rattle.expansion.proofs.terms.put_rest.Statement.{statement}
 use Rattle.expansion.proofs.terms.put_rest.Tie as tie

@@ -1,5 +1,5 @@
 -- `child` meets its contract.
-use Rattle.expansion.proofs.Children.{child-moves, child-held, child-of}
+use Rattle.expansion.proofs.WalkChildren.{child-moves, child-held, child-of}
 use borrow.Author.Needs.{needs}
 use Rattle.expansion.proofs.walk.child.Statement.{statement}
 use Rattle.expansion.proofs.walk.child.Tie as tie
@@ -10,11 +10,11 @@ branch-requires c κs = search needs
 moved-requires : tie.Need-moved-requires
 moved-requires c κs = search child-moves
 
-sub-t11 : tie.Need-sub-t11
-sub-t11 c = search child-held
+sub-below : tie.Need-sub-below
+sub-below c = search child-held
 
 returns : tie.Need-returns
 returns c = search child-of
 
 pub child-spec : {M : Type 1} → statement M
-child-spec = tie.close (tie.spec branch-requires moved-requires sub-t11 returns)
+child-spec = tie.close (tie.spec branch-requires moved-requires sub-below returns)

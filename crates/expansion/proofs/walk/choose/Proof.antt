@@ -1,5 +1,5 @@
 -- `choose` meets its contract.
-use Rattle.expansion.proofs.Cycle.{choose-none, choose-nowhere, choose-at}
+use Rattle.expansion.proofs.WalkCycle.{choose-none, choose-nowhere, choose-at}
 use borrow.Author.Needs.{needs}
 use Rattle.expansion.proofs.walk.choose.Statement.{statement}
 use Rattle.expansion.proofs.walk.choose.Tie as tie

@@ -1,5 +1,5 @@
 -- `branch` meets its contract.
-use Rattle.steps.proofs.Moves.{branch-of}
+use Rattle.steps.proofs.BranchesLaws.{branch-of}
 use Rattle.steps.specs.Steps.{branches}
 use borrow.Author.Needs.{needs}
 use Rattle.steps.proofs.branches.branch.Statement.{statement}

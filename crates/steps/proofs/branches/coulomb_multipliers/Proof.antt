@@ -1,5 +1,5 @@
 -- `coulomb_multipliers` meets its contract.
-use Rattle.steps.proofs.Moves.{coulomb-word}
+use Rattle.steps.proofs.BranchesLaws.{coulomb-word}
 use borrow.Author.Needs.{needs}
 use Rattle.steps.proofs.branches.coulomb_multipliers.Statement.{statement}
 use Rattle.steps.proofs.branches.coulomb_multipliers.Tie as tie

@@ -1,8 +1,8 @@
 -- `kinetic_move` meets its contract.
 use native.Mathlib.Omega.{arith}
 use Prim.Native.Nat.{_≤_}
-use Rattle.steps.specs.Packed.{moveIn, fallWord}
-use Rattle.steps.proofs.Moves.{arm, no-arm}
+use Rattle.steps.specs.inner.Packed.{moveIn, fallWord}
+use Rattle.steps.proofs.BranchesLaws.{arm, no-arm}
 use borrow.Author.Needs.{needs}
 use Rattle.steps.proofs.branches.kinetic_move.Statement.{statement}
 use Rattle.steps.proofs.branches.kinetic_move.Tie as tie
@@ -34,8 +34,8 @@ plain-requires-4 c κs = search needs
 twice-requires-2 : tie.Need-twice-requires-2
 twice-requires-2 c κs = search needs
 
-nine-requires : tie.Need-nine-requires
-nine-requires c κs = search needs
+by-centre-requires : tie.Need-by-centre-requires
+by-centre-requires c κs = search needs
 
 plain-requires-5 : tie.Need-plain-requires-5
 plain-requires-5 c κs = search needs
@@ -80,7 +80,7 @@ kinetic-move-spec =
     plain-requires-3
     plain-requires-4
     twice-requires-2
-    nine-requires
+    by-centre-requires
     plain-requires-5
     plain-requires-6
     returns

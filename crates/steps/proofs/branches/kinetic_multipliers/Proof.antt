@@ -1,5 +1,5 @@
 -- `kinetic_multipliers` meets its contract.
-use Rattle.steps.proofs.Moves.{kinetic-word}
+use Rattle.steps.proofs.BranchesLaws.{kinetic-word}
 use borrow.Author.Needs.{needs}
 use Rattle.steps.proofs.branches.kinetic_multipliers.Statement.{statement}
 use Rattle.steps.proofs.branches.kinetic_multipliers.Tie as tie

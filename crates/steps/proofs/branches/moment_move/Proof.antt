@@ -1,6 +1,6 @@
 -- `moment_move` meets its contract.
-use Rattle.steps.proofs.Moves.{moment-of, moment-of-a, moment-of-b}
-use Rattle.steps.specs.Packed.{moveIn, fallWord}
+use Rattle.steps.proofs.BranchesLaws.{moment-of, moment-of-a, moment-of-b}
+use Rattle.steps.specs.inner.Packed.{moveIn, fallWord}
 use borrow.Author.Needs.{needs}
 use Rattle.steps.proofs.branches.moment_move.Statement.{statement}
 use Rattle.steps.proofs.branches.moment_move.Tie as tie

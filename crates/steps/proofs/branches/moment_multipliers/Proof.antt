@@ -1,6 +1,6 @@
 -- `moment_multipliers` meets its contract.
-use Rattle.steps.proofs.Moves.{moment-word-of}
-use Rattle.steps.specs.Packed.{multiplierWord}
+use Rattle.steps.proofs.BranchesLaws.{moment-word-of}
+use Rattle.steps.specs.inner.Packed.{multiplierWord}
 use borrow.Author.Needs.{needs}
 use Rattle.steps.proofs.branches.moment_multipliers.Statement.{statement}
 use Rattle.steps.proofs.branches.moment_multipliers.Tie as tie

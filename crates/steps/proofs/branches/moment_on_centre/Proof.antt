@@ -1,8 +1,8 @@
 -- `moment_on_centre` meets its contract.
 use native.Mathlib.Omega.{arith}
 use Prim.Native.Nat.{_≤_}
-use Rattle.steps.specs.Packed.{moveIn, fallWord}
-use Rattle.steps.proofs.Moves.{arm, no-arm}
+use Rattle.steps.specs.inner.Packed.{moveIn, fallWord}
+use Rattle.steps.proofs.BranchesLaws.{arm, no-arm}
 use borrow.Author.Needs.{needs}
 use Rattle.steps.proofs.branches.moment_on_centre.Statement.{statement}
 use Rattle.steps.proofs.branches.moment_on_centre.Tie as tie

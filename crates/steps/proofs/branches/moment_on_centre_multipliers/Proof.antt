@@ -1,5 +1,5 @@
 -- `moment_on_centre_multipliers` meets its contract.
-use Rattle.steps.proofs.Moves.{moment-word}
+use Rattle.steps.proofs.BranchesLaws.{moment-word}
 use borrow.Author.Needs.{needs}
 use Rattle.steps.proofs.branches.moment_on_centre_multipliers.Statement.{statement}
 use Rattle.steps.proofs.branches.moment_on_centre_multipliers.Tie as tie

@@ -1,8 +1,8 @@
 -- `moment_on_operator` meets its contract.
 use native.Mathlib.Omega.{arith}
 use Prim.Native.Nat.{_≤_}
-use Rattle.steps.specs.Packed.{moveIn, fallWord}
-use Rattle.steps.proofs.Moves.{arm, no-arm}
+use Rattle.steps.specs.inner.Packed.{moveIn, fallWord}
+use Rattle.steps.proofs.BranchesLaws.{arm, no-arm}
 use borrow.Author.Needs.{needs}
 use Rattle.steps.proofs.branches.moment_on_operator.Statement.{statement}
 use Rattle.steps.proofs.branches.moment_on_operator.Tie as tie
@@ -10,8 +10,8 @@ use Rattle.steps.proofs.branches.moment_on_operator.Tie as tie
 unit-requires : tie.Need-unit-requires
 unit-requires c κs = search needs
 
-six-requires : tie.Need-six-requires
-six-requires c κs = search needs
+by-axis-requires : tie.Need-by-axis-requires
+by-axis-requires c κs = search needs
 
 plain-requires : tie.Need-plain-requires
 plain-requires c κs = search needs
@@ -42,7 +42,7 @@ moment-on-operator-spec =
     tie.close
     (tie.spec
     unit-requires
-    six-requires
+    by-axis-requires
     plain-requires
     twice-requires
     plain-requires-2

@@ -1,5 +1,5 @@
 -- `moment_on_operator_multipliers` meets its contract.
-use Rattle.steps.proofs.Moves.{on-operator-word}
+use Rattle.steps.proofs.BranchesLaws.{on-operator-word}
 use borrow.Author.Needs.{needs}
 use Rattle.steps.proofs.branches.moment_on_operator_multipliers.Statement.{statement}
 use Rattle.steps.proofs.branches.moment_on_operator_multipliers.Tie as tie

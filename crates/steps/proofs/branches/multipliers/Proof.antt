@@ -1,5 +1,5 @@
 -- `multipliers` meets its contract.
-use Rattle.steps.proofs.Moves.{word-of}
+use Rattle.steps.proofs.BranchesLaws.{word-of}
 use Rattle.steps.specs.Steps.{branches}
 use borrow.Author.Needs.{needs}
 use Rattle.steps.proofs.branches.multipliers.Statement.{statement}

@@ -1,8 +1,8 @@
 -- `nuclear_move` meets its contract.
 use native.Mathlib.Omega.{arith}
 use Prim.Native.Nat.{_≤_}
-use Rattle.steps.specs.Packed.{moveIn, fallWord}
-use Rattle.steps.proofs.Moves.{arm, no-arm}
+use Rattle.steps.specs.inner.Packed.{moveIn, fallWord}
+use Rattle.steps.proofs.BranchesLaws.{arm, no-arm}
 use borrow.Author.Needs.{needs}
 use Rattle.steps.proofs.branches.nuclear_move.Statement.{statement}
 use Rattle.steps.proofs.branches.nuclear_move.Tie as tie
@@ -19,8 +19,8 @@ plain-requires c κs = search needs
 unit-requires-2 : tie.Need-unit-requires-2
 unit-requires-2 c κs = search needs
 
-six-requires : tie.Need-six-requires
-six-requires c κs = search needs
+by-axis-requires : tie.Need-by-axis-requires
+by-axis-requires c κs = search needs
 
 raised-requires : tie.Need-raised-requires
 raised-requires c κs = search needs
@@ -88,7 +88,7 @@ nuclear-move-spec =
     p-requires
     plain-requires
     unit-requires-2
-    six-requires
+    by-axis-requires
     raised-requires
     twice-requires
     plain-requires-2

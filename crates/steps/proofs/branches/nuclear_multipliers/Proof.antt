@@ -1,5 +1,5 @@
 -- `nuclear_multipliers` meets its contract.
-use Rattle.steps.proofs.Moves.{nuclear-word}
+use Rattle.steps.proofs.BranchesLaws.{nuclear-word}
 use borrow.Author.Needs.{needs}
 use Rattle.steps.proofs.branches.nuclear_multipliers.Statement.{statement}
 use Rattle.steps.proofs.branches.nuclear_multipliers.Tie as tie

@@ -1,5 +1,5 @@
 -- `of_d` meets its contract.
-use Rattle.steps.proofs.Moves.{other-order}
+use Rattle.steps.proofs.BranchesLaws.{other-order}
 use borrow.Author.Needs.{needs}
 use Rattle.steps.proofs.branches.of_d.Statement.{statement}
 use Rattle.steps.proofs.branches.of_d.Tie as tie

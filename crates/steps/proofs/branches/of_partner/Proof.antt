@@ -1,5 +1,5 @@
 -- `of_partner` meets its contract.
-use Rattle.steps.proofs.Moves.{other-order}
+use Rattle.steps.proofs.BranchesLaws.{other-order}
 use borrow.Author.Needs.{needs}
 use Rattle.steps.proofs.branches.of_partner.Statement.{statement}
 use Rattle.steps.proofs.branches.of_partner.Tie as tie

@@ -1,5 +1,5 @@
 -- `overlap_multipliers` meets its contract.
-use Rattle.steps.proofs.Moves.{overlap-word}
+use Rattle.steps.proofs.BranchesLaws.{overlap-word}
 use borrow.Author.Needs.{needs}
 use Rattle.steps.proofs.branches.overlap_multipliers.Statement.{statement}
 use Rattle.steps.proofs.branches.overlap_multipliers.Tie as tie

@@ -1,5 +1,5 @@
 -- `unit` meets its contract.
-use Rattle.steps.proofs.Moves.{unit-shifted, unit-below}
+use Rattle.steps.proofs.BranchesLaws.{unit-shifted, unit-below}
 use borrow.Author.Needs.{needs}
 use Rattle.steps.proofs.branches.unit.Statement.{statement}
 use Rattle.steps.proofs.branches.unit.Tie as tie

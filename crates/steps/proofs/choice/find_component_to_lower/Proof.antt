@@ -1,5 +1,5 @@
 -- `find_component_to_lower` meets its contract.
-use Rattle.steps.proofs.Chosen.{first-x, first-y, first-z, first-none}
+use Rattle.steps.proofs.ChoiceLaws.{first-x, first-y, first-z, first-none}
 use borrow.Author.Needs.{needs}
 use Rattle.steps.proofs.choice.find_component_to_lower.Statement.{statement}
 use Rattle.steps.proofs.choice.find_component_to_lower.Tie as tie

@@ -1,5 +1,6 @@
 -- `find_fun_to_lower` meets its contract.
 use Rattle.steps.specs.Choice.{chosen}
+use Rattle.steps.proofs.ChoiceLaws.{chosen-at}
 use borrow.Author.Needs.{needs}
 use Rattle.steps.proofs.choice.find_fun_to_lower.Statement.{statement}
 use Rattle.steps.proofs.choice.find_fun_to_lower.Tie as tie
@@ -36,23 +37,23 @@ of-four-requires c κs = search needs
 
 returns : tie.Need-returns
 unfolding chosen
-returns c = cc
+returns c = search chosen-at
 
 returns-2 : tie.Need-returns-2
 unfolding chosen
-returns-2 c = cc
+returns-2 c = search chosen-at
 
 returns-3 : tie.Need-returns-3
 unfolding chosen
-returns-3 c = cc
+returns-3 c = search chosen-at
 
 returns-4 : tie.Need-returns-4
 unfolding chosen
-returns-4 c = cc
+returns-4 c = search chosen-at
 
 returns-5 : tie.Need-returns-5
 unfolding chosen
-returns-5 c = cc
+returns-5 c = search chosen-at
 
 pub find-fun-to-lower-spec : {M : Type 1} → statement M
 find-fun-to-lower-spec =

@@ -1,33 +1,22 @@
 -- `from` meets its contract.
+use Rattle.steps.proofs.ChoiceLaws.{before-sum}
 use borrow.Author.Needs.{needs}
 use Rattle.steps.proofs.choice.from.Statement.{statement}
 use Rattle.steps.proofs.choice.from.Tie as tie
 
-enum-told : tie.Need-enum-told
-enum-told c = search needs
+sum-requires : tie.Need-sum-requires
+sum-requires c κs = search needs
 
-enum-told-2 : tie.Need-enum-told-2
-enum-told-2 c = search needs
-
-enum-told-3 : tie.Need-enum-told-3
-enum-told-3 c = search needs
-
-enum-told-4 : tie.Need-enum-told-4
-enum-told-4 c = search needs
+or-before-requires : tie.Need-or-before-requires
+or-before-requires c κs = search needs
 
 returns : tie.Need-returns
-returns c = cc
-
-returns-2 : tie.Need-returns-2
-returns-2 c = cc
-
-returns-3 : tie.Need-returns-3
-returns-3 c = cc
-
-returns-4 : tie.Need-returns-4
-returns-4 c = cc
+returns c = search before-sum
 
 pub from-spec : {M : Type 1} → statement M
 from-spec =
     tie.close
-    (tie.spec enum-told enum-told-2 enum-told-3 enum-told-4 returns returns-2 returns-3 returns-4)
+    (tie.spec
+    sum-requires
+    or-before-requires
+    returns)

@@ -1,5 +1,5 @@
 -- `or_before` meets its contract.
-use Rattle.steps.proofs.Chosen.{before-none, before-smaller, before-larger}
+use Rattle.steps.proofs.ChoiceLaws.{before-none, before-smaller, before-larger}
 use borrow.Author.Needs.{needs}
 use Rattle.steps.proofs.choice.or_before.Statement.{statement}
 use Rattle.steps.proofs.choice.or_before.Tie as tie

@@ -13,31 +13,28 @@ use Rattle.kind.specs.declared.Kind.the-variants.{Overlap}
 use Rattle.kind.specs.Limits.{mostL·any, mostScale}
 use Rattle.kind.proofs.Within.{table-within}
 use Rattle.term.specs.Terms.{Term}
-use Rattle.steps.specs.declared.Centre.{Centre}
+use Rattle.steps.specs.declared.CentreName.{CentreName}
 use Rattle.steps.specs.declared.Axis.{Axis}
 use Rattle.steps.specs.declared.Move.{Move}
-use Rattle.steps.specs.Choice.{pick, place, operator, orderOf}
+use Rattle.steps.specs.Choice.{pick, orderPlace, operator, orderOf}
 use Rattle.steps.specs.Steps.{Falls, a-and-o, Branch, branches, times, lowered}
 use Rattle.laws.specs.Total.{total}
+use Rattle.laws.proofs.Lists.{getD-in}
 use Rattle.steps.specs.States.{State, start, step}
-use Rattle.steps.specs.Packed.{orders, moveIn, fallWord, noBranch}
+use Rattle.steps.specs.inner.Packed.{orders, moveIn, fallWord, noBranch}
 use Rattle.steps.proofs.Falling.{Apart, falls-word, falls-held}
 use Rattle.histories.specs.History.{depth}
 use Rattle.histories.proofs.Orders.{apart, fallen, partner-apart, other-c-apart, other-d-apart, operator-apart, lowered-total}
 use Rattle.histories.proofs.Fair.{Fair, fair-branch}
 use Rattle.histories.proofs.Walk.{branch-down}
-use Rattle.histories.proofs.Bounds.{Reached, step-reached, scale-on-the-way}
+use Rattle.histories.specs.inner.OnTheWay.{Reached}
+use Rattle.histories.proofs.Bounds.{step-reached, scale-on-the-way}
 use Rattle.expansion.specs.declared.Path.{Path}
 use Rattle.expansion.specs.declared.Child.{Child}
-use Rattle.expansion.specs.View.{termAt, further, Moves}
-use Rattle.expansion.specs.Walking.{viewOf, Good, Turn, ChildOf}
-use Rattle.expansion.proofs.Digits.{length-prefactors}
-use Rattle.expansion.proofs.Walking.{inside, multiplier-here}
-
-getD-in : {A : Type 0} (l : List A) (i : ℕ) (d : A) → i < length l → List·Memᴰ (getD l i d) l
-getD-in [] i d h = absurd (omega arith)
-getD-in (y ∷ l) zero d h = List·Memᴰ·head refl
-getD-in (y ∷ l) (suc i) d h = List·Memᴰ·tail (getD-in l i d (omega arith))
+use Rattle.expansion.specs.inner.View.{pathTerm, movedOn, MoveMay}
+use Rattle.expansion.specs.inner.Walking.{viewOf, Good, TurnMay, ChildOf}
+use Rattle.expansion.proofs.TermsWords.{length-prefactors}
+use Rattle.expansion.proofs.WalkTurns.{inside, multiplier-here}
 
 few-fall : (f : Falls) → fallen f ≤ 2
 few-fall f = at f
@@ -51,10 +48,10 @@ few-fall f = at f
     at a-and-o = omega arith
     at Rattle.steps.specs.Steps.nothing = omega arith
 
-all-apart : (c : Centre) (x : Axis) → Apart c x
+all-apart : (c : CentreName) (x : Axis) → Apart c x
 all-apart c x = record { from-partner = partner-apart c x; from-c = other-c-apart c x; from-d = other-d-apart c x }
 
-module _ (k : Kind) (left : ℕ) (p : Path) (c : Centre) (x : Axis) (times′ number : ℕ) (good : Good k left p) (turn : Turn k left c x times′ number) (legal : times′ % 16 ≡ 0 → ⊥) where
+module _ (k : Kind) (left : ℕ) (p : Path) (c : CentreName) (x : Axis) (times′ number : ℕ) (good : Good k left p) (turn : TurnMay k left c x times′ number) (legal : times′ % 16 ≡ 0 → ⊥) where
   some : times′ ≡ 0 → ⊥
   some e = legal (omega arith)
 
@@ -73,7 +70,7 @@ module _ (k : Kind) (left : ℕ) (p : Path) (c : Centre) (x : Axis) (times′ nu
   positive-times : 0 < times (this .falls) c x (orders left)
   positive-times = let h = times-here in omega arith
 
-  operator-away : this .falls ≡ a-and-o → place operator x ≢ place c x
+  operator-away : this .falls ≡ a-and-o → orderPlace operator x ≢ orderPlace c x
   operator-away e = operator-apart c x (subst (λ (f : Falls). apart f c ≡ true) e (fair .falls-apart))
 
   abbrev view : State
@@ -96,7 +93,7 @@ module _ (k : Kind) (left : ℕ) (p : Path) (c : Centre) (x : Axis) (times′ nu
     unfolding moveIn
     kind-is = ap (λ (n : Move). n .kind) is
 
-    pub child-moves : Moves p (times′ % 16) (m .raises) (m .adds)
+    pub child-moves : MoveMay p (times′ % 16) (m .raises) (m .adds)
     unfolding depth
     child-moves =
         let r = good .reached in
@@ -121,11 +118,11 @@ module _ (k : Kind) (left : ℕ) (p : Path) (c : Centre) (x : Axis) (times′ nu
     orders-left : orders (left - m .falls) ≡ lowered (this .falls) c x (orders left)
     orders-left = ap (λ (n : ℕ). orders (left - n)) falls-is ∙ falls-word c x left (all-apart c x) (turn .positive) (this .falls) operator-away positive-times
 
-    module _ (on : Path) (moved : termAt on ≡ further (termAt p) (times′ % 16) (m .raises) (m .adds)) where
+    module _ (on : Path) (moved : pathTerm on ≡ movedOn (pathTerm p) (times′ % 16) (m .raises) (m .adds)) where
       view-is : viewOf (m .kind) (left - m .falls) on ≡ step view c x this
       unfolding step
       view-is =
-          let t : termAt on ≡ further (termAt p) (times (this .falls) c x (orders left)) (this .raises) (this .adds) = moved ∙ rw (times-here, raises-is, adds-is) in
+          let t : pathTerm on ≡ movedOn (pathTerm p) (times (this .falls) c x (orders left)) (this .raises) (this .adds) = moved ∙ rw (times-here, raises-is, adds-is) in
           λ i. record { kind = kind-is i; left = orders-left i; term = t i }
 
       pub child-of : ChildOf k left p c x number (record { kind = m .kind; left = left - m .falls; path = on })

@@ -9,12 +9,12 @@ use lib.ListN.{length}
 use Rattle.kind.specs.declared.Kind.{Kind}
 use Rattle.term.specs.Terms.{Term}
 use Rattle.number.specs.Numbers.{lengthOf}
-use Rattle.steps.specs.declared.Centre.{Centre}
+use Rattle.steps.specs.declared.CentreName.{CentreName}
 use Rattle.steps.specs.declared.Axis.{Axis}
 use Rattle.steps.specs.declared.Move.{Move}
 use Rattle.steps.specs.Steps.{branches}
 use Rattle.laws.specs.Total.{total}
-use Rattle.steps.specs.Packed.{orders, moveIn, multiplierWord}
+use Rattle.steps.specs.inner.Packed.{orders, moveIn, multiplierWord}
 use Rattle.histories.specs.History.{stage, depth}
 use Rattle.roll.specs.Bytes.{termBytes, termsBytes}
 use Rattle.expansion.specs.declared.Path.{Path}
@@ -22,15 +22,15 @@ use Rattle.expansion.specs.declared.Measured.{Measured}
 use Rattle.expansion.specs.declared.Measured.the-variants.{Fits, Over}
 use Rattle.expansion.specs.declared.Lowering.{Lowering}
 use Rattle.expansion.specs.declared.Lowering.the-variants.{At, Nothing}
-use Rattle.expansion.specs.View.{termAt}
-use Rattle.expansion.specs.Walking.{Good, Turn, lowering, termsBelow, termsFrom}
-use Rattle.expansion.specs.Measuring.{measured, plus, widthOf, groupOf, skipOf, Small, MeasureMay, Measures, MeasuresFrom}
-use Rattle.expansion.proofs.Emission.{term-length}
-use Rattle.expansion.proofs.Walking.{from-none, from-skip, turn-next, below-eight}
-use Rattle.expansion.proofs.Children.{child-moves, child-held}
-use Rattle.expansion.proofs.Cycle.{Words, good-words, below-done, below-none, below-first, first-turn}
-use Rattle.expansion.proofs.Measuring.{measured-few, small-none, small-over, plus-over, plus-none}
-use Rattle.expansion.proofs.Groups.{nextPath, next-scale, next-count, next-of, group-split, group-turn, width-one}
+use Rattle.expansion.specs.inner.View.{pathTerm}
+use Rattle.expansion.specs.inner.Walking.{Good, TurnMay, lowering, termsBelow, termsFrom}
+use Rattle.expansion.specs.inner.Measuring.{measured, plus, widthOf, groupOf, skipOf, SmallMeasure, MeasureMay, Measures, MeasuresFrom}
+use Rattle.expansion.proofs.TermsBytes.{term-length}
+use Rattle.expansion.proofs.WalkTurns.{from-none, from-skip, turn-next, below-eight}
+use Rattle.expansion.proofs.WalkChildren.{child-moves, child-held}
+use Rattle.expansion.proofs.WalkCycle.{Words, good-words, below-done, below-none, below-first, first-turn}
+use Rattle.expansion.proofs.MeasureSizes.{measured-few, small-none, small-over, plus-over, plus-none}
+use Rattle.expansion.proofs.MeasureGroups.{nextPath, next-scale, next-count, next-of, group-split, group-turn, width-one}
 
 unfoldable pub nodeCount : Kind → ℕ → ℕ
 nodeCount k left = 10 * (stage k + total (orders left)) + 10
@@ -45,7 +45,7 @@ measured-none : (ts : List Term) → ts ≡ [] → Fits 0 0 ≡ measured ts
 unfolding termsBytes
 measured-none ts e = sym (ap measured e ∙ measured-few [] (omega arith))
 
-pub end-told : (k : Kind) (left scale count : ℕ) (c : Centre) (x : Axis) (times number : ℕ) → Turn k left c x times number → times ≡ 0 → MeasuresFrom k left scale count c x number (Fits 0 0)
+pub end-told : (k : Kind) (left scale count : ℕ) (c : CentreName) (x : Axis) (times number : ℕ) → TurnMay k left c x times number → times ≡ 0 → MeasuresFrom k left scale count c x number (Fits 0 0)
 end-told k left scale count c x times number turn e =
     record {
       is = λ (p : Path) (f : p .scale ≡ scale) (g : p .count ≡ count) (h : Good k left p). measured-none (termsFrom k left p c x number) (from-none k left c x times number turn p e);
@@ -62,20 +62,24 @@ module _ (k : Kind) (left scale count : ℕ) (may : MeasureMay k left scale coun
   pub leaf-count : count < 25
   leaf-count = subst (λ (n : ℕ). n < 25) (may .count-is) (words .count-fits)
 
-  pub leaf-told : (r : Measured) → left ≡ 0 → r ≡ Fits 1 (lengthOf scale + 2 + count) → Small r → Measures k left scale count r
+  pub leaf-told : (r : Measured) → left ≡ 0 → r ≡ Fits 1 (lengthOf scale + 2 + count) → SmallMeasure r → Measures k left scale count r
   unfolding termsBytes
   leaf-told r e i s =
       record {
         is = λ (p : Path) (f : p .scale ≡ scale) (g : p .count ≡ count) (h : Good k left p).
             let w = good-words k left p h in
-            i ∙ ap (Fits 1) (ap₂ (λ (a b : ℕ). lengthOf a + 2 + b) (sym f) (sym g) ∙ sym (ap length (append-nil (termBytes (termAt p))) ∙ term-length p (w .boys-fits) (w .count-fits)))
-            ∙ sym (ap measured (below-done k left p e) ∙ measured-few (termAt p ∷ []) (omega arith));
+            i ∙ ap (Fits 1) (ap₂ (λ (a b : ℕ). lengthOf a + 2 + b) (sym f) (sym g) ∙ sym (ap length (append-nil (termBytes (pathTerm p))) ∙ term-length p (w .boys-fits) (w .count-fits)))
+            ∙ sym (ap measured (below-done k left p e) ∙ measured-few (pathTerm p ∷ []) (omega arith));
         small-enough = s;
       }
 
   pub inner-count : (t : ℕ) → nodeCount k left ≡ t → innerCount k left < t
   unfolding nodeCount innerCount
   inner-count t e = omega arith
+
+  pub first-count : (t : ℕ) → innerCount k left ≡ t → branchCount k left 0 < t
+  unfolding innerCount branchCount
+  first-count t e = omega arith
 
   module _ (some : left ≡ 0 → ⊥) (l : Lowering) (is : l ≡ lowering k (orders left)) where
     pub none-told : l ≡ Nothing → Measures k left scale count (Fits 0 0)
@@ -85,12 +89,8 @@ module _ (k : Kind) (left scale count : ℕ) (may : MeasureMay k left scale coun
           small-enough = small-none;
         }
 
-    module _ (c : Centre) (x : Axis) (at-them : l ≡ At c x) where
-      pub first-count : (t : ℕ) → innerCount k left ≡ t → branchCount k left 0 < t
-      unfolding innerCount branchCount
-      first-count t e = omega arith
-
-      pub turn-first : (times : ℕ) → times ≡ multiplierWord c x (orders left) (branches k c x) → Turn k left c x times 0
+    module _ (c : CentreName) (x : Axis) (at-them : l ≡ At (record { centre = c; axis = x })) where
+      pub turn-first : (times : ℕ) → times ≡ multiplierWord c x (orders left) (branches k c x) → TurnMay k left c x times 0
       turn-first times e = first-turn k left (may .path) (may .good .word) some l is c x at-them times e
 
       pub first-told : (r : Measured) → MeasuresFrom k left scale count c x 0 r → Measures k left scale count r
@@ -100,7 +100,7 @@ module _ (k : Kind) (left scale count : ℕ) (may : MeasureMay k left scale coun
             small-enough = m .small-enough;
           }
 
-  module _ (c : Centre) (x : Axis) (times number : ℕ) (turn : Turn k left c x times number) where
+  module _ (c : CentreName) (x : Axis) (times number : ℕ) (turn : TurnMay k left c x times number) where
     module _ (some : times ≡ 0 → ⊥) where
       pub number-next : number + 1 < 256
       number-next = let h = below-eight k left c x times number turn some in omega arith
@@ -109,7 +109,7 @@ module _ (k : Kind) (left scale count : ℕ) (may : MeasureMay k left scale coun
       unfolding branchCount
       skip-count t e = let h = below-eight k left c x times number turn some in omega arith
 
-      pub skip-turn : Turn k left c x (times / 16) (number + 1)
+      pub skip-turn : TurnMay k left c x (times / 16) (number + 1)
       skip-turn = turn-next k left c x times number turn some
 
       pub skip-told : (r : Measured) → times % 16 ≡ 0 → MeasuresFrom k left scale count c x (number + 1) r → MeasuresFrom k left scale count c x number r
@@ -168,8 +168,8 @@ module _ (k : Kind) (left scale count : ℕ) (may : MeasureMay k left scale coun
               small-enough = small-over;
             }
 
-        pub rest-turn : (s : ℕ) → s ≡ skipOf w times → Turn k left c x s (number + w)
-        rest-turn s e = subst (λ (n : ℕ). Turn k left c x s (number + n)) (sym width) (subst (λ (n : ℕ). Turn k left c x n (number + widthOf k number)) (sym (e ∙ ap (λ (n : ℕ). skipOf n times) width)) (group-turn k left scale count c x times number turn legal m is first told))
+        pub rest-turn : (s : ℕ) → s ≡ skipOf w times → TurnMay k left c x s (number + w)
+        rest-turn s e = subst (λ (n : ℕ). TurnMay k left c x s (number + n)) (sym width) (subst (λ (n : ℕ). TurnMay k left c x n (number + widthOf k number)) (sym (e ∙ ap (λ (n : ℕ). skipOf n times) width)) (group-turn k left scale count c x times number turn legal m is first told))
 
         pub rest-number : number + w < 256
         rest-number = let t = rest-turn (skipOf w times) refl .few in omega arith
@@ -188,7 +188,7 @@ module _ (k : Kind) (left scale count : ℕ) (may : MeasureMay k left scale coun
                 at true e = let h = borrow.Author.Tests.eqb-true (widthOf k number) 2 e in omega arith
                 at false e = let h = width-one k number (borrow.Author.Tests.eqb-false (widthOf k number) 2 e) in omega arith
 
-        pub rest-told : (rest r : Measured) → MeasuresFrom k left scale count c x (number + w) rest → r ≡ plus here rest → Small r → MeasuresFrom k left scale count c x number r
+        pub rest-told : (rest r : Measured) → MeasuresFrom k left scale count c x (number + w) rest → r ≡ plus here rest → SmallMeasure r → MeasuresFrom k left scale count c x number r
         rest-told rest r n e s =
             record {
               is = λ (p : Path) (f : p .scale ≡ scale) (g : p .count ≡ count) (h : Good k left p).
@@ -197,5 +197,5 @@ module _ (k : Kind) (left scale count : ℕ) (may : MeasureMay k left scale coun
             }
 
         -- no multiplier is left after the group
-        pub last-told : (s : ℕ) → s ≡ skipOf w times → s ≡ 0 → Small here → MeasuresFrom k left scale count c x number here
+        pub last-told : (s : ℕ) → s ≡ skipOf w times → s ≡ 0 → SmallMeasure here → MeasuresFrom k left scale count c x number here
         last-told s e none small = rest-told (Fits 0 0) here (end-told k left scale count c x s (number + w) (rest-turn s e) none) (plus-none here small) small

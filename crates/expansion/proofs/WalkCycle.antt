@@ -9,32 +9,34 @@ use Rattle.laws.proofs.Cases.{clash}
 use Rattle.kind.specs.declared.Kind.{Kind}
 use Rattle.kind.specs.Limits.{requestOrders}
 use Rattle.term.specs.Terms.{Term}
-use Rattle.steps.specs.declared.Centre.{Centre}
+use Rattle.steps.specs.declared.CentreName.{CentreName}
 use Rattle.steps.specs.declared.Axis.{Axis}
 use Rattle.steps.specs.declared.Fun.{Fun}
 use Rattle.steps.specs.declared.Fun.the-variants.{Lower, Nothing as none}
-use Rattle.steps.specs.declared.Component.{Component}
-use Rattle.steps.specs.declared.Component.the-variants.{Along, Nowhere}
+use Rattle.steps.specs.declared.AxisChoice.{AxisChoice}
+use Rattle.steps.specs.declared.AxisChoice.the-variants.{Along, Nowhere}
 use Rattle.steps.specs.Choice.{orderOf, chosen, firstAxis}
 use Rattle.steps.specs.Steps.{branches}
 use Rattle.laws.specs.Total.{total}
-use Rattle.steps.specs.States.{State, Next, start, turns, nexts}
-use Rattle.steps.specs.Packed.{orders, multiplierWord}
+use Rattle.steps.specs.States.{State, Next, start, turns, onAxis, onFun, nexts}
+use Rattle.steps.specs.inner.Packed.{orders, multiplierWord}
 use Rattle.steps.proofs.Falling.{some-left, none-left}
-use Rattle.histories.specs.History.{depth, over, expand}
+use Rattle.histories.specs.History.{depth, inTurn, expand}
 use Rattle.histories.proofs.Orders.{axis-positive}
 use Rattle.histories.proofs.Choices.{chosen-own}
 use Rattle.histories.proofs.Walk.{expand-done, expand-more}
-use Rattle.histories.proofs.Bounds.{Reached, scale-on-the-way}
+use Rattle.histories.specs.inner.OnTheWay.{Reached}
+use Rattle.histories.proofs.Bounds.{scale-on-the-way}
 use Rattle.roll.specs.Bytes.{termBytes, termsBytes}
 use Rattle.expansion.specs.declared.Path.{Path}
 use Rattle.expansion.specs.declared.Child.{Child}
+use Rattle.expansion.specs.declared.Lowered.{Lowered}
 use Rattle.expansion.specs.declared.Lowering.{Lowering}
 use Rattle.expansion.specs.declared.Lowering.the-variants.{At, Nothing}
-use Rattle.expansion.specs.View.{termAt, Emits, Emitted}
-use Rattle.expansion.specs.Walking.{viewOf, Good, Turn, ChildOf, lowering, onFun, onAxis, termsBelow, termsFrom, Room, NodeMay, BranchMay}
-use Rattle.expansion.proofs.Digits.{length-prefactors}
-use Rattle.expansion.proofs.Walking.{from-none, from-skip, from-legal, turn-next, below-eight, emitted-none, room-first, room-then, emitted-both}
+use Rattle.expansion.specs.inner.View.{pathTerm, EmitMay, Emitted}
+use Rattle.expansion.specs.inner.Walking.{viewOf, Good, TurnMay, ChildOf, lowering, loweringOf, loweringAlong, termsBelow, termsFrom, Room, NodeMay, BranchMay}
+use Rattle.expansion.proofs.TermsWords.{length-prefactors}
+use Rattle.expansion.proofs.WalkTurns.{from-none, from-skip, from-legal, turn-next, below-eight, emitted-none, room-first, room-then, emitted-both}
 
 unfoldable pub nodeFuel : Kind → ℕ → Path → ℕ
 nodeFuel k left p = 10 * depth (viewOf k left p) + 10
@@ -48,21 +50,21 @@ branchFuel k left p number = 10 * depth (viewOf k left p) + (8 - number)
 module _ (k : Kind) (left : List ℕ) (f : Fun) (is : f ≡ chosen k left) where
   pub choose-none : f ≡ none → Nothing ≡ lowering k left
   unfolding lowering
-  choose-none e = ap (λ (v : Fun). onFun v left) (sym e ∙ is)
+  choose-none e = ap (λ (v : Fun). loweringOf v left) (sym e ∙ is)
 
-  module _ (c : Centre) (found : f ≡ Lower c) (v : Component) (axis : v ≡ firstAxis left c) where
+  module _ (c : CentreName) (found : f ≡ Lower c) (v : AxisChoice) (axis : v ≡ firstAxis left c) where
     pub choose-nowhere : v ≡ Nowhere → Nothing ≡ lowering k left
     unfolding lowering
-    choose-nowhere e = ap (onAxis c) (sym e ∙ axis) ∙ ap (λ (w : Fun). onFun w left) (sym found ∙ is)
+    choose-nowhere e = ap (loweringAlong c) (sym e ∙ axis) ∙ ap (λ (w : Fun). loweringOf w left) (sym found ∙ is)
 
-    pub choose-at : (x : Axis) → v ≡ Along x → At c x ≡ lowering k left
+    pub choose-at : (x : Axis) → v ≡ Along x → At (record { centre = c; axis = x }) ≡ lowering k left
     unfolding lowering
-    choose-at x e = ap (onAxis c) (sym e ∙ axis) ∙ ap (λ (w : Fun). onFun w left) (sym found ∙ is)
+    choose-at x e = ap (loweringAlong c) (sym e ∙ axis) ∙ ap (λ (w : Fun). loweringOf w left) (sym found ∙ is)
 
-pub branch-none : (k : Kind) (left : ℕ) (p : Path) (c : Centre) (x : Axis) (times number at : ℕ) (out : List ℕ) → BranchMay k left p c x times number at out → times ≡ 0 → Emitted (termsBytes (termsFrom k left p c x number)) at out at out
+pub branch-none : (k : Kind) (left : ℕ) (p : Path) (c : CentreName) (x : Axis) (times number at : ℕ) (out : List ℕ) → BranchMay k left p c x times number at out → times ≡ 0 → Emitted (termsBytes (termsFrom k left p c x number)) at out at out
 branch-none k left p c x times number at out may e = emitted-none (termsFrom k left p c x number) at out (from-none k left c x times number (may .turn) p e)
 
-module _ (k : Kind) (left : ℕ) (p : Path) (c : Centre) (x : Axis) (times number at : ℕ) (out : List ℕ) (may : BranchMay k left p c x times number at out) where
+module _ (k : Kind) (left : ℕ) (p : Path) (c : CentreName) (x : Axis) (times number at : ℕ) (out : List ℕ) (may : BranchMay k left p c x times number at out) where
   module _ (some : times ≡ 0 → ⊥) where
     pub number-fits : number + 1 < 256
     number-fits = let h = below-eight k left c x times number (may .turn) some in omega arith
@@ -131,28 +133,28 @@ good-words k left p g =
 
 -- the terms below a state: its own where no order is left, none, or those from branch 0 on
 module _ (k : Kind) (left : ℕ) (p : Path) where
-  pub below-done : left ≡ 0 → termsBelow k left p ≡ termAt p ∷ []
+  pub below-done : left ≡ 0 → termsBelow k left p ≡ pathTerm p ∷ []
   unfolding termsBelow
   below-done e = expand-done (viewOf k left p) (ap (λ (w : ℕ). total (orders w)) e ∙ none-left)
 
   module _ (word : left < 16 ^ requestOrders) (some : left ≡ 0 → ⊥) (r : Lowering) (is : r ≡ lowering k (orders left)) where
-    more : termsBelow k left p ≡ over (λ (n : Next). expand (n .state)) (nexts (viewOf k left p))
+    more : termsBelow k left p ≡ inTurn (λ (n : Next). expand (n .state)) (nexts (viewOf k left p))
     unfolding termsBelow
     more = expand-more (viewOf k left p) (some-left left word some)
 
     pub below-none : r ≡ Nothing → termsBelow k left p ≡ []
-    unfolding lowering nexts over
-    below-none e = more ∙ ap (over (λ (n : Next). expand (n .state))) (by-fun (chosen k (orders left)) refl (sym is ∙ e))
+    unfolding lowering nexts inTurn
+    below-none e = more ∙ ap (inTurn (λ (n : Next). expand (n .state))) (by-fun (chosen k (orders left)) refl (sym is ∙ e))
       where
-        by-axis : (c : Centre) (v : Component) → onAxis c v ≡ Nothing → Rattle.steps.specs.States.onAxis c v (viewOf k left p) ≡ []
+        by-axis : (c : CentreName) (v : AxisChoice) → loweringAlong c v ≡ Nothing → onAxis c v (viewOf k left p) ≡ []
         by-axis c Nowhere f = refl
         by-axis c (Along x) f = absurd (clash (cc))
 
-        by-fun : (v : Fun) → chosen k (orders left) ≡ v → onFun v (orders left) ≡ Nothing → Rattle.steps.specs.States.onFun v (viewOf k left p) ≡ []
+        by-fun : (v : Fun) → chosen k (orders left) ≡ v → loweringOf v (orders left) ≡ Nothing → onFun v (viewOf k left p) ≡ []
         by-fun none f g = refl
         by-fun (Lower c) f g = by-axis c (firstAxis (orders left) c) g
 
-    module _ (c : Centre) (x : Axis) (at-them : r ≡ At c x) where
+    module _ (c : CentreName) (x : Axis) (at-them : r ≡ At (record { centre = c; axis = x })) where
       -- what a choice of both says
       record Both : Type 0 where
         picked : chosen k (orders left) ≡ Lower c
@@ -162,14 +164,15 @@ module _ (k : Kind) (left : ℕ) (p : Path) where
       unfolding lowering
       both = by-fun (chosen k (orders left)) refl (sym is ∙ at-them)
         where
-          by-axis : (d : Centre) (v : Component) → chosen k (orders left) ≡ Lower d → firstAxis (orders left) d ≡ v → onAxis d v ≡ At c x → Both
+          by-axis : (d : CentreName) (v : AxisChoice) → chosen k (orders left) ≡ Lower d → firstAxis (orders left) d ≡ v → loweringAlong d v ≡ At (record { centre = c; axis = x }) → Both
           by-axis d Nowhere p f g = absurd (clash (cc))
           by-axis d (Along y) p f g =
-              let same : d ≡ c = cc in
-              let axis : y ≡ x = cc in
-              record { picked = p ∙ ap Lower same; along = subst (λ (e : Centre). firstAxis (orders left) e ≡ Along x) same (f ∙ ap Along axis) }
+              let lowered : _≡_ {A = Lowered} (record { centre = d; axis = y }) (record { centre = c; axis = x }) = cc in
+              let same : d ≡ c = ap (λ (l : Lowered). l .centre) lowered in
+              let axis : y ≡ x = ap (λ (l : Lowered). l .axis) lowered in
+              record { picked = p ∙ ap Lower same; along = subst (λ (e : CentreName). firstAxis (orders left) e ≡ Along x) same (f ∙ ap Along axis) }
 
-          by-fun : (v : Fun) → chosen k (orders left) ≡ v → onFun v (orders left) ≡ At c x → Both
+          by-fun : (v : Fun) → chosen k (orders left) ≡ v → loweringOf v (orders left) ≡ At (record { centre = c; axis = x }) → Both
           by-fun none f g = absurd (clash (cc))
           by-fun (Lower d) f g = by-axis d (firstAxis (orders left) d) f refl g
 
@@ -177,10 +180,10 @@ module _ (k : Kind) (left : ℕ) (p : Path) where
       unfolding termsFrom nexts
       below-first =
           more
-          ∙ ap (over (λ (n : Next). expand (n .state)))
-          (ap (λ (f : Fun). Rattle.steps.specs.States.onFun f (viewOf k left p)) (both .picked) ∙ ap (λ (v : Component). Rattle.steps.specs.States.onAxis c v (viewOf k left p)) (both .along))
+          ∙ ap (inTurn (λ (n : Next). expand (n .state)))
+          (ap (λ (f : Fun). onFun f (viewOf k left p)) (both .picked) ∙ ap (λ (v : AxisChoice). onAxis c v (viewOf k left p)) (both .along))
 
-      pub first-turn : (times : ℕ) → times ≡ multiplierWord c x (orders left) (branches k c x) → Turn k left c x times 0
+      pub first-turn : (times : ℕ) → times ≡ multiplierWord c x (orders left) (branches k c x) → TurnMay k left c x times 0
       first-turn times e =
           record {
             own-centre = chosen-own k (orders left) c (both .picked);
@@ -190,35 +193,35 @@ module _ (k : Kind) (left : ℕ) (p : Path) where
           }
 
 module _ (k : Kind) (left : ℕ) (p : Path) (at : ℕ) (out : List ℕ) (may : NodeMay k left p at out) where
-  one-term : left ≡ 0 → termsBytes (termsBelow k left p) ≡ termBytes (termAt p)
+  one-term : left ≡ 0 → termsBytes (termsBelow k left p) ≡ termBytes (pathTerm p)
   unfolding termsBytes
-  one-term e = ap termsBytes (below-done k left p e) ∙ append-nil (termBytes (termAt p))
+  one-term e = ap termsBytes (below-done k left p e) ∙ append-nil (termBytes (pathTerm p))
 
-  pub node-emits : left ≡ 0 → Emits p at out
+  pub node-emits : left ≡ 0 → EmitMay p at out
   node-emits e =
       let w = good-words k left p (may .good) in
       let room = may .room .fits in
       let bytes = ap length (one-term e) in
       record { scale = w .scale-fits; boys = w .boys-fits; count = w .count-fits; room = omega arith }
 
-  pub node-emitted : (r : ℕ) (after : List ℕ) → left ≡ 0 → Emitted (termBytes (termAt p)) at out r after → Emitted (termsBytes (termsBelow k left p)) at out r after
+  pub node-emitted : (r : ℕ) (after : List ℕ) → left ≡ 0 → Emitted (termBytes (pathTerm p)) at out r after → Emitted (termsBytes (termsBelow k left p)) at out r after
   node-emitted r after e h = subst (λ (bytes : List ℕ). Emitted bytes at out r after) (sym (one-term e)) h
 
   pub inner-falls : (t : ℕ) → nodeFuel k left p ≡ t → innerFuel k left p < t
   unfolding nodeFuel innerFuel
   inner-falls t e = omega arith
 
+  pub first-falls : (t : ℕ) → innerFuel k left p ≡ t → branchFuel k left p 0 < t
+  unfolding innerFuel branchFuel
+  first-falls t e = omega arith
+
   module _ (some : left ≡ 0 → ⊥) (r : Lowering) (is : r ≡ lowering k (orders left)) where
     pub node-none : r ≡ Nothing → Emitted (termsBytes (termsBelow k left p)) at out at out
     node-none e = emitted-none (termsBelow k left p) at out (below-none k left p (may .good .word) some r is e)
 
-    module _ (c : Centre) (x : Axis) (at-them : r ≡ At c x) where
+    module _ (c : CentreName) (x : Axis) (at-them : r ≡ At (record { centre = c; axis = x })) where
       from-first : termsBelow k left p ≡ termsFrom k left p c x 0
       from-first = below-first k left p (may .good .word) some r is c x at-them
-
-      pub first-falls : (t : ℕ) → innerFuel k left p ≡ t → branchFuel k left p 0 < t
-      unfolding innerFuel branchFuel
-      first-falls t e = omega arith
 
       pub first-may : (times : ℕ) → times ≡ multiplierWord c x (orders left) (branches k c x) → BranchMay k left p c x times 0 at out
       first-may times e =

@@ -1,38 +1,41 @@
 -- One order of a centre in a word; a number that no branch has takes nothing.
 use Prim.Native.Nat.{ℕ, _+_, _*_, _-_, _%_, _^_, _≤_, zero-le}
-use mathlib.Core.Path.{_≡_, refl, sym, ap, _∙_, subst}
+use mathlib.Core.Path.{_≡_, refl, sym, ap, ap₂, _∙_, subst}
 use mathlib.Core.List.{List}
 use native.Mathlib.Nat.{one-mul}
 use native.Mathlib.Omega.{arith}
 use lib.Pow.{pow-mono, shl-exact}
 use lib.ListN.{length, getD, List·getD-eq-default}
 use Rattle.kind.specs.declared.Kind.{Kind}
-use Rattle.steps.specs.declared.Centre.{Centre}
-use Rattle.steps.specs.declared.Centre.the-variants.{A, B, C, D}
+use Rattle.steps.specs.declared.CentreName.{CentreName}
+use Rattle.steps.specs.declared.CentreName.the-variants.{A, B, C, D}
 use Rattle.steps.specs.declared.Axis.{Axis}
 use Rattle.steps.specs.declared.Move.{Move}
 use Rattle.kind.specs.declared.Kind.the-variants.{Overlap, Moment}
-use Rattle.steps.specs.Choice.{pick, place, operator, orderOf}
+use Rattle.steps.specs.Choice.{pick, orderPlace, operator, orderOf}
 use Rattle.steps.specs.Steps.{Branch, branches, moments, times, partner, other-c, other-d, overlap, kinetic, nuclear, moment, moment-on-operator, coulomb}
 use Rattle.steps.proofs.Packed.{sixteen-pow}
-use Rattle.steps.specs.Packed.{noBranch, moved, moveIn, fallWord, unit, multiplierWord}
+use Rattle.steps.specs.inner.Packed.{noBranch, moved, moveIn, fallWord, unit, multiplierWord}
 
-pub no-arm : (k : Kind) (c : Centre) (x : Axis) (bs : List Branch) (n : ℕ) (m : Move) → length bs ≤ n → m ≡ record { falls = 0; adds = 0; raises = 0; kind = k } → m ≡ moveIn k c x bs n
+pub no-arm : (k : Kind) (c : CentreName) (x : Axis) (bs : List Branch) (n : ℕ) (m : Move) → length bs ≤ n → m ≡ record { falls = 0; adds = 0; raises = 0; kind = k } → m ≡ moveIn k c x bs n
 unfolding moveIn fallWord
 no-arm k c x bs n m h e = e ∙ sym (ap (moved k c x) (List·getD-eq-default bs noBranch h))
 
-module _ (k : ℕ) (c : Centre) (x : Axis) (e : k ≡ 4 * place c x) (below : k ≤ 44) where
+module _ (k : ℕ) (c : CentreName) (x : Axis) (e : k ≡ 4 * orderPlace c x) (below : k ≤ 44) where
   shifted : 1 * 2 ^ k % 2 ^ 64 ≡ 2 ^ k
   shifted = shl-exact {a = 1} 1 k 64 (omega arith) (omega arith) ∙ one-mul (2 ^ k)
 
   pub unit-shifted : 1 * 2 ^ k % 2 ^ 64 ≡ unit c x
-  unit-shifted = shifted ∙ ap (λ (m : ℕ). 2 ^ m) e ∙ sixteen-pow (place c x)
+  unit-shifted = shifted ∙ ap (λ (m : ℕ). 2 ^ m) e ∙ sixteen-pow (orderPlace c x)
 
   pub unit-below : 1 * 2 ^ k % 2 ^ 64 ≤ 16 ^ 11
   unit-below = subst (λ (m : ℕ). m ≤ 16 ^ 11) (sym shifted) (pow-mono below)
 
+pub both-units : (c d e : CentreName) (x : Axis) (u v : ℕ) → d ≡ e → u ≡ unit c x → v ≡ unit d x → u + v ≡ unit c x + unit e x
+both-units c d e x u v h p q = ap₂ (λ (m n : ℕ). m + n) p (q ∙ ap (λ (b : CentreName). unit b x) h)
+
 -- an arm of a match on the branch's number: what falls and what is added are the branch's
-pub arm : (k : Kind) (c : Centre) (x : Axis) (bs : List Branch) (n i f p : ℕ) (m : Move) → n ≡ i → m ≡ record { falls = f; adds = p; raises = getD bs i noBranch .raises; kind = pick (getD bs i noBranch .as-overlap) Overlap k }
+pub arm : (k : Kind) (c : CentreName) (x : Axis) (bs : List Branch) (n i f p : ℕ) (m : Move) → n ≡ i → m ≡ record { falls = f; adds = p; raises = getD bs i noBranch .raises; kind = pick (getD bs i noBranch .as-overlap) Overlap k }
     → f ≡ fallWord (getD bs i noBranch .falls) c x → p ≡ getD bs i noBranch .adds → m ≡ moveIn k c x bs n
 unfolding moveIn
 arm k c x bs n i f p m e h u v = h ∙ rw (u, v, e)
@@ -44,11 +47,11 @@ past-four n m l a b c d = omega arith
 pub past-eight : (n : ℕ) → (n ≡ 0 → ⊥) → (n ≡ 1 → ⊥) → (n ≡ 2 → ⊥) → (n ≡ 3 → ⊥) → (n ≡ 4 → ⊥) → (n ≡ 5 → ⊥) → (n ≡ 6 → ⊥) → (n ≡ 7 → ⊥) → 8 ≤ n
 past-eight n a b c d e f g h = past-four n 4 (past-four n 0 zero-le a b c d) e f g h
 
-module _ (c : Centre) (x : Axis) where
+module _ (c : CentreName) (x : Axis) where
   pub branch-of : (k j : Kind) (n : ℕ) (m : Move) → k ≡ j → m ≡ moveIn j c x (branches j c x) n → m ≡ moveIn k c x (branches k c x) n
   branch-of k j n m e h = rw e h
 
-  pub moment-of : (d : Centre) (n : ℕ) (m : Move) → c ≡ d → m ≡ moveIn Moment c x (moments d x) n → m ≡ moveIn Moment c x (moments c x) n
+  pub moment-of : (d : CentreName) (n : ℕ) (m : Move) → c ≡ d → m ≡ moveIn Moment c x (moments d x) n → m ≡ moveIn Moment c x (moments c x) n
   moment-of d n m e h = h ∙ rw e
 
   pub moment-of-a : (n : ℕ) (m : Move) → c ≡ A → m ≡ moveIn Moment c x (moment c x) n → m ≡ moveIn Moment c x (moments c x) n
@@ -60,13 +63,13 @@ module _ (c : Centre) (x : Axis) where
   pub word-of : (left : List ℕ) (k j : Kind) (m : ℕ) → k ≡ j → m ≡ multiplierWord c x left (branches j c x) → m ≡ multiplierWord c x left (branches k c x)
   word-of left k j m e h = rw e h
 
-  pub moment-word-of : (left : List ℕ) (d : Centre) (m : ℕ) → c ≡ d → m ≡ multiplierWord c x left (moments d x) → m ≡ multiplierWord c x left (moments c x)
+  pub moment-word-of : (left : List ℕ) (d : CentreName) (m : ℕ) → c ≡ d → m ≡ multiplierWord c x left (moments d x) → m ≡ multiplierWord c x left (moments c x)
   moment-word-of left d m e h = h ∙ rw e
 
-  pub other-order : (left : List ℕ) (d e : Centre) (m : ℕ) → d ≡ e → m ≡ orderOf left d x → m ≡ orderOf left e x
+  pub other-order : (left : List ℕ) (d e : CentreName) (m : ℕ) → d ≡ e → m ≡ orderOf left d x → m ≡ orderOf left e x
   other-order left d e m f h = h ∙ rw f
 
-module _ (left : List ℕ) (c : Centre) (x : Axis) (p : ℕ) (less : p ≡ orderOf left c x - 1) where
+module _ (left : List ℕ) (c : CentreName) (x : Axis) (p : ℕ) (less : p ≡ orderOf left c x - 1) where
   pub on-operator-word : 1 + 0x10 * p ≡ multiplierWord c x left (moment-on-operator x)
   unfolding multiplierWord times
   on-operator-word = omega arith

@@ -7,28 +7,27 @@ use lib.ListN.{length, getD, drop}
 use Rattle.kind.specs.declared.Kind.{Kind}
 use Rattle.kind.specs.Limits.{mostL·any, requestOrders}
 use Rattle.term.specs.Terms.{Term}
-use Rattle.steps.specs.declared.Centre.{Centre}
+use Rattle.steps.specs.declared.CentreName.{CentreName}
 use Rattle.steps.specs.declared.Axis.{Axis}
 use Rattle.steps.specs.declared.Fun.{Fun}
 use Rattle.steps.specs.declared.Fun.the-variants.{Lower, Nothing as none}
-use Rattle.steps.specs.declared.Component.{Component}
-use Rattle.steps.specs.declared.Component.the-variants.{Along, Nowhere}
+use Rattle.steps.specs.declared.AxisChoice.{AxisChoice}
+use Rattle.steps.specs.declared.AxisChoice.the-variants.{Along, Nowhere}
 use Rattle.steps.specs.Choice.{orderOf, chosen, firstAxis}
 use Rattle.steps.specs.Steps.{branches}
 use Rattle.steps.specs.States.{State, Next, start, step, turns}
-use Rattle.steps.specs.Packed.{orders, multiplierWord, noBranch}
-use Rattle.histories.specs.History.{depth, over, expand}
-use Rattle.histories.proofs.Bounds.{Reached}
-use Rattle.histories.proofs.Fair.{own}
+use Rattle.steps.specs.inner.Packed.{orders, multiplierWord, noBranch}
+use Rattle.histories.specs.History.{depth, inTurn, expand}
+use Rattle.histories.specs.inner.OnTheWay.{Reached, own}
 use Rattle.roll.specs.Bytes.{termsBytes}
 use Rattle.expansion.specs.declared.Path.{Path}
 use Rattle.expansion.specs.declared.Child.{Child}
 use Rattle.expansion.specs.declared.Lowering.{Lowering}
 use Rattle.expansion.specs.declared.Lowering.the-variants.{At, Nothing}
-use Rattle.expansion.specs.View.{termAt}
+use Rattle.expansion.specs.inner.View.{pathTerm}
 
 abbrev pub viewOf : Kind → ℕ → Path → State
-viewOf k left p = record { kind = k; left = orders left; term = termAt p }
+viewOf k left p = record { kind = k; left = orders left; term = pathTerm p }
 
 -- a state on the way from a request within the limits
 pub record Good (k : Kind) (left : ℕ) (p : Path) : Type 0 where
@@ -39,7 +38,7 @@ pub record Good (k : Kind) (left : ℕ) (p : Path) : Type 0 where
   pub word : left < 16 ^ requestOrders
 
 -- a centre and an axis that are lowered, and the multipliers of the branches from a number on
-pub record Turn (k : Kind) (left : ℕ) (c : Centre) (x : Axis) (times number : ℕ) : Type 0 where
+pub record TurnMay (k : Kind) (left : ℕ) (c : CentreName) (x : Axis) (times number : ℕ) : Type 0 where
   pub own-centre : own k c ≡ true
   pub positive : 0 < orderOf (orders left) c x
   pub few : number ≤ 8
@@ -48,23 +47,23 @@ pub record Turn (k : Kind) (left : ℕ) (c : Centre) (x : Axis) (times number : 
 unfoldable pub termsBelow : Kind → ℕ → Path → List Term
 termsBelow k left p = expand (viewOf k left p)
 
-unfoldable pub termsFrom : Kind → ℕ → Path → Centre → Axis → ℕ → List Term
-termsFrom k left p c x number = over (λ (n : Next). expand (n .state)) (turns c x number (viewOf k left p) (drop number (branches k c x)))
+unfoldable pub termsFrom : Kind → ℕ → Path → CentreName → Axis → ℕ → List Term
+termsFrom k left p c x number = inTurn (λ (n : Next). expand (n .state)) (turns c x number (viewOf k left p) (drop number (branches k c x)))
 
 -- the centre and the axis that are chosen
-abbrev pub onAxis : Centre → Component → Lowering
-onAxis c Nowhere = Nothing
-onAxis c (Along x) = At c x
+abbrev pub loweringAlong : CentreName → AxisChoice → Lowering
+loweringAlong c Nowhere = Nothing
+loweringAlong c (Along x) = At (record { centre = c; axis = x })
 
-abbrev pub onFun : Fun → List ℕ → Lowering
-onFun none left = Nothing
-onFun (Lower c) left = onAxis c (firstAxis left c)
+abbrev pub loweringOf : Fun → List ℕ → Lowering
+loweringOf none left = Nothing
+loweringOf (Lower c) left = loweringAlong c (firstAxis left c)
 
 unfoldable pub lowering : Kind → List ℕ → Lowering
-lowering k left = onFun (chosen k left) left
+lowering k left = loweringOf (chosen k left) left
 
 -- the state that a branch leads to, on the way from the same request and less deep
-pub record ChildOf (k : Kind) (left : ℕ) (p : Path) (c : Centre) (x : Axis) (number : ℕ) (r : Child) : Type 0 where
+pub record ChildOf (k : Kind) (left : ℕ) (p : Path) (c : CentreName) (x : Axis) (number : ℕ) (r : Child) : Type 0 where
   pub good : Good (r .kind) (r .left) (r .path)
   pub is : viewOf (r .kind) (r .left) (r .path) ≡ step (viewOf k left p) c x (getD (branches k c x) number noBranch)
   pub down : depth (viewOf (r .kind) (r .left) (r .path)) < depth (viewOf k left p)
@@ -77,7 +76,7 @@ pub record NodeMay (k : Kind) (left : ℕ) (p : Path) (at : ℕ) (out : List ℕ
   pub good : Good k left p
   pub room : Room (termsBelow k left p) at out
 
-pub record BranchMay (k : Kind) (left : ℕ) (p : Path) (c : Centre) (x : Axis) (times number at : ℕ) (out : List ℕ) : Type 0 where
+pub record BranchMay (k : Kind) (left : ℕ) (p : Path) (c : CentreName) (x : Axis) (times number at : ℕ) (out : List ℕ) : Type 0 where
   pub good : Good k left p
-  pub turn : Turn k left c x times number
+  pub turn : TurnMay k left c x times number
   pub room : Room (termsFrom k left p c x number) at out

@@ -16,8 +16,8 @@ use Rattle.number.proofs.Writing.{length-few}
 use Rattle.roll.specs.Bytes.{termBytes, termsBytes}
 use Rattle.expansion.specs.declared.Measured.{Measured}
 use Rattle.expansion.specs.declared.Measured.the-variants.{Fits, Over}
-use Rattle.expansion.specs.Measuring.{measured, plus, inPairs, widthOf, groupOf, skipOf, termsIn, bytesIn, Small}
-use Rattle.expansion.proofs.Walking.{terms-append}
+use Rattle.expansion.specs.inner.Measuring.{measured, plus, inPairs, widthOf, groupOf, skipOf, termsIn, bytesIn, SmallMeasure}
+use Rattle.expansion.proofs.WalkTurns.{terms-append}
 
 pub measured-few : (ts : List Term) → length ts ≤ mostTerms → measured ts ≡ Fits (length ts) (length (termsBytes ts))
 unfolding measured
@@ -56,20 +56,20 @@ measured-append xs ys = first (leb (length xs) mostTerms) refl
         measured-many (xs ++ ys) (let k = leb-false (length xs) mostTerms e in let l = long in omega arith)
         ∙ sym (ap (λ (m : Measured). plus m (measured ys)) (measured-many xs (leb-false (length xs) mostTerms e)))
 
-module _ (m : Measured) (s : Small m) (a b : ℕ) (is : m ≡ Fits a b) where
+module _ (m : Measured) (s : SmallMeasure m) (a b : ℕ) (is : m ≡ Fits a b) where
   pub small-terms : a ≤ mostTerms
   small-terms = let h = s .few in let e = ap termsIn is in omega arith
 
   pub small-bytes : b ≤ 32 * a
   small-bytes = let h = s .short in let e = ap termsIn is in let f = ap bytesIn is in omega arith
 
-pub small-fits : (a b : ℕ) → a ≤ mostTerms → b ≤ 32 * a → Small (Fits a b)
+pub small-fits : (a b : ℕ) → a ≤ mostTerms → b ≤ 32 * a → SmallMeasure (Fits a b)
 small-fits a b h k = record { few = h; short = k }
 
-pub small-over : Small Over
+pub small-over : SmallMeasure Over
 small-over = record { few = omega arith; short = omega arith }
 
-pub small-none : Small (Fits 0 0)
+pub small-none : SmallMeasure (Fits 0 0)
 small-none = record { few = omega arith; short = omega arith }
 
 -- the arms of the sum
@@ -92,18 +92,18 @@ module _ (m n : Measured) where
       unfolding plus
       plus-many h = sym (ap₂ plus is too ∙ ap (λ (v : Bool). cond v (Fits (a + c) (b + d)) Over) (lt-leb (a + c) mostTerms h))
 
-      module _ (s : Small m) (t : Small n) where
+      module _ (s : SmallMeasure m) (t : SmallMeasure n) where
         pub terms-fit : a + c < 2 ^ 64
         terms-fit = let h = small-terms m s a b is in let k = small-terms n t c d too in omega arith
 
         pub bytes-fit : b + d < 2 ^ 64
         bytes-fit = let h = small-terms m s a b is in let k = small-terms n t c d too in let u = small-bytes m s a b is in let v = small-bytes n t c d too in omega arith
 
-        pub plus-small : a + c ≤ mostTerms → Small (Fits (a + c) (b + d))
+        pub plus-small : a + c ≤ mostTerms → SmallMeasure (Fits (a + c) (b + d))
         plus-small h = small-fits (a + c) (b + d) h (let u = small-bytes m s a b is in let v = small-bytes n t c d too in omega arith)
 
 -- nothing more
-pub plus-none : (m : Measured) → Small m → m ≡ plus m (Fits 0 0)
+pub plus-none : (m : Measured) → SmallMeasure m → m ≡ plus m (Fits 0 0)
 unfolding plus
 plus-none (Fits a b) s =
     let few : a + 0 ≤ mostTerms = omega (arith, small-terms (Fits a b) s a b refl) in
@@ -126,7 +126,7 @@ skip-two w times e = sym (ap (λ (v : Bool). cond v (times / 256) (times / 16)) 
 pub skip-one : (w times : ℕ) → (w ≡ 2 → ⊥) → times / 16 ≡ skipOf w times
 skip-one w times e = sym (ap (λ (v : Bool). cond v (times / 256) (times / 16)) (ne-eqb w 2 e))
 
-pub leaf-small : (scale n l : ℕ) → l ≡ lengthOf scale → n < 25 → Small (Fits 1 (l + 2 + n))
+pub leaf-small : (scale n l : ℕ) → l ≡ lengthOf scale → n < 25 → SmallMeasure (Fits 1 (l + 2 + n))
 leaf-small scale n l e h = small-fits 1 (l + 2 + n) (omega arith) (let k = length-few scale in omega arith)
 
 pub no-pair : (n : ℕ) → (n ≡ 0 → ⊥) → (n ≡ 2 → ⊥) → (n ≡ 4 → ⊥) → 1 ≡ inPairs n

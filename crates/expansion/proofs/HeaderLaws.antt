@@ -19,20 +19,23 @@ use Rattle.kind.proofs.Within.{orders-within, number-within}
 use Rattle.term.specs.Terms.{Term}
 use Rattle.number.specs.Numbers.{bytesOf, lengthOf}
 use Rattle.number.proofs.Writing.{bytes-last}
-use Rattle.steps.specs.declared.Centre.{Centre}
-use Rattle.steps.specs.declared.Centre.the-variants.{A, B, C, D}
+use Rattle.steps.specs.declared.CentreName.{CentreName}
+use Rattle.steps.specs.declared.CentreName.the-variants.{A, B, C, D}
 use Rattle.steps.specs.Choice.{sumOf}
 use Rattle.laws.specs.Total.{total}
 use Rattle.steps.specs.States.{State, start}
-use Rattle.steps.specs.Packed.{orders}
+use Rattle.steps.specs.inner.Packed.{orders}
 use Rattle.histories.specs.History.{stage, depth, expand}
-use Rattle.histories.proofs.Bounds.{Small, Reached, started}
+use Rattle.histories.specs.inner.OnTheWay.{SmallOrders, Reached}
+use Rattle.histories.proofs.Bounds.{started}
 use Rattle.roll.specs.Bytes.{termsBytes, numbersBytes, rollBytes}
 use Rattle.expansion.specs.declared.Path.{Path}
-use Rattle.expansion.specs.View.{termAt, Emitted, NumberFits}
-use Rattle.expansion.specs.Walking.{viewOf, Good, termsBelow, Room, NodeMay}
-use Rattle.expansion.specs.Expanding.{above, tooHigh, unusedSet, termsOf, rollOf, Nibbles, Packed, emptyTerm, Within, headOf, HeadMay, RollMay}
-use Rattle.expansion.proofs.Requests.{three-total, none-after}
+use Rattle.expansion.specs.inner.View.{pathTerm, Emitted, NumberMay}
+use Rattle.expansion.specs.inner.Walking.{viewOf, Good, termsBelow, Room, NodeMay}
+use Rattle.expansion.specs.Expanding.{_exceeds_, tooHigh, unusedSet, termsOf, rollOf}
+use Rattle.expansion.specs.inner.Requests.{PackMay, Packed, emptyTerm, RequestWithin, headOf, HeadMay, RollMay}
+use Rattle.laws.proofs.Totals.{three-total}
+use Rattle.expansion.proofs.RequestLaws.{none-after}
 
 -- ---- the orders of a request within the limits
 
@@ -54,10 +57,10 @@ module _ (os : List ℕ) (twelve : length os ≡ requestOrders) where
       let e = none-after os twelve in
       omega arith
 
-  two-sums : (k : Kind) → stage k ≤ 1 → (above os A || above os B) ≡ false → ltb 0 (total (drop 6 os)) ≡ false → Sums k os
+  two-sums : (k : Kind) → stage k ≤ 1 → (sumOf os A exceeds mostOrder || sumOf os B exceeds mostOrder) ≡ false → ltb 0 (total (drop 6 os)) ≡ false → Sums k os
   two-sums k s e u =
       let t = all-total in
-      let n = or-false-both (above os A) (above os B) e in
+      let n = or-false-both (sumOf os A exceeds mostOrder) (sumOf os B exceeds mostOrder) e in
       let a = ltb-false mostOrder (sumOf os A) (n .0) in
       let b = ltb-false mostOrder (sumOf os B) (n .1) in
       let r = ltb-false 0 (total (drop 6 os)) u in
@@ -72,8 +75,8 @@ module _ (os : List ℕ) (twelve : length os ≡ requestOrders) where
   sums Nuclear e u = two-sums Nuclear (omega arith) e u
   sums Moment e u =
       let t = all-total in
-      let m = or-false-both (above os A || above os B) (above os C) e in
-      let n = or-false-both (above os A) (above os B) (m .0) in
+      let m = or-false-both (sumOf os A exceeds mostOrder || sumOf os B exceeds mostOrder) (sumOf os C exceeds mostOrder) e in
+      let n = or-false-both (sumOf os A exceeds mostOrder) (sumOf os B exceeds mostOrder) (m .0) in
       let a = ltb-false mostOrder (sumOf os A) (n .0) in
       let b = ltb-false mostOrder (sumOf os B) (n .1) in
       let c = ltb-false mostOrder (sumOf os C) (m .1) in
@@ -83,9 +86,9 @@ module _ (os : List ℕ) (twelve : length os ≡ requestOrders) where
       record { of-a = a; of-b = b; of-c = c; of-d = omega arith; deep = omega arith }
   sums Coulomb e u =
       let t = all-total in
-      let q = or-false-both ((above os A || above os B) || above os C) (above os D) e in
-      let m = or-false-both (above os A || above os B) (above os C) (q .0) in
-      let n = or-false-both (above os A) (above os B) (m .0) in
+      let q = or-false-both ((sumOf os A exceeds mostOrder || sumOf os B exceeds mostOrder) || sumOf os C exceeds mostOrder) (sumOf os D exceeds mostOrder) e in
+      let m = or-false-both (sumOf os A exceeds mostOrder || sumOf os B exceeds mostOrder) (sumOf os C exceeds mostOrder) (q .0) in
+      let n = or-false-both (sumOf os A exceeds mostOrder) (sumOf os B exceeds mostOrder) (m .0) in
       let a = ltb-false mostOrder (sumOf os A) (n .0) in
       let b = ltb-false mostOrder (sumOf os B) (n .1) in
       let c = ltb-false mostOrder (sumOf os C) (m .1) in
@@ -109,20 +112,20 @@ module _ (os : List ℕ) (twelve : length os ≡ requestOrders) where
       let none = List·getD-eq-default os 0 {n = suc (suc (suc (suc (suc (suc (suc (suc (suc (suc (suc (suc i)))))))))))} (omega arith) in
       omega arith
 
-module _ (k : Kind) (os : List ℕ) (within : Within k os) where
+module _ (k : Kind) (os : List ℕ) (within : RequestWithin k os) where
   pub all-sums : Sums k os
   all-sums = sums os (within .twelve) k (within .low-sums) (within .none-unused)
 
-  pub all-small : Small os
-  unfolding Small
+  pub all-small : SmallOrders os
+  unfolding SmallOrders
   all-small = small-at os (within .twelve) k all-sums
 
-  pub within-nibbles : Nibbles os
-  unfolding Small
+  pub within-nibbles : PackMay os
+  unfolding SmallOrders
   within-nibbles = record { small = λ (i : ℕ). let h = all-small i in omega arith }
 
   -- the first state of the walk
-  module _ (left : ℕ) (word : Packed os 0 left) (p : Path) (empty : termAt p ≡ emptyTerm) where
+  module _ (left : ℕ) (word : Packed os 0 left) (p : Path) (empty : pathTerm p ≡ emptyTerm) where
     first-view : viewOf k left p ≡ start k os
     first-view = λ i. record { kind = k; left = word .holds i; term = empty i }
 
@@ -160,9 +163,9 @@ orders-add k n e = let h = orders-within k in omega arith
 pub kept-through : (out mid after : List ℕ) (i v : ℕ) → length after ≡ length mid → length mid ≡ length (set out i v) → length after ≡ length out
 kept-through out mid after i v e f = e ∙ f ∙ length-set out i v
 
-module _ (k : Kind) (os : List ℕ) (within : Within k os) where
+module _ (k : Kind) (os : List ℕ) (within : RequestWithin k os) where
   roll-bytes : rollOf k os ≡ headOf k os ++ termsBytes (termsOf k os)
-  unfolding rollOf rollBytes headOf Small
+  unfolding rollOf rollBytes headOf SmallOrders
   roll-bytes =
       ap₂ _++_ (bytes-last (numberOf k) (omega (arith, number-within k)))
       (ap (λ (l : List ℕ). l ++ (bytesOf (length (termsOf k os)) ++ termsBytes (termsOf k os)))
@@ -197,7 +200,7 @@ module _ (k : Kind) (os : List ℕ) (terms : ℕ) (out : List ℕ) (may : HeadMa
       mid-long : length mid ≡ length out
       mid-long = ap length put ∙ length-sets (set out 0 v) 1 (take n os) ∙ length-set out 0 v
 
-      pub count-fits : NumberFits terms (1 + n) mid
+      pub count-fits : NumberMay terms (1 + n) mid
       unfolding lengthOf
       count-fits =
           record {
@@ -228,7 +231,7 @@ module _ (k : Kind) (os : List ℕ) (left terms : ℕ) (out : List ℕ) (may : R
   pub head-may : HeadMay k os terms out
   head-may = record { within = may .within; count = may .count; few = may .few; room = let r = may .room in let w = whole in omega arith }
 
-  module _ (at : ℕ) (then : List ℕ) (head : Emitted (headOf k os) 0 out at then) (p : Path) (empty : termAt p ≡ emptyTerm) where
+  module _ (at : ℕ) (then : List ℕ) (head : Emitted (headOf k os) 0 out at then) (p : Path) (empty : pathTerm p ≡ emptyTerm) where
     terms-are : termsBelow k left p ≡ termsOf k os
     terms-are = first-terms k os (may .within) left (may .word) p empty
 

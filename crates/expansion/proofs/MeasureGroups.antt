@@ -15,25 +15,25 @@ use Rattle.kind.specs.declared.Kind.the-variants.{Overlap, Kinetic, Nuclear, Mo
 use Rattle.kind.specs.Limits.{mostL·any, mostTerms}
 use Rattle.term.specs.Terms.{Term}
 use Rattle.number.specs.Numbers.{lengthOf}
-use Rattle.steps.specs.declared.Centre.{Centre}
+use Rattle.steps.specs.declared.CentreName.{CentreName}
 use Rattle.steps.specs.declared.Axis.{Axis}
 use Rattle.steps.specs.declared.Move.{Move}
 use Rattle.steps.specs.Choice.{pick}
 use Rattle.steps.specs.Steps.{Falls, Branch, branches, times}
-use Rattle.steps.specs.Packed.{orders, moveIn, fallWord, noBranch, multiplierWord}
+use Rattle.steps.specs.inner.Packed.{orders, moveIn, fallWord, noBranch, multiplierWord}
 use Rattle.histories.specs.History.{depth}
 use Rattle.histories.proofs.Bounds.{scale-on-the-way}
 use Rattle.expansion.specs.declared.Path.{Path}
 use Rattle.expansion.specs.declared.Child.{Child}
 use Rattle.expansion.specs.declared.Measured.{Measured}
 use Rattle.expansion.specs.declared.Measured.the-variants.{Fits, Over}
-use Rattle.expansion.specs.View.{termAt, further, Moves}
-use Rattle.expansion.specs.Walking.{viewOf, Good, Turn, ChildOf, termsBelow, termsFrom}
-use Rattle.expansion.specs.Measuring.{measured, plus, inPairs, widthOf, groupOf, skipOf, Small, MeasureMay, Measures, MeasuresFrom}
-use Rattle.expansion.proofs.Digits.{length-prefactors, pushed-over, pushed-on}
-use Rattle.expansion.proofs.Children.{child-moves, child-held, child-of}
-use Rattle.expansion.proofs.Walking.{from-none, from-skip, from-legal, turn-next, below-eight, multiplier-here}
-use Rattle.expansion.proofs.Measuring.{measured-append, measured-few}
+use Rattle.expansion.specs.inner.View.{pathTerm, movedOn, MoveMay}
+use Rattle.expansion.specs.inner.Walking.{viewOf, Good, TurnMay, ChildOf, termsBelow, termsFrom}
+use Rattle.expansion.specs.inner.Measuring.{measured, plus, inPairs, widthOf, groupOf, skipOf, SmallMeasure, MeasureMay, Measures, MeasuresFrom}
+use Rattle.expansion.proofs.TermsWords.{length-prefactors, pushed-over, pushed-on}
+use Rattle.expansion.proofs.WalkChildren.{child-moves, child-held, child-of}
+use Rattle.expansion.proofs.WalkTurns.{from-none, from-skip, from-legal, turn-next, below-eight, multiplier-here}
+use Rattle.expansion.proofs.MeasureSizes.{measured-append, measured-few}
 
 -- a path one step further on, by whether its first word is full
 abbrev pub nextBy : Bool → Path → ℕ → ℕ → ℕ → Path
@@ -60,11 +60,11 @@ module _ (p : Path) (t r v : ℕ) where
       at true e = let h = eqb-true (p .count) 12 e in omega arith
       at false e = refl
 
-  next-term : Moves p t r v → termAt (nextPath p t r v) ≡ further (termAt p) t r v
+  next-term : MoveMay p t r v → pathTerm (nextPath p t r v) ≡ movedOn (pathTerm p) t r v
   unfolding nextPath
   next-term m = at (eqb (p .count) 12) refl
     where
-      at : (w : Bool) → eqb (p .count) 12 ≡ w → termAt (nextBy w p t r v) ≡ further (termAt p) t r v
+      at : (w : Bool) → eqb (p .count) 12 ≡ w → pathTerm (nextBy w p t r v) ≡ movedOn (pathTerm p) t r v
       at true e = pushed-over (record { scale = p .scale * t; boys = p .boys + r; count = p .count; low = p .low; high = p .high }) v (eqb-true (p .count) 12 e) (m .adds-small)
       at false e = pushed-on (record { scale = p .scale * t; boys = p .boys + r; count = p .count; low = p .low; high = p .high }) v (eqb-false (p .count) 12 e) (m .count) (m .adds-small)
 
@@ -92,7 +92,7 @@ pub record Alike (b d : Branch) : Type 0 where
 one-is-not-two : _≡_ {A = ℕ} 1 2 → ⊥
 one-is-not-two e = omega arith
 
-alike-next : (k : Kind) (c : Centre) (x : Axis) (n : ℕ) → widthOf k n ≡ 2 → Alike (getD (branches k c x) n noBranch) (getD (branches k c x) (suc n) noBranch)
+alike-next : (k : Kind) (c : CentreName) (x : Axis) (n : ℕ) → widthOf k n ≡ 2 → Alike (getD (branches k c x) n noBranch) (getD (branches k c x) (suc n) noBranch)
 unfolding widthOf branches
 alike-next Overlap c x n e = absurd (one-is-not-two e)
 alike-next Kinetic c x n e = absurd (one-is-not-two e)
@@ -110,7 +110,7 @@ alike-next Coulomb c x (suc (suc (suc zero))) e = absurd (one-is-not-two e)
 alike-next Coulomb c x (suc (suc (suc (suc zero)))) e = record { falls-alike = refl; goes-alike = refl }
 alike-next Coulomb c x (suc (suc (suc (suc (suc n))))) e = absurd (one-is-not-two e)
 
-pair-inside : (k : Kind) (c : Centre) (x : Axis) (n : ℕ) → widthOf k n ≡ 2 → suc n < length (branches k c x)
+pair-inside : (k : Kind) (c : CentreName) (x : Axis) (n : ℕ) → widthOf k n ≡ 2 → suc n < length (branches k c x)
 unfolding widthOf branches
 pair-inside Overlap c x n e = absurd (one-is-not-two e)
 pair-inside Kinetic c x n e = absurd (one-is-not-two e)
@@ -129,7 +129,7 @@ pair-inside Coulomb c x (suc (suc (suc (suc zero)))) e = omega arith
 pair-inside Coulomb c x (suc (suc (suc (suc (suc n))))) e = absurd (one-is-not-two e)
 
 -- the child of a branch along its own path
-module _ (k : Kind) (left : ℕ) (p : Path) (c : Centre) (x : Axis) (times′ number : ℕ) (good : Good k left p) (turn : Turn k left c x times′ number) (legal : times′ % 16 ≡ 0 → ⊥) where
+module _ (k : Kind) (left : ℕ) (p : Path) (c : CentreName) (x : Axis) (times′ number : ℕ) (good : Good k left p) (turn : TurnMay k left c x times′ number) (legal : times′ % 16 ≡ 0 → ⊥) where
   abbrev move : Move
   move = moveIn k c x (branches k c x) number
 
@@ -148,7 +148,7 @@ module _ (k : Kind) (left : ℕ) (p : Path) (c : Centre) (x : Axis) (times′ nu
   next-split = from-legal k left c x times′ number turn (λ (e : times′ ≡ 0). legal (omega arith)) p next legal next-of
 
 -- what a measured child says of a group
-module _ (k : Kind) (left scale count : ℕ) (c : Centre) (x : Axis) (times′ number : ℕ) (turn : Turn k left c x times′ number) (legal : times′ % 16 ≡ 0 → ⊥)
+module _ (k : Kind) (left scale count : ℕ) (c : CentreName) (x : Axis) (times′ number : ℕ) (turn : TurnMay k left c x times′ number) (legal : times′ % 16 ≡ 0 → ⊥)
     (m : Move) (is : m ≡ moveIn k c x (branches k c x) number) (first : Measured) (told : Measures (m .kind) (left - m .falls) (scale * (times′ % 16)) (count + 1) first) where
   some : times′ ≡ 0 → ⊥
   some e = legal (omega arith)
@@ -162,7 +162,7 @@ module _ (k : Kind) (left scale count : ℕ) (c : Centre) (x : Axis) (times′ n
   abbrev that : Branch
   that = getD (branches k c x) (number + 1) noBranch
 
-  pub turn-on : Turn k left c x (times′ / 16) (number + 1)
+  pub turn-on : TurnMay k left c x (times′ / 16) (number + 1)
   turn-on = turn-next k left c x times′ number turn some
 
   times-here : times′ % 16 ≡ times (this .falls) c x (orders left)
@@ -247,13 +247,13 @@ module _ (k : Kind) (left scale count : ℕ) (c : Centre) (x : Axis) (times′ n
             let w = width-one k number (eqb-false (widthOf k number) 2 e) in
             one ∙ ap (λ (n : ℕ). plus first (measured (termsFrom k left p c x (number + n)))) (sym w)
 
-  pub group-turn : Turn k left c x (skipOf (widthOf k number) times′) (number + widthOf k number)
+  pub group-turn : TurnMay k left c x (skipOf (widthOf k number) times′) (number + widthOf k number)
   group-turn = at (eqb (widthOf k number) 2) refl
     where
-      at : (v : Bool) → eqb (widthOf k number) 2 ≡ v → Turn k left c x (cond v (times′ / 256) (times′ / 16)) (number + widthOf k number)
+      at : (v : Bool) → eqb (widthOf k number) 2 ≡ v → TurnMay k left c x (cond v (times′ / 256) (times′ / 16)) (number + widthOf k number)
       at true e =
           let w = eqb-true (widthOf k number) 2 e in
-          subst₂ (Turn k left c x) (omega arith) (omega arith) (turn-next k left c x (times′ / 16) (number + 1) turn-on (some-there w))
+          subst₂ (TurnMay k left c x) (omega arith) (omega arith) (turn-next k left c x (times′ / 16) (number + 1) turn-on (some-there w))
       at false e =
           let w = width-one k number (eqb-false (widthOf k number) 2 e) in
-          subst (λ (n : ℕ). Turn k left c x (times′ / 16) (number + n)) (sym w) turn-on
+          subst (λ (n : ℕ). TurnMay k left c x (times′ / 16) (number + n)) (sym w) turn-on

@@ -14,22 +14,22 @@ use Rattle.kind.specs.declared.Kind.{Kind}
 use Rattle.kind.specs.declared.Kind.the-variants.{Overlap, Kinetic, Nuclear, Moment, Coulomb}
 use Rattle.laws.proofs.Lists.{sets-append}
 use Rattle.term.specs.Terms.{Term}
-use Rattle.steps.specs.declared.Centre.{Centre}
-use Rattle.steps.specs.declared.Centre.the-variants.{A, B, C, D}
+use Rattle.steps.specs.declared.CentreName.{CentreName}
+use Rattle.steps.specs.declared.CentreName.the-variants.{A, B, C, D}
 use Rattle.steps.specs.declared.Axis.{Axis}
 use Rattle.steps.specs.Choice.{orderOf}
 use Rattle.steps.specs.Steps.{Branch, branches, times}
 use Rattle.steps.specs.States.{State, Next, step, ifLegal, turns}
-use Rattle.steps.specs.Packed.{orders, multiplierWord, noBranch}
+use Rattle.steps.specs.inner.Packed.{orders, multiplierWord, noBranch}
 use Rattle.steps.proofs.Falling.{times-small}
-use Rattle.histories.specs.History.{over, expand}
+use Rattle.histories.specs.History.{inTurn, expand}
 use Rattle.roll.specs.Bytes.{termBytes, termsBytes}
 use Rattle.expansion.specs.declared.Path.{Path}
 use Rattle.expansion.specs.declared.Child.{Child}
-use Rattle.expansion.specs.View.{Emitted}
-use Rattle.expansion.specs.Walking.{viewOf, Turn, ChildOf, termsBelow, termsFrom, Room}
+use Rattle.expansion.specs.inner.View.{Emitted}
+use Rattle.expansion.specs.inner.Walking.{viewOf, TurnMay, ChildOf, termsBelow, termsFrom, Room}
 
-few-branches : (k : Kind) (c : Centre) (x : Axis) → length (branches k c x) ≤ 8
+few-branches : (k : Kind) (c : CentreName) (x : Axis) → length (branches k c x) ≤ 8
 unfolding branches
 few-branches Overlap c x = omega arith
 few-branches Kinetic c x = omega arith
@@ -40,7 +40,7 @@ few-branches Moment C x = omega arith
 few-branches Moment D x = omega arith
 few-branches Coulomb c x = omega arith
 
-no-turns : (c : Centre) (x : Axis) (k : ℕ) (s : State) (bs : List Branch) → multiplierWord c x (s .left) bs ≡ 0 → turns c x k s bs ≡ []
+no-turns : (c : CentreName) (x : Axis) (k : ℕ) (s : State) (bs : List Branch) → multiplierWord c x (s .left) bs ≡ 0 → turns c x k s bs ≡ []
 unfolding multiplierWord turns
 no-turns c x k s [] e = refl
 no-turns c x k s (b ∷ bs) e =
@@ -52,10 +52,10 @@ no-turns c x k s (b ∷ bs) e =
     rest : multiplierWord c x (s .left) bs ≡ 0
     rest = omega arith
 
-module _ (k : Kind) (left : ℕ) (c : Centre) (x : Axis) (times′ number : ℕ) (turn : Turn k left c x times′ number) where
+module _ (k : Kind) (left : ℕ) (c : CentreName) (x : Axis) (times′ number : ℕ) (turn : TurnMay k left c x times′ number) where
   pub from-none : (p : Path) → times′ ≡ 0 → termsFrom k left p c x number ≡ []
-  unfolding termsFrom over
-  from-none p e = ap (over (λ (n : Next). expand (n .state))) (no-turns c x number (viewOf k left p) (drop number (branches k c x)) (sym (turn .is) ∙ e))
+  unfolding termsFrom inTurn
+  from-none p e = ap (inTurn (λ (n : Next). expand (n .state))) (no-turns c x number (viewOf k left p) (drop number (branches k c x)) (sym (turn .is) ∙ e))
 
   -- the branch of this number
   abbrev this : Branch
@@ -87,7 +87,7 @@ module _ (k : Kind) (left : ℕ) (c : Centre) (x : Axis) (times′ number : ℕ)
     word-next : times′ / 16 ≡ multiplierWord c x (orders left) (drop (number + 1) (branches k c x))
     word-next = let h = word-here in let l = times-small (this .falls) c x left in omega arith
 
-    pub turn-next : Turn k left c x (times′ / 16) (number + 1)
+    pub turn-next : TurnMay k left c x (times′ / 16) (number + 1)
     turn-next = record { own-centre = turn .own-centre; positive = turn .positive; few = let h = below-eight in omega arith; is = word-next }
 
     turns-here : (p : Path) → turns c x number (viewOf k left p) (drop number (branches k c x)) ≡ ifLegal (times (this .falls) c x (orders left)) (record { number = number; state = step (viewOf k left p) c x this })
@@ -101,14 +101,14 @@ module _ (k : Kind) (left : ℕ) (c : Centre) (x : Axis) (times′ number : ℕ)
     pub from-skip : (p : Path) → times′ % 16 ≡ 0 → termsFrom k left p c x (number + 1) ≡ termsFrom k left p c x number
     unfolding termsFrom
     from-skip p e =
-        sym (ap (over (λ (n : Next). expand (n .state)))
+        sym (ap (inTurn (λ (n : Next). expand (n .state)))
         (turns-here p ∙ ap (λ (v : ℕ). ifLegal v (record { number = number; state = step (viewOf k left p) c x this }) (turns c x (number + 1) (viewOf k left p) (drop (number + 1) (branches k c x)))) (sym multiplier-here ∙ e)))
 
     pub from-legal : (p : Path) (r : Child) → (times′ % 16 ≡ 0 → ⊥) → ChildOf k left p c x number r → termsFrom k left p c x number ≡ termsBelow (r .kind) (r .left) (r .path) ++ termsFrom k left p c x (number + 1)
-    unfolding termsFrom termsBelow over
+    unfolding termsFrom termsBelow inTurn
     from-legal p r ne child =
-        ap (over (λ (n : Next). expand (n .state))) (turns-here p ∙ taken (times (this .falls) c x (orders left)) (λ (e : times (this .falls) c x (orders left) ≡ 0). ne (multiplier-here ∙ e)))
-        ∙ ap (λ (s : State). expand s ++ over (λ (n : Next). expand (n .state)) (turns c x (number + 1) (viewOf k left p) (drop (number + 1) (branches k c x)))) (sym (child .is))
+        ap (inTurn (λ (n : Next). expand (n .state))) (turns-here p ∙ taken (times (this .falls) c x (orders left)) (λ (e : times (this .falls) c x (orders left) ≡ 0). ne (multiplier-here ∙ e)))
+        ∙ ap (λ (s : State). expand s ++ inTurn (λ (n : Next). expand (n .state)) (turns c x (number + 1) (viewOf k left p) (drop (number + 1) (branches k c x)))) (sym (child .is))
       where
         taken : (v : ℕ) → (v ≡ 0 → ⊥) → ifLegal v (record { number = number; state = step (viewOf k left p) c x this }) (turns c x (number + 1) (viewOf k left p) (drop (number + 1) (branches k c x)))
             ≡ record { number = number; state = step (viewOf k left p) c x this } ∷ turns c x (number + 1) (viewOf k left p) (drop (number + 1) (branches k c x))

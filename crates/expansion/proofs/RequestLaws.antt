@@ -13,40 +13,22 @@ use Rattle.kind.specs.declared.Kind.{Kind}
 use Rattle.kind.specs.declared.Kind.the-variants.{Overlap, Kinetic, Nuclear, Moment, Coulomb}
 use Rattle.kind.specs.Kinds.{ordersOf}
 use Rattle.kind.specs.Limits.{mostOrder, requestOrders}
-use Rattle.steps.specs.declared.Centre.{Centre}
+use Rattle.steps.specs.declared.CentreName.{CentreName}
 use Rattle.steps.specs.Choice.{sumOf}
 use Rattle.laws.specs.Total.{total}
-use Rattle.steps.specs.Packed.{nibbles}
-use Rattle.expansion.specs.Expanding.{above, tooHigh, unusedSet, Nibbles, Packed}
+use Rattle.laws.proofs.Totals.{three-total}
+use Rattle.steps.specs.inner.Packed.{nibbles}
+use Rattle.expansion.specs.Expanding.{_exceeds_, tooHigh, unusedSet}
+use Rattle.expansion.specs.inner.Requests.{PackMay, Packed}
 
-pub sum-at : (orders : List ℕ) (c d : Centre) (v : ℕ) → c ≡ d → v ≡ sumOf orders d → v ≡ sumOf orders c
+pub sum-at : (orders : List ℕ) (c d : CentreName) (v : ℕ) → c ≡ d → v ≡ sumOf orders d → v ≡ sumOf orders c
 sum-at orders c d v e h = h ∙ ap (sumOf orders) (sym e)
 
-pub above-at : (orders : List ℕ) (c : Centre) (v : ℕ) → v ≡ sumOf orders c → ltb mostOrder v ≡ above orders c
-above-at orders c v e = ap (ltb mostOrder) e
-
-pub or-first : (x a b : Bool) → x ≡ a → x ≡ true → true ≡ (a || b)
-or-first x a b e t = ap (λ (v : Bool). v || b) (sym t ∙ e)
-
-pub or-then : (x y a b : Bool) → x ≡ a → x ≡ false → y ≡ b → y ≡ (a || b)
-or-then x y a b e f h = h ∙ ap (λ (v : Bool). v || b) (sym f ∙ e)
+pub sum-exceeds : (orders : List ℕ) (c : CentreName) (v : ℕ) → v ≡ sumOf orders c → ltb mostOrder v ≡ (sumOf orders c exceeds mostOrder)
+sum-exceeds orders c v e = ap (ltb mostOrder) e
 
 pub high-at : (k j : Kind) (orders : List ℕ) (r : Bool) → k ≡ j → r ≡ tooHigh j orders → r ≡ tooHigh k orders
 high-at k j orders r e h = h ∙ ap (λ (i : Kind). tooHigh i orders) (sym e)
-
-drop-total : (l : List ℕ) (i : ℕ) → total (drop i l) ≡ getD l i 0 + total (drop (suc i) l)
-unfolding total
-drop-total [] zero = refl
-drop-total [] (suc i) = refl
-drop-total (n ∷ l) zero = refl
-drop-total (n ∷ l) (suc i) = drop-total l i
-
-pub three-total : (l : List ℕ) (i : ℕ) → total (drop i l) ≡ getD l i 0 + getD l (i + 1) 0 + getD l (i + 2) 0 + total (drop (i + 3) l)
-three-total l i =
-    let a = drop-total l i in
-    let b = drop-total l (suc i) in
-    let c = drop-total l (suc (suc i)) in
-    simp (add-one, add-two, add-three) (omega arith)
 
 module _ (orders : List ℕ) (twelve : length orders ≡ requestOrders) where
   pub none-after : total (drop requestOrders orders) ≡ 0
@@ -82,7 +64,7 @@ module _ (orders : List ℕ) (twelve : length orders ≡ requestOrders) where
 pub set-at : (k : Kind) (orders : List ℕ) (v : ℕ) → v ≡ total (drop (ordersOf k) orders) → ltb 0 v ≡ unusedSet k orders
 set-at k orders v e = ap (ltb 0) e
 
-module _ (orders : List ℕ) (small : Nibbles orders) (twelve : length orders ≡ requestOrders) (i word : ℕ) (packed : Packed orders i word) (some : 0 < i) where
+module _ (orders : List ℕ) (small : PackMay orders) (twelve : length orders ≡ requestOrders) (i word : ℕ) (packed : Packed orders i word) (some : 0 < i) where
   left-over : 16 ^ (requestOrders - (i - 1)) ≡ 16 ^ (requestOrders - i) * 16
   left-over = ap (λ (n : ℕ). 16 ^ n) (let h = packed .within in the-next) ∙ pow-suc 16 (requestOrders - i)
     where

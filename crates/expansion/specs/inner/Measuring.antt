@@ -9,13 +9,13 @@ use Rattle.kind.specs.declared.Kind.{Kind}
 use Rattle.kind.specs.declared.Kind.the-variants.{Overlap, Kinetic, Nuclear, Moment, Coulomb}
 use Rattle.kind.specs.Limits.{mostTerms}
 use Rattle.term.specs.Terms.{Term}
-use Rattle.steps.specs.declared.Centre.{Centre}
+use Rattle.steps.specs.declared.CentreName.{CentreName}
 use Rattle.steps.specs.declared.Axis.{Axis}
 use Rattle.roll.specs.Bytes.{termsBytes}
 use Rattle.expansion.specs.declared.Path.{Path}
 use Rattle.expansion.specs.declared.Measured.{Measured}
 use Rattle.expansion.specs.declared.Measured.the-variants.{Fits, Over}
-use Rattle.expansion.specs.Walking.{Good, termsBelow, termsFrom}
+use Rattle.expansion.specs.inner.Walking.{Good, termsBelow, termsFrom}
 
 unfoldable pub measured : List Term → Measured
 measured ts = cond (leb (length ts) mostTerms) (Fits (length ts) (length (termsBytes ts))) Over
@@ -52,7 +52,7 @@ bytesIn (Fits a b) = b
 bytesIn Over = 0
 
 -- no term takes more than 32 bytes
-pub record Small (m : Measured) : Type 0 where
+pub record SmallMeasure (m : Measured) : Type 0 where
   pub few : termsIn m ≤ mostTerms
   pub short : bytesIn m ≤ 32 * termsIn m
 
@@ -66,8 +66,8 @@ pub record MeasureMay (k : Kind) (left scale count : ℕ) : Type 0 where
 -- what is told holds of every such path
 pub record Measures (k : Kind) (left scale count : ℕ) (r : Measured) : Type 0 where
   pub is : (p : Path) → p .scale ≡ scale → p .count ≡ count → Good k left p → r ≡ measured (termsBelow k left p)
-  pub small-enough : Small r
+  pub small-enough : SmallMeasure r
 
-pub record MeasuresFrom (k : Kind) (left scale count : ℕ) (c : Centre) (x : Axis) (number : ℕ) (r : Measured) : Type 0 where
+pub record MeasuresFrom (k : Kind) (left scale count : ℕ) (c : CentreName) (x : Axis) (number : ℕ) (r : Measured) : Type 0 where
   pub is : (p : Path) → p .scale ≡ scale → p .count ≡ count → Good k left p → r ≡ measured (termsFrom k left p c x number)
-  pub small-enough : Small r
+  pub small-enough : SmallMeasure r

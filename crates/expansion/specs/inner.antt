@@ -1,0 +1,5 @@
+-- What the contracts of inner functions speak of, beside what 01 says.
+pub mod Measuring
+pub mod Requests
+pub mod View
+pub mod Walking

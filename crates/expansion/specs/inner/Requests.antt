@@ -1,0 +1,70 @@
+-- A request of a known kind: its limits kept, its orders in a word, the head of its roll, and room for it.
+use Prim.Native.Nat.{ℕ, _+_, _*_, _-_, _^_, _≤_, _<_}
+use mathlib.Core.Path.{_≡_}
+use mathlib.Core.Bool.{false}
+use mathlib.Core.List.{List, [], _∷_, _++_}
+use lib.ListN.{length, getD, take, drop}
+use Rattle.kind.specs.declared.Kind.{Kind}
+use Rattle.kind.specs.declared.Named.the-variants.{Is}
+use Rattle.kind.specs.Kinds.{numberOf, ordersOf}
+use Rattle.kind.specs.Limits.{mostTerms, requestOrders}
+use Rattle.term.specs.Terms.{Term}
+use Rattle.number.specs.Numbers.{bytesOf}
+use Rattle.steps.specs.inner.Packed.{nibbles}
+use Rattle.roll.specs.Bytes.{termsBytes}
+use Rattle.expansion.specs.declared.Expanded.{Expanded}
+use Rattle.expansion.specs.Expanding.{tooHigh, unusedSet, termsOf, rollOf, kindTold, namedOut}
+
+-- what a request of a known kind is answered, and what the lent bytes then hold
+pub record KnownTold (k : Kind) (orders before : List ℕ) (begin : ℕ) (r : Expanded) (after : List ℕ) : Type 0 where
+  pub answer : r ≡ kindTold k orders before begin
+  pub out : after ≡ namedOut (kindTold k orders before begin) (Is k) orders before begin
+
+-- orders that fit four bits each
+pub record PackMay (orders : List ℕ) : Type 0 where
+  pub small : (i : ℕ) → getD orders i 0 < 16
+
+-- a word that holds the orders from a place on
+pub record Packed (orders : List ℕ) (i word : ℕ) : Type 0 where
+  pub within : i ≤ requestOrders
+  pub holds : nibbles (requestOrders - i) word ≡ drop i orders
+  pub below : word < 16 ^ (requestOrders - i)
+
+-- a term with nothing done yet
+abbrev pub emptyTerm : Term
+emptyTerm = record { scale = 1; boys = 0; prefactors = [] }
+
+-- a request within the limits, its word and its term count, and room for its roll
+pub record RequestWithin (k : Kind) (orders : List ℕ) : Type 0 where
+  pub low-sums : tooHigh k orders ≡ false
+  pub none-unused : unusedSet k orders ≡ false
+  pub twelve : length orders ≡ requestOrders
+
+-- what stands before the terms
+unfoldable pub headOf : Kind → List ℕ → List ℕ
+headOf k orders = numberOf k ∷ (take (ordersOf k) orders ++ bytesOf (length (termsOf k orders)))
+
+pub record HeadMay (k : Kind) (orders : List ℕ) (terms : ℕ) (out : List ℕ) : Type 0 where
+  pub within : RequestWithin k orders
+  pub count : terms ≡ length (termsOf k orders)
+  pub few : terms ≤ mostTerms
+  pub room : length (headOf k orders) ≤ length out
+
+pub record RollMay (k : Kind) (orders : List ℕ) (left terms : ℕ) (out : List ℕ) : Type 0 where
+  pub within : RequestWithin k orders
+  pub word : Packed orders 0 left
+  pub count : terms ≡ length (termsOf k orders)
+  pub few : terms ≤ mostTerms
+  pub room : length (rollOf k orders) ≤ length out
+
+pub record RequestMay (k : Kind) (orders : List ℕ) (begin : ℕ) (out : List ℕ) : Type 0 where
+  pub within : RequestWithin k orders
+  pub begins : begin ≤ length out
+
+pub record SizedMay (k : Kind) (orders : List ℕ) (left terms bytes begin : ℕ) (out : List ℕ) : Type 0 where
+  pub request : RequestMay k orders begin out
+  pub word : Packed orders 0 left
+  pub count : terms ≡ length (termsOf k orders)
+  pub few : terms ≤ mostTerms
+  pub long : bytes ≡ length (termsBytes (termsOf k orders))
+  pub short : bytes ≤ 32 * terms
