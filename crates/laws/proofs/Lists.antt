@@ -54,6 +54,10 @@ getD-in [] i d h = absurd (omega arith)
 getD-in (y ∷ l) zero d h = List·Memᴰ·head refl
 getD-in (y ∷ l) (suc i) d h = List·Memᴰ·tail (getD-in l i d (omega arith))
 
+pub length-zero : (l : List ℕ) → length l ≡ 0 → l ≡ []
+length-zero [] e = refl
+length-zero (x ∷ l) e = absurd (omega arith)
+
 -- ---- lists of lists
 
 pub flatten-append : (xs ys : List (List ℕ)) → flatten (xs ++ ys) ≡ flatten xs ++ flatten ys
