@@ -61,6 +61,10 @@ in-range [] i h = absurd (omega arith)
 in-range (n ∷ ns) zero h = omega arith
 in-range (n ∷ ns) (suc i) h = let k = in-range ns i h in omega arith
 
+pub length-zero : (l : List ℕ) → length l ≡ 0 → l ≡ []
+length-zero [] e = refl
+length-zero (x ∷ l) e = absurd (omega arith)
+
 -- ---- lists of lists
 
 pub flatten-append : (xs ys : List (List ℕ)) → flatten (xs ++ ys) ≡ flatten xs ++ flatten ys
