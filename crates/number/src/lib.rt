@@ -3,7 +3,7 @@ ghost use Prim.Native.Nat.{ℕ, _+_, _<_, _≤_, _^_};
 ghost use mathlib.Core.Path.{_≡_};
 ghost use lib.ListN.{length, drop};
 ghost use lib.Seq.{sets};
-ghost use Rattle.number.specs.Numbers.{bytesOf, lengthOf, above, higher, readAt, refusalOf, Wrote};
+ghost use Rattle.number.specs.Numbers.{oneByte, bytesOf, lengthOf, above, higher, readAt, refusalOf, Wrote};
 
 // What stands at a place: a number and the place after it, or why there is none.
 pub enum Number {
@@ -19,10 +19,18 @@ pub enum Written {
     NoRoom,
 }
 
-fn wide(x: u8) -> u32
-    ensures { λ r. ⌜ (r ≡ x) × (r < 256) ⌝ }
+// A byte as a number of a roll.
+pub fn wide(x: u8) -> u32
+    ensures { λ r. ⌜ r ≡ x ⌝ }
 {
     x as u32
+}
+
+// Whether a number is one byte; as a byte, whether it ends a number.
+pub fn one_byte(n: u32) -> bool
+    ensures { λ r. ⌜ r ≡ oneByte n ⌝ }
+{
+    n < 128
 }
 
 // A group below the number that the bytes after it make.
@@ -42,7 +50,7 @@ fn above(low: u32, high: Number) -> Number
 // The byte at `next`, after a number's first; `more` bytes may follow it.
 fn higher(s: &[u8], next: usize, more: usize) -> Number
     requires { ⌜ more ≤ 3 ⌝ }
-    ensures { λ r. ⌜ r ≡ higher more (drop next (now (s .entry))) next ⌝ }
+    ensures { λ r. ⌜ r ≡ higher (drop next (now (s .entry))) next more ⌝ }
 {
     if s.len() <= next {
         return Number::Ended;
@@ -71,10 +79,11 @@ pub fn read(s: &[u8], at: usize) -> Number
         return Number::Ended;
     }
     let first = wide(s[at]);
-    if first < 128 {
-        return Number::Is(first, at + 1);
+    let next = at + 1;
+    if one_byte(first) {
+        return Number::Is(first, next);
     }
-    above(first % 128, higher(s, at + 1, 3))
+    above(first % 128, higher(s, next, 3))
 }
 
 // The refusal that a number's reason stands for: the one place that says so.
@@ -93,7 +102,7 @@ pub fn refusal_of(n: Number) -> u8
 pub fn length(n: u32) -> usize
     ensures { λ r. ⌜ r ≡ lengthOf n ⌝ }
 {
-    if n < 128 {
+    if one_byte(n) {
         return 1;
     }
     if n < 16384 {
