@@ -50,9 +50,9 @@ pub record ListingTold (roll before : List ℕ) (start : ℕ) (r : Listed) (afte
   pub out : after ≡ listingOut roll before start
 
 -- the number that 01 gives each case, 0 for success, and its place
-abbrev pub numberOf : Listed → ℕ
-numberOf (listed.Text n) = 0
-numberOf (listed.Refused n place) = n
+abbrev pub refusalOf : Listed → ℕ
+refusalOf (listed.Text n) = 0
+refusalOf (listed.Refused n place) = n
 
 abbrev pub placeOf : Listed → ℕ
 placeOf (listed.Text n) = 0

@@ -26,5 +26,5 @@ unfoldable pub rollBytes : Kind → List ℕ → List Term → List ℕ
 rollBytes k orders ts = bytesOf (numberOf k) ++ (numbersBytes orders ++ (bytesOf (length ts) ++ termsBytes ts))
 
 -- the term that the code holds: no count goes past the prefactors' places
-abbrev pub seen : Held → Term
-seen t = record { scale = t .scale; boys = t .boys; prefactors = take (t .count) (t .prefactors) }
+abbrev pub fromHeld : Held → Term
+fromHeld t = record { scale = t .scale; boys = t .boys; prefactors = take (t .count) (t .prefactors) }

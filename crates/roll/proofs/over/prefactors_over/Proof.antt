@@ -1,5 +1,5 @@
 -- `prefactors_over` meets its contract: bytes that are all small are the prefactors. Assumes nothing.
-use Rattle.roll.proofs.Going.{plain-room, plain-went}
+use Rattle.roll.proofs.OverLaws.{plain-room, plain-went}
 use mathlib.Core.Path.{refl}
 use borrow.Author.Needs.{needs}
 use Rattle.roll.proofs.over.prefactors_over.Statement.{statement}
