@@ -13,7 +13,7 @@ use Rattle.term.specs.declared.Term.{Term as Held}
 use Rattle.text.specs.declared.Written.{Written}
 use Rattle.text.specs.declared.Written.the-variants.{To}
 use Rattle.text.specs.Digits.{decimalOf}
-use Rattle.roll.specs.Bytes.{fromHeld}
+use Rattle.roll.specs.inner.Held.{fromHeld}
 use Rattle.listing.specs.Text.{blank, colon, feed, kindWord, ordersWord, termsWord, refusedWord, atWord, afterBlanks, kindText, headLine, termNumbers, termLine, refusalText}
 use Rattle.listing.specs.inner.Saying.{Said}
 use Rattle.listing.proofs.Saying.{Saying, said-both, saying-more, saying-done}

@@ -10,7 +10,6 @@ use lib.Seq.{sets}
 use Rattle.laws.proofs.Parts.{part-all, part-put}
 use Rattle.text.specs.declared.Written.{Written}
 use Rattle.text.specs.declared.Written.the-variants.{To, NoRoom}
-use Rattle.listing.specs.declared.Listed.{Listed}
 use Rattle.listing.specs.declared.Listed.the-variants.{Text, Refused}
 use Rattle.listing.specs.inner.Saying.{Said}
 use Rattle.listing.specs.Answers.{textAt, textOut, TextTold}

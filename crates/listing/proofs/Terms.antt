@@ -2,7 +2,6 @@
 use Prim.Native.Nat.{ℕ, _+_, _-_, _^_, _≤_, _<_}
 use native.Mathlib.Omega.{arith}
 use mathlib.Core.Path.{_≡_, refl, ap, sym, _∙_}
-use mathlib.Core.Bool.{Bool, true, false, cond}
 use mathlib.Core.List.{List, [], _∷_, _++_}
 use borrow.Author.Tests.{ne-eqb}
 use lib.Dec.{eqb}
@@ -16,7 +15,7 @@ use Rattle.term.specs.Terms.{Term, held}
 use Rattle.text.specs.declared.Written.{Written}
 use Rattle.roll.specs.declared.cursor.Cursor.{Cursor}
 use Rattle.roll.specs.declared.cursor.Step.{Step}
-use Rattle.roll.specs.Bytes.{fromHeld}
+use Rattle.roll.specs.inner.Held.{fromHeld}
 use Rattle.roll.specs.Reading.{Reading, got, refused, andThen, before, termAt, termsAt}
 use Rattle.roll.specs.Cursor.{stepped, stepOf}
 use Rattle.roll.specs.inner.Judged.{Honest}

@@ -6,7 +6,7 @@ ghost use mathlib.Core.List.{_++_};
 ghost use Prim.Native.Nat.{_≤_};
 ghost use lib.ListN.{length};
 ghost use Rattle.text.specs.Digits.{decimalOf};
-ghost use Rattle.roll.specs.Bytes.{fromHeld};
+ghost use Rattle.roll.specs.inner.Held.{fromHeld};
 ghost use Rattle.roll.specs.inner.Judged.{Judged};
 ghost use Rattle.listing.specs.Text.{afterBlanks, kindText, headLine, termNumbers, termLine, termLines, refusalText};
 ghost use Rattle.listing.specs.inner.Saying.{advanced, Said, Kept, leftOf, Readable, textOf};

@@ -1,20 +1,18 @@
 -- What was written reads back, and what reads is the only writing of its number.
 -- Both go group by group, as the definitions do.
-use Prim.Native.Nat.{ℕ, zero, suc, zero-le, _+_, _*_, _/_, _%_, _^_, _≤_, _<_}
+use Prim.Native.Nat.{ℕ, zero, suc, _+_, _*_, _/_, _%_, _^_, _≤_, _<_}
 use mathlib.Core.Path.{_≡_, refl, sym, ap, _∙_}
 use mathlib.Core.List.{List, [], _∷_, _++_, append-assoc}
 use mathlib.Core.Bool.{Bool, true, false, cond}
 use mathlib.Core.Logic.{⊎-elim}
-use native.Mathlib.Numerals.{add-one}
 use native.Mathlib.Omega.{arith}
 use native.Mathlib.Nat.{pow-suc, pos-of-ne-zero}
 use borrow.Author.Tests.{lt-ltb, le-ltb, ltb-true, ltb-false, ne-eqb}
 use lib.Dec.{ltb, lit<}
-use lib.ListN.{length, getD, drop, length-append, length-drop, drop-of-length-le, List·getD-eq-default}
-use lib.Seq.{drop-append-seam, drop-append-add, drop-drop, getD-drop}
+use lib.ListN.{length, drop, length-append, length-drop}
+use lib.Seq.{drop-append-seam, drop-drop, getD-drop}
 use Rattle.laws.proofs.Cases.{clash}
-use Rattle.number.specs.declared.Number.{Number}
-use Rattle.number.specs.declared.Number.the-variants.{Is, Ended, NotShortest, TooLarge}
+use Rattle.number.specs.declared.Number.the-variants.{Is}
 use Rattle.number.specs.Numbers.{groups, bytesOf, lengthOf, above, higher, readFrom, readAt, Bytes}
 use Rattle.number.proofs.Reading.{none-ended, cons-last, cons-more, fifth-is, higher-is, higher-below, above-is, Ends}
 use Rattle.number.proofs.Writing.{groups-last, groups-more, length-some}

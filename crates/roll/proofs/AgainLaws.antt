@@ -4,7 +4,7 @@
 use Prim.Native.Nat.{ℕ, zero, suc, _+_, _-_, _<_, _≤_, min}
 use mathlib.Core.Path.{_≡_, refl, sym, ap, _∙_}
 use mathlib.Core.Bool.{Bool, true, false, true≢false}
-use mathlib.Core.List.{List, [], _∷_, _++_}
+use mathlib.Core.List.{List, [], _∷_}
 use native.Mathlib.Nat.{add-zero, min-eq-left, min-le-right, add-suc}
 use native.Mathlib.Omega.{arith}
 use borrow.Author.Tests.{leb-true, ltb-true}
@@ -26,7 +26,7 @@ use Rattle.roll.specs.declared.again.Seen.{Seen}
 use Rattle.roll.specs.declared.again.Head.{Head}
 use Rattle.roll.specs.declared.cursor.Cursor.{Cursor}
 use Rattle.roll.specs.declared.header.Opened.{Opened}
-use Rattle.roll.specs.Reading.{got, refused, withinAt, before, prefactorsAt, termAt, termsAt}
+use Rattle.roll.specs.Reading.{got, withinAt, before, prefactorsAt, termAt, termsAt}
 use Rattle.roll.specs.inner.Judged.{Judged}
 use Rattle.roll.specs.inner.Again.{seenOf, seenAt, headAt, Short, between, headTerm, termsAgain}
 use Rattle.roll.proofs.FieldLaws.{taken}

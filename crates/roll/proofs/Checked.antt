@@ -3,15 +3,13 @@ use Prim.Native.Nat.{ℕ}
 use mathlib.Core.Path.{_≡_, refl, sym, ap, _∙_}
 use mathlib.Core.List.{List}
 use lib.ListN.{length}
-use native.Mathlib.Omega.{arith}
 use Rattle.laws.proofs.Cases.{clash}
 use Rattle.term.specs.Terms.{Term}
 use Rattle.roll.specs.declared.header.Opening.the-variants as opening
 use Rattle.roll.specs.declared.header.Opened.{Opened}
 use Rattle.laws.specs.Total.{total}
 use Rattle.roll.specs.Reading.{Reading, got, refused, andThen, termsAt, Header, headerAt, Roll, rollAt}
-use Rattle.roll.specs.Header.{refusedOpened, cursorAt, heldHeader, openOf, judged, checked, checkOf}
-use Rattle.roll.specs.declared.cursor.Cursor.{Cursor}
+use Rattle.roll.specs.Header.{cursorAt, heldHeader, openOf, judged, checked, checkOf}
 use Rattle.roll.specs.inner.Judged.{Judged}
 use Rattle.roll.proofs.Filling.{andThen-is}
 use Rattle.roll.proofs.JudgeLaws.{terms-count}

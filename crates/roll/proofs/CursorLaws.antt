@@ -1,11 +1,11 @@
 -- The functions of src/cursor.rt: a step, a law for each way out.
 use Prim.Native.Nat.{ℕ, _-_, _≤_, _<_}
 use mathlib.Core.Path.{_≡_, refl, sym, ap, _∙_}
-use mathlib.Core.Bool.{Bool, true, false, cond, _||_}
+use mathlib.Core.Bool.{true, false}
 use mathlib.Core.List.{List}
 use native.Mathlib.Omega.{arith}
 use borrow.Author.Tests.{lt-ltb, le-ltb, eq-eqb, ne-eqb}
-use lib.Dec.{ltb, eqb}
+use lib.Dec.{ltb}
 use lib.ListN.{length}
 use Rattle.kind.specs.Kinds.{kindOf, mostL}
 use Rattle.kind.specs.declared.Kind.{Kind}
@@ -19,7 +19,7 @@ use Rattle.roll.specs.declared.cursor.Cursor.{Cursor}
 use Rattle.roll.specs.declared.cursor.Found.the-variants as found
 use Rattle.roll.specs.declared.cursor.Step.{Step}
 use Rattle.roll.specs.Reading.{Reading, got, refused, termAt}
-use Rattle.roll.specs.Cursor.{noCursor, refusedStep, endStep, stepped, endOr, stepWith, stepAs, stepOf}
+use Rattle.roll.specs.Cursor.{noCursor, refusedStep, stepped, endOr, stepAs, stepOf}
 use Rattle.roll.specs.inner.Held.{heldTerm, steppedFrom, steppedOver}
 
 pub step-none : (r place : ℕ) (t : Held) (n : Cursor) → t ≡ noTerm → n ≡ noCursor → _≡_ {A = Step} (record { found = found.Refused r place; term = t; next = n }) (refusedStep r place)

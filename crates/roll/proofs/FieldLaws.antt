@@ -1,5 +1,5 @@
 -- A number within its limits: a law for each way out of `within`, and what its answers say.
-use Prim.Native.Nat.{ℕ, zero, suc, _+_, _≤_, _<_}
+use Prim.Native.Nat.{ℕ, _≤_, _<_}
 use mathlib.Core.Path.{_≡_, refl, sym, ap, _∙_}
 use mathlib.Core.Bool.{Bool, true, false, cond, _||_}
 use mathlib.Core.List.{List, [], _∷_}
@@ -15,9 +15,9 @@ use Rattle.number.specs.declared.Number.the-variants as number
 use Rattle.number.specs.Numbers.{readAt, refusalOf}
 use Rattle.roll.specs.declared.field.Field.{Field}
 use Rattle.roll.specs.declared.field.Field.the-variants as field
-use Rattle.roll.specs.Reading.{limited, opened, withinAt}
+use Rattle.roll.specs.Reading.{opened, withinAt}
 
-unread : (at low high : ℕ) (q : Number) (r : ℕ) → OneOf (1 ∷ 2 ∷ 3 ∷ []) (tagOf the-type q) → r ≡ refusalOf q → field.Refused r at ≡ opened at low high q
+unread : (at low high : ℕ) (q : Number) (r : ℕ) → OneOf (1 ∷ 2 ∷ 3 ∷ []) (tagOf the-type q) → r ≡ refusalOf q → field.Refused r at ≡ opened q at low high
 unread at low high (number.Is n next) r one e = absurd (miss (1 ∷ 2 ∷ 3 ∷ []) 0 tt one)
 unread at low high number.Ended r one e = ap (λ (k : ℕ). field.Refused k at) e
 unread at low high number.NotShortest r one e = ap (λ (k : ℕ). field.Refused k at) e
@@ -25,7 +25,7 @@ unread at low high number.TooLarge r one e = ap (λ (k : ℕ). field.Refused k a
 
 pub within-unread : (s : List ℕ) (at low high : ℕ) (q : Number) (r : ℕ) → q ≡ readAt s at → OneOf (1 ∷ 2 ∷ 3 ∷ []) (tagOf the-type q) → r ≡ refusalOf q → field.Refused r at ≡ withinAt s at low high
 unfolding withinAt
-within-unread s at low high q r is one e = unread at low high q r one e ∙ ap (opened at low high) is
+within-unread s at low high q r is one e = unread at low high q r one e ∙ ap (λ (q : Number). opened q at low high) is
 
 pub within-low : (s : List ℕ) (at low high : ℕ) (q : Number) (n next : ℕ) → q ≡ readAt s at → q ≡ number.Is n next → n < low → field.Refused 7 at ≡ withinAt s at low high
 unfolding withinAt
@@ -45,7 +45,7 @@ pub record Taken (s : List ℕ) (at low high n next : ℕ) : Type 0 where
   pub below : n ≤ high
   pub read : readAt s at ≡ number.Is n next
 
-opened-is : (at low high n next : ℕ) (q : Number) → opened at low high q ≡ field.Is n next → (low ≤ n) × (n ≤ high) × (q ≡ number.Is n next)
+opened-is : (at low high n next : ℕ) (q : Number) → opened q at low high ≡ field.Is n next → (low ≤ n) × (n ≤ high) × (q ≡ number.Is n next)
 opened-is at low high n next (number.Is m k) e = by (ltb m low || ltb high m) refl e
   where
     by : (b : Bool) → (ltb m low || ltb high m) ≡ b → cond b (field.Refused 7 at) (field.Is m k) ≡ field.Is n next → (low ≤ n) × (n ≤ high) × (number.Is m k ≡ number.Is n next)

@@ -23,10 +23,10 @@ use Rattle.roll.specs.declared.header.Opening.the-variants as opening
 use Rattle.roll.specs.declared.header.Opened.{Opened}
 use Rattle.roll.specs.declared.cursor.Cursor.{Cursor}
 use Rattle.laws.specs.Total.{total}
-use Rattle.roll.specs.Reading.{Reading, got, refused, onward, andThen, before, withinAt, sumAfter, ordersAt, Header, countedAt, ofKind, headerAt}
+use Rattle.roll.specs.Reading.{Reading, got, refused, onward, andThen, before, withinAt, sumAfter, ordersAt, countedAt, ofKind, headerAt}
 use Rattle.roll.specs.Cursor.{noCursor}
 use Rattle.roll.specs.Header.{refusedOpened, heldHeader, openOf}
-use Rattle.roll.specs.inner.Held.{heldOrders, countedFrom, ordersFrom, openCounted, FewOrders}
+use Rattle.roll.specs.inner.Held.{heldOrders, countedFrom, openCounted, FewOrders}
 use Rattle.roll.proofs.FieldLaws.{taken-below}
 use Rattle.roll.proofs.Filling.{Filled, filled-none, filled-more, taken-more, before-none, before-more, before-is, onward-is}
 

@@ -1,11 +1,9 @@
 -- What a reading that succeeds has read, number by number; it ends inside the roll, and keeps the kind's limits.
 use Prim.Native.Nat.{ℕ, zero, suc, _+_, _*_, _-_, _%_, _≤_, _<_}
 use mathlib.Core.Path.{_≡_, refl, sym, ap, _∙_}
-use mathlib.Core.Bool.{true, false, cond}
-use mathlib.Core.List.{List, [], _∷_, _++_}
+use mathlib.Core.List.{List, [], _∷_}
 use native.Mathlib.Omega.{arith}
 use borrow.Author.Tests.{eq-eqb, ne-eqb}
-use lib.Dec.{eqb}
 use lib.ListN.{length}
 use Rattle.kind.specs.Limits.{mostOrder, mostScale, mostTerms}
 use Rattle.kind.specs.Kinds.{kindOf, numberOf, ordersOf, tableOf, mostL, mostPrefactors}
@@ -17,10 +15,8 @@ use Rattle.kind.proofs.Laws.{number-kind}
 use Rattle.laws.proofs.Cases.{clash}
 use Rattle.number.proofs.Reading.{read-inside}
 use Rattle.term.specs.Terms.{Term}
-use Rattle.roll.specs.declared.field.Field.{Field}
-use Rattle.roll.specs.declared.field.Field.the-variants as field
 use Rattle.laws.specs.Total.{total}
-use Rattle.roll.specs.Reading.{Reading, got, refused, onward, andThen, before, withinAt, prefactorsAt, mostBoys, countAt, boysAt, termAt, sumAfter, ordersAt, Header, countedAt, ofKind, headerAt}
+use Rattle.roll.specs.Reading.{got, onward, andThen, before, withinAt, prefactorsAt, mostBoys, countAt, boysAt, termAt, sumAfter, ordersAt, Header, countedAt, ofKind, headerAt}
 use Rattle.roll.proofs.FieldLaws.{Taken, taken}
 use Rattle.roll.proofs.Filling.{before-is, onward-is, andThen-is}
 use Rattle.roll.proofs.TermsLaws.{prefactors-length}

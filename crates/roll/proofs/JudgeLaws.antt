@@ -1,12 +1,12 @@
 -- The functions of src/judge.rt: a whole roll judged, its header, then its terms gone over.
 use Prim.Native.Nat.{ℕ, zero, suc, _-_, _≤_, _<_}
 use mathlib.Core.Path.{_≡_, refl, sym, ap, _∙_}
-use mathlib.Core.Bool.{Bool, true, false, cond, _||_}
+use mathlib.Core.Bool.{Bool, true, false, cond}
 use mathlib.Core.List.{List, [], _∷_}
 use native.Mathlib.Omega.{arith}
 use native.Mathlib.Nat.{not-suc-le-zero}
 use borrow.Author.Tests.{le-ltb}
-use lib.Dec.{ltb, eqb}
+use lib.Dec.{eqb}
 use lib.ListN.{length}
 use Rattle.kind.specs.Kinds.{kindOf, tableOf, mostL, mostPrefactors}
 use Rattle.kind.specs.declared.Kind.{Kind}
@@ -20,10 +20,9 @@ use Rattle.roll.specs.declared.field.Field.{Field}
 use Rattle.roll.specs.declared.field.Field.the-variants as field
 use Rattle.roll.specs.declared.header.Opening.the-variants as opening
 use Rattle.roll.specs.declared.header.Opened.{Opened}
-use Rattle.laws.specs.Total.{total}
 use Rattle.roll.specs.Reading.{Reading, got, refused, andThen, before, mostBoys, termAt, termsAt, Header, headerAt}
-use Rattle.roll.specs.Cursor.{refusedStep, stepWith, stepAs, stepOf}
-use Rattle.roll.specs.Header.{refusedOpened, cursorAt, heldHeader, openOf, judged, checked, checkOf}
+use Rattle.roll.specs.Cursor.{stepWith, stepAs, stepOf}
+use Rattle.roll.specs.Header.{refusedOpened, cursorAt, heldHeader, openOf, checked, checkOf}
 use Rattle.roll.specs.inner.Judged.{judgedAs, Honest}
 use Rattle.roll.specs.inner.Over.{termsOver, judgedOver}
 use Rattle.roll.proofs.OverLaws.{went-over}

@@ -18,7 +18,7 @@ use Rattle.roll.specs.declared.field.Field.{Field}
 use Rattle.roll.specs.declared.field.Field.the-variants as field
 use Rattle.roll.specs.declared.header.Opened.{Opened}
 use Rattle.roll.specs.Reading.{Reading, got, refused, onward, andThen, before, withinAt, prefactorsAt, mostBoys, countAt, boysAt, termAt, termsAt}
-use Rattle.roll.specs.Header.{refusedOpened, judged}
+use Rattle.roll.specs.Header.{judged}
 use Rattle.roll.specs.inner.Over.{SmallBytes, Plain, over, overThen, countOver, boysOver, termOver, endOver, termsOver, judgedOver}
 use Rattle.roll.proofs.FieldLaws.{within-is}
 

@@ -1,20 +1,19 @@
 -- Stepping a cursor from the header to its end gives the terms that judging the whole roll reads.
-use Prim.Native.Nat.{ℕ, zero, suc, _+_, _-_, _≤_, _<_}
+use Prim.Native.Nat.{ℕ, zero, suc, _-_}
 use mathlib.Core.Path.{_≡_, refl, sym, ap, _∙_}
 use mathlib.Core.Bool.{Bool, true, false, cond}
-use mathlib.Core.List.{List, [], _∷_, _++_, map}
+use mathlib.Core.List.{List, [], _∷_}
 use native.Mathlib.Omega.{arith}
 use borrow.Author.Tests.{eq-eqb, ne-eqb}
 use lib.Dec.{eqb}
 use lib.ListN.{length}
 use Rattle.kind.specs.declared.Kind.{Kind}
 use Rattle.kind.proofs.Laws.{kind-number}
-use Rattle.term.specs.declared.Term.{Term as Held}
 use Rattle.term.specs.Terms.{Term, held}
 use Rattle.roll.specs.declared.cursor.Cursor.{Cursor}
 use Rattle.roll.specs.declared.cursor.Step.{Step}
 use Rattle.laws.specs.Total.{total}
-use Rattle.roll.specs.Reading.{Reading, got, refused, andThen, before, termAt, termsAt, Header, headerAt}
+use Rattle.roll.specs.Reading.{Reading, got, refused, before, termAt, termsAt, Header, headerAt}
 use Rattle.roll.specs.Cursor.{refusedStep, endStep, stepped, endOr, stepWith, stepOf, gathering, gathered, heldTerms}
 use Rattle.roll.specs.Header.{cursorAt}
 use Rattle.roll.specs.inner.Judged.{Honest}

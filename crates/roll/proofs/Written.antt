@@ -1,8 +1,8 @@
 -- A roll that reads is the writing of what it says, and keeps the limits: number by number, from the front.
-use Prim.Native.Nat.{ℕ, zero, suc, _+_, _-_, _%_, _≤_, _<_}
+use Prim.Native.Nat.{ℕ, zero, suc, _+_, _-_, _≤_}
 use mathlib.Core.Path.{_≡_, refl, sym, ap, _∙_}
 use mathlib.Core.Bool.{Bool, true, false, cond}
-use mathlib.Core.List.{List, [], _∷_, _++_, append-assoc, append-nil}
+use mathlib.Core.List.{List, [], _∷_, _++_, append-assoc}
 use native.Mathlib.Omega.{arith}
 use borrow.Author.Tests.{eqb-true}
 use lib.Dec.{eqb}
@@ -19,11 +19,11 @@ use Rattle.number.proofs.Laws.{reads-only}
 use Rattle.term.specs.Terms.{Term}
 use Rattle.roll.specs.Bytes.{numbersBytes, termBytes, termsBytes, rollBytes}
 use Rattle.laws.specs.Total.{total}
-use Rattle.roll.specs.Reading.{Reading, got, refused, onward, andThen, before, withinAt, prefactorsAt, mostBoys, termAt, termsAt, sumAfter, ordersAt, Header, headerAt, Roll, rollAt}
+use Rattle.roll.specs.Reading.{got, refused, onward, andThen, before, withinAt, prefactorsAt, mostBoys, termAt, termsAt, sumAfter, ordersAt, headerAt, Roll, rollAt}
 use Rattle.roll.specs.Fits.{CentresFit, Below, TermFits, TermsFit, RollFits}
 use Rattle.roll.proofs.FieldLaws.{Taken, taken}
 use Rattle.roll.proofs.Filling.{before-is, onward-is, andThen-is}
-use Rattle.roll.proofs.Inside.{TermRead, term-read, HeaderRead, header-read, Centre, centre}
+use Rattle.roll.proofs.Inside.{term-read, header-read, Centre, centre}
 
 -- what stands at a place, then what stands after it
 then : (s xs ys : List ℕ) (at m n : ℕ) → drop at s ≡ xs ++ drop m s → drop m s ≡ ys ++ drop n s → drop at s ≡ (xs ++ ys) ++ drop n s

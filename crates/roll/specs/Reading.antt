@@ -27,17 +27,17 @@ pub data Reading (A : Type 0) : Type 0 where
 
 -- a number that breaks its limits is 7 where it begins
 abbrev pub limited : ℕ → ℕ → ℕ → ℕ → ℕ → Field
-limited at low high n next = cond (ltb n low || ltb high n) (field.Refused 7 at) (field.Is n next)
+limited n next at low high = cond (ltb n low || ltb high n) (field.Refused 7 at) (field.Is n next)
 
 -- a number that cannot be read ends the reading at once, with the refusal of its reason where it begins
-abbrev pub opened : ℕ → ℕ → ℕ → Number → Field
-opened at low high (number.Is n next) = limited at low high n next
-opened at low high number.Ended = field.Refused (refusalOf number.Ended) at
-opened at low high number.NotShortest = field.Refused (refusalOf number.NotShortest) at
-opened at low high number.TooLarge = field.Refused (refusalOf number.TooLarge) at
+abbrev pub opened : Number → ℕ → ℕ → ℕ → Field
+opened (number.Is n next) at low high = limited n next at low high
+opened number.Ended at low high = field.Refused (refusalOf number.Ended) at
+opened number.NotShortest at low high = field.Refused (refusalOf number.NotShortest) at
+opened number.TooLarge at low high = field.Refused (refusalOf number.TooLarge) at
 
 unfoldable pub withinAt : List ℕ → ℕ → ℕ → ℕ → Field
-withinAt s at low high = opened at low high (readAt s at)
+withinAt s at low high = opened (readAt s at) at low high
 
 -- ---- one thing after the other
 

@@ -2,7 +2,7 @@
 use Prim.Native.Nat.{ℕ, _*_, _-_, _≤_}
 use mathlib.Core.Path.{_≡_}
 use mathlib.Core.List.{List, _++_}
-use lib.ListN.{length, replicate}
+use lib.ListN.{length, take, replicate}
 use Rattle.kind.specs.Limits.{mostOrder, mostL·any, mostTerms, requestOrders}
 use Rattle.kind.specs.Kinds.{numberOf}
 use Rattle.kind.specs.declared.Kind.{Kind}
@@ -22,6 +22,10 @@ use Rattle.laws.specs.Total.{total}
 use Rattle.roll.specs.Reading.{Reading, got, refused, withinAt}
 use Rattle.roll.specs.Cursor.{refusedStep}
 use Rattle.roll.specs.Header.{refusedOpened}
+
+-- the term that the code holds: no count goes past the prefactors' places
+abbrev pub fromHeld : Held → Term
+fromHeld t = record { scale = t .scale; boys = t .boys; prefactors = take (t .count) (t .prefactors) }
 
 abbrev pub heldPrefactors : Reading (List ℕ) → ReadPrefactors
 heldPrefactors (got ps next) = record { found = field.Is (length ps) next; values = ps ++ replicate (mostL·any - length ps) 0 }
