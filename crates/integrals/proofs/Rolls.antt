@@ -19,12 +19,12 @@ use Rattle.roll.specs.declared.header.Opened.{Opened}
 use Rattle.roll.specs.declared.header.Opening.the-variants as opening
 use Rattle.roll.specs.Header.{checkOf}
 use Rattle.roll.specs.inner.Judged.{Judged}
-use Rattle.roll.proofs.Checked.{checked-judged, checked-refused}
-use Rattle.roll.proofs.AgainLaws.{judged-again, judged-kind, judged-l}
-use Rattle.integrals.specs.inner.Stored.{ofCursor, termsFrom}
+use Rattle.roll.proofs.Checked.{checked-judged, checked-refused, judged-kind, judged-l}
+use Rattle.roll.proofs.AgainLaws.{judged-again}
+use Rattle.integrals.specs.inner.Stored.{ofCursor, againFrom}
 
 module _ (a b c d : Centre) (aux : Float) (boys : List Float) (s : List ℕ) where
-  pub cursor-named : (cursor : Cursor) (n : Named) (k : Kind) (v : Value) → n ≡ kindOf (cursor .kind) → n ≡ named.Is k → v ≡ valueOf k (cursor .l) a b c d aux boys (termsFrom s cursor) → v ≡ ofCursor (kindOf (cursor .kind)) cursor a b c d aux boys s
+  pub cursor-named : (cursor : Cursor) (n : Named) (k : Kind) (v : Value) → n ≡ kindOf (cursor .kind) → n ≡ named.Is k → v ≡ valueOf k (cursor .l) a b c d aux boys (againFrom s cursor) → v ≡ ofCursor (kindOf (cursor .kind)) cursor a b c d aux boys s
   unfolding ofCursor
   cursor-named cursor n k v e f g = rw (← e, f) g
 
@@ -34,7 +34,7 @@ module _ (a b c d : Centre) (aux : Float) (boys : List Float) (s : List ℕ) whe
 
   from-judged : (o : Opened) (v : Value) → Bytes s → Judged o s → v ≡ ofCursor (kindOf (o .cursor .kind)) (o .cursor) a b c d aux boys s → v ≡ evaluateOf s a b c d aux boys
   unfolding evaluateOf ofRoll ofCursor
-  from-judged o v bytes j g = rw (j .reads) (rw (judged-kind s o j, kind-number (j .roll .kind), judged-l s o j, judged-again s o bytes j) at g)
+  from-judged o v bytes j g = rw (j .reads) (rw (judged-kind o s j, kind-number (j .roll .kind), judged-l o s j, judged-again s o bytes j) at g)
 
   pub evaluate-reads : (o : Opened) (v : Value) → Bytes s → o ≡ checkOf s → o .found ≡ opening.Roll → v ≡ ofCursor (kindOf (o .cursor .kind)) (o .cursor) a b c d aux boys s → v ≡ evaluateOf s a b c d aux boys
   evaluate-reads o v bytes e f g = from-judged o v bytes (checked-judged s o e f) g

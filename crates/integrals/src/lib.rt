@@ -2,7 +2,7 @@
 ghost use mathlib.Core.Path.{_≡_};
 ghost use Rattle.integrals.specs.Sums.{kineticStart, totalOf};
 ghost use Rattle.integrals.specs.Values.{inputsFinite, boysCounted, resultOf, valueOf};
-ghost use Rattle.integrals.specs.inner.Stored.{ofCursor, termsFrom};
+ghost use Rattle.integrals.specs.inner.Stored.{ofCursor, againFrom};
 ghost use Rattle.integrals.specs.Evaluation.{evaluateOf};
 ghost use Rattle.kind.specs.Kinds.{kindOf};
 use geometry::Centre;
@@ -40,7 +40,7 @@ fn integral(
     boys: &[f64],
     roll: &[u8],
 ) -> f64
-    ensures { λ r. ⌜ r ≡ totalOf (terms .kind) (terms .cursor .l) (kineticStart a b) (now (table .entry)) aux (now (boys .entry)) (termsFrom (now (roll .entry)) (terms .cursor)) ⌝ }
+    ensures { λ r. ⌜ r ≡ totalOf (terms .kind) (terms .cursor .l) (kineticStart a b) (now (table .entry)) aux (now (boys .entry)) (againFrom (now (roll .entry)) (terms .cursor)) ⌝ }
 {
     let kinetic = kinetic_of(a, b);
     sums::total(terms, kinetic, table, aux, boys, roll)
@@ -97,7 +97,7 @@ fn judged(
     boys: &[f64],
     roll: &[u8],
 ) -> Value
-    ensures { λ r. ⌜ r ≡ valueOf (terms .kind) (terms .cursor .l) a b c d aux (now (boys .entry)) (termsFrom (now (roll .entry)) (terms .cursor)) ⌝ }
+    ensures { λ r. ⌜ r ≡ valueOf (terms .kind) (terms .cursor .l) a b c d aux (now (boys .entry)) (againFrom (now (roll .entry)) (terms .cursor)) ⌝ }
 {
     let kind = terms.kind;
     let cursor = terms.cursor;

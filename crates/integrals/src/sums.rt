@@ -5,7 +5,7 @@ ghost use lib.ListN.{length, getD};
 ghost use Rattle.geometry.specs.Floats.{_⊕_, _⊗_, zero};
 ghost use Rattle.integrals.specs.Sums.{boysNumber, productOf, staysKinetic, plainOf, kineticOf, nuclearOf, coulombOf, sumFrom, ofOrder, runOrders, totalOf};
 ghost use Rattle.roll.specs.inner.Again.{headAt, between, headTerm, termsAgain};
-ghost use Rattle.integrals.specs.inner.Stored.{addOrderOf, startOf, addendOf, termsFrom};
+ghost use Rattle.integrals.specs.inner.Stored.{addOrderOf, startOf, addendOf, againFrom};
 use kind::Kind;
 use number::wide;
 use roll::Cursor;
@@ -242,7 +242,7 @@ pub(crate) fn total(
     boys: &[f64],
     roll: &[u8],
 ) -> f64
-    ensures { λ r. ⌜ r ≡ totalOf (terms .kind) (terms .cursor .l) kinetic (now (table .entry)) aux (now (boys .entry)) (termsFrom (now (roll .entry)) (terms .cursor)) ⌝ }
+    ensures { λ r. ⌜ r ≡ totalOf (terms .kind) (terms .cursor .l) kinetic (now (table .entry)) aux (now (boys .entry)) (againFrom (now (roll .entry)) (terms .cursor)) ⌝ }
 {
     let kind = terms.kind;
     let cursor = terms.cursor;

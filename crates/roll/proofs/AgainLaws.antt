@@ -11,7 +11,7 @@ use borrow.Author.Tests.{leb-true, ltb-true}
 use lib.Dec.{leb, eqb}
 use lib.ListN.{length, take, drop, getD}
 use Rattle.kind.specs.declared.Kind.{Kind}
-use Rattle.kind.specs.Kinds.{numberOf, tableOf}
+use Rattle.kind.specs.Kinds.{tableOf}
 use Rattle.kind.proofs.Within.{some-entries, table-within}
 use Rattle.laws.specs.Total.{total}
 use Rattle.term.specs.Terms.{Term}
@@ -191,10 +191,3 @@ judged-again s o bytes j =
     let h = d .header in
     ap (λ (c : Cursor). termsAgain s (c .place) (c .left)) (opened-cursor o s (j .roll) d)
     ∙ terms-again (h .terms) (h .kind) (total (h .orders)) s (d .next) (j .roll .terms) (d .end) bytes (d .reads)
-
--- and its cursor has the roll's own kind and L
-pub judged-kind : (s : List ℕ) (o : Opened) (j : Judged o s) → o .cursor .kind ≡ numberOf (j .roll .kind)
-judged-kind s o j = let d = headed o s j in ap (λ (c : Cursor). c .kind) (opened-cursor o s (j .roll) d) ∙ ap numberOf (d .kind)
-
-pub judged-l : (s : List ℕ) (o : Opened) (j : Judged o s) → o .cursor .l ≡ total (j .roll .orders)
-judged-l s o j = let d = headed o s j in ap (λ (c : Cursor). c .l) (opened-cursor o s (j .roll) d) ∙ ap total (d .orders)

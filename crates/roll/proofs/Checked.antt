@@ -1,18 +1,27 @@
--- `check` says that a roll is one exactly where the whole of it reads.
-use Prim.Native.Nat.{ℕ}
+-- `check` says that a roll is one exactly where the whole of it reads; and what its answer then says of the roll.
+use Prim.Native.Nat.{ℕ, _-_}
 use mathlib.Core.Path.{_≡_, refl, sym, ap, _∙_}
-use mathlib.Core.List.{List}
-use lib.ListN.{length}
+use mathlib.Core.List.{List, _++_}
+use lib.ListN.{length, replicate}
+use Rattle.kind.specs.Limits.{requestOrders}
+use Rattle.kind.specs.Kinds.{kindOf, numberOf, ordersOf}
+use Rattle.kind.specs.declared.Named.{Named}
+use Rattle.kind.specs.declared.Named.the-variants as named
+use Rattle.kind.proofs.Laws.{kind-number}
 use Rattle.laws.proofs.Cases.{clash}
+use Rattle.laws.specs.Total.{total}
 use Rattle.term.specs.Terms.{Term}
+use Rattle.roll.specs.declared.cursor.Cursor.{Cursor}
 use Rattle.roll.specs.declared.header.Opening.the-variants as opening
 use Rattle.roll.specs.declared.header.Opened.{Opened}
-use Rattle.laws.specs.Total.{total}
 use Rattle.roll.specs.Reading.{Reading, got, refused, andThen, termsAt, Header, headerAt, Roll, rollAt}
 use Rattle.roll.specs.Header.{cursorAt, heldHeader, openOf, judged, checked, checkOf}
-use Rattle.roll.specs.inner.Judged.{Judged}
+use Rattle.roll.specs.inner.Judged.{Judged, leftOf, Readable}
 use Rattle.roll.proofs.Filling.{andThen-is}
+use Rattle.roll.proofs.HeaderLaws.{orders-length}
+use Rattle.roll.proofs.Inside.{header-read, header-inside, orders-most}
 use Rattle.roll.proofs.JudgeLaws.{terms-count}
+use Rattle.roll.proofs.Steps.{left-terms}
 
 -- a roll's terms beside its header
 abbrev beside : Header → List Term → ℕ → Reading Roll
@@ -97,3 +106,44 @@ headed o s j =
 
 pub opened-cursor : (o : Opened) (s : List ℕ) (r : Roll) (d : Headed o s r) → o .cursor ≡ cursorAt (d .header) (d .next)
 opened-cursor o s r d = ap (λ (o : Opened). o .cursor) (d .opened)
+
+-- ---- its cursor and orders are the roll's own
+
+module _ (o : Opened) (s : List ℕ) (j : Judged o s) where
+  pub judged-kind : o .cursor .kind ≡ numberOf (j .roll .kind)
+  judged-kind = let d = headed o s j in ap (λ (c : Cursor). c .kind) (opened-cursor o s (j .roll) d) ∙ ap numberOf (d .kind)
+
+  pub judged-named : (m : Named) → m ≡ kindOf (o .cursor .kind) → m ≡ named.Is (j .roll .kind)
+  judged-named m is = is ∙ ap kindOf judged-kind ∙ kind-number (j .roll .kind)
+
+  pub judged-l : o .cursor .l ≡ total (j .roll .orders)
+  judged-l = let d = headed o s j in ap (λ (c : Cursor). c .l) (opened-cursor o s (j .roll) d) ∙ ap total (d .orders)
+
+  pub judged-left : o .cursor .left ≡ length (j .roll .terms)
+  judged-left = let d = headed o s j in ap (λ (c : Cursor). c .left) (opened-cursor o s (j .roll) d) ∙ d .count
+
+  pub judged-orders : (o .orders ≡ j .roll .orders ++ replicate (requestOrders - length (j .roll .orders)) 0) × (length (j .roll .orders) ≡ ordersOf (j .roll .kind))
+  judged-orders =
+      let d = headed o s j in
+      let h = d .header in
+      let r = header-read s h (d .next) (d .is) in (
+        ap (λ (o : Opened). o .orders) (d .opened) ∙ ap (λ (os : List ℕ). os ++ replicate (requestOrders - length os) 0) (d .orders),
+        ap length (sym (d .orders)) ∙ orders-length (ordersOf (h .kind)) 0 0 s (r .a) (h .orders) (r .b) (r .orders) ∙ ap ordersOf (d .kind),
+      )
+
+  abbrev readable : (d : Headed o s (j .roll)) → Readable (cursorAt (d .header) (d .next)) s
+  readable d =
+      let h = d .header in
+      let r = header-read s h (d .next) (d .is) in
+      record {
+        honest = record { kind = h .kind; is = kind-number (h .kind); small = orders-most (h .kind) s (r .a) (h .orders) (r .b) (r .orders); inside = header-inside s h (d .next) r };
+        terms = j .roll .terms;
+        end = d .end;
+        reads = d .reads;
+      }
+
+  pub judged-readable : Readable (o .cursor) s
+  judged-readable = let d = headed o s j in rw (opened-cursor o s (j .roll) d) (readable d)
+
+  pub judged-terms : leftOf (o .cursor) s ≡ j .roll .terms
+  judged-terms = let d = headed o s j in ap (λ (c : Cursor). leftOf c s) (opened-cursor o s (j .roll) d) ∙ left-terms (cursorAt (d .header) (d .next)) s (readable d)

@@ -35,10 +35,10 @@ addendOf Kinetic kinetic table aux boys t = kineticOf kinetic table aux t
 addendOf Nuclear kinetic table aux boys t = nuclearOf table aux boys t
 
 -- the terms from a cursor on
-abbrev pub termsFrom : List ℕ → Cursor → List Term
-termsFrom s cursor = termsAgain s (cursor .place) (cursor .left)
+abbrev pub againFrom : List ℕ → Cursor → List Term
+againFrom s cursor = termsAgain s (cursor .place) (cursor .left)
 
 -- the value of the terms from a cursor on; a cursor that the judge gives has a kind
 unfoldable pub ofCursor : Named → Cursor → Centre → Centre → Centre → Centre → Float → List Float → List ℕ → Value
-ofCursor (named.Is k) cursor a b c d aux boys roll = valueOf k (cursor .l) a b c d aux boys (termsFrom roll cursor)
+ofCursor (named.Is k) cursor a b c d aux boys roll = valueOf k (cursor .l) a b c d aux boys (againFrom roll cursor)
 ofCursor named.Unknown cursor a b c d aux boys roll = Refused 7 0

@@ -6,15 +6,9 @@ use mathlib.Core.List.{List, []}
 use lib.Dec.{leb}
 use lib.ListN.{length}
 use lib.Seq.{sets}
-use Rattle.kind.specs.Kinds.{kindOf}
-use Rattle.kind.specs.declared.Named.{Named}
-use Rattle.kind.specs.declared.Named.the-variants as named
-use Rattle.term.specs.Terms.{Term}
 use Rattle.text.specs.declared.Written.{Written}
 use Rattle.text.specs.declared.Written.the-variants.{To, NoRoom}
-use Rattle.roll.specs.declared.cursor.Cursor.{Cursor}
-use Rattle.roll.specs.Reading.{Reading, got, refused, termsAt, Roll, rollAt}
-use Rattle.roll.specs.inner.Judged.{Honest}
+use Rattle.roll.specs.Reading.{Reading, got, refused, Roll, rollAt}
 use Rattle.listing.specs.Text.{listingText}
 
 -- the place after n more bytes, where they have room
@@ -31,25 +25,6 @@ pub record Said (room : ℕ) (before : List ℕ) (w : Written) (text : List ℕ)
 -- what was said stays within the room
 abbrev pub Kept : ℕ → Written → Type 0
 Kept room w = advanced room w 0 ≡ w
-
--- the terms that a cursor has still to go through
-abbrev pub termsOf : Reading (List Term) → List Term
-termsOf (got ts end) = ts
-termsOf (refused n place) = []
-
-abbrev pub leftAs : Named → Cursor → List ℕ → List Term
-leftAs (named.Is k) c s = termsOf (termsAt s (c .place) (c .left) k (c .l))
-leftAs named.Unknown c s = []
-
-unfoldable pub leftOf : Cursor → List ℕ → List Term
-leftOf c s = leftAs (kindOf (c .kind)) c s
-
--- a cursor whose terms all read
-pub record Readable (c : Cursor) (s : List ℕ) : Type 0 where
-  pub honest : Honest c s
-  pub terms : List Term
-  pub end : ℕ
-  pub reads : termsAt s (c .place) (c .left) (honest .kind) (c .l) ≡ got terms end
 
 -- the listing of a roll that reads
 abbrev pub readText : Reading Roll → List ℕ
