@@ -19,7 +19,7 @@ use Rattle.roll.specs.declared.field.Field.the-variants as field
 use Rattle.roll.specs.declared.header.Opened.{Opened}
 use Rattle.roll.specs.Reading.{Reading, got, refused, onward, andThen, before, withinAt, prefactorsAt, mostBoys, countAt, boysAt, termAt, termsAt}
 use Rattle.roll.specs.Header.{judged}
-use Rattle.roll.specs.inner.Over.{SmallBytes, Plain, over, overThen, countOver, boysOver, termOver, endOver, termsOver, judgedOver}
+use Rattle.roll.specs.inner.Over.{SmallBytes, OneByteEach, over, overThen, countOver, boysOver, termOver, endOver, termsOver, judgedOver}
 use Rattle.roll.proofs.FieldLaws.{within-is}
 
 -- ---- both are one
@@ -117,32 +117,32 @@ passing-done s at count table place left p none = passing-none s table place lef
 
 -- ---- prefactors of one byte each
 
-plain-turn : (s : List ℕ) (at last b : ℕ) → at < length s → b ≡ getD s at 0 → b ≤ last → oneByte last ≡ true → withinAt s at 0 last ≡ field.Is b (at + 1)
-plain-turn s at last b inside byte small limit = sym (within-is s at 0 last (readAt s at) b (at + 1) refl (sym (read-one s at b inside byte (omega (arith, ltb-true last 128 limit)))) (zero-le) small)
+byte-turn : (s : List ℕ) (at last b : ℕ) → at < length s → b ≡ getD s at 0 → b ≤ last → oneByte last ≡ true → withinAt s at 0 last ≡ field.Is b (at + 1)
+byte-turn s at last b inside byte small limit = sym (within-is s at 0 last (readAt s at) b (at + 1) refl (sym (read-one s at b inside byte (omega (arith, ltb-true last 128 limit)))) (zero-le) small)
 
-plain-all : (count table : ℕ) (s : List ℕ) (at : ℕ) → Plain s at count (table - 1) → over (prefactorsAt s at count table) ≡ field.Is 0 (at + count)
+bytes-all : (count table : ℕ) (s : List ℕ) (at : ℕ) → OneByteEach s at count (table - 1) → over (prefactorsAt s at count table) ≡ field.Is 0 (at + count)
 unfolding prefactorsAt
-plain-all zero table s at p = let same : at + 0 ≡ at = omega arith in rw same
-plain-all (suc count) table s at p =
+bytes-all zero table s at p = let same : at + 0 ≡ at = omega arith in rw same
+bytes-all (suc count) table s at p =
     let room = p .inside in
     let here : at < length s = omega arith in
     let small : getD s at 0 ≤ table - 1 = p .small .each at (omega arith) (omega arith) in
-    let turn = plain-turn s at (table - 1) (getD s at 0) here refl small (p .one-byte) in
-    let rest : Plain s (at + 1) count (table - 1) = record { one-byte = p .one-byte; inside = omega arith; small = record { each = λ i low high. p .small .each i (omega arith) (omega arith) } } in
+    let turn = byte-turn s at (table - 1) (getD s at 0) here refl small (p .one-byte) in
+    let rest : OneByteEach s (at + 1) count (table - 1) = record { one-byte = p .one-byte; inside = omega arith; small = record { each = λ i low high. p .small .each i (omega arith) (omega arith) } } in
     let end : at + 1 + count ≡ at + suc count = omega arith in
-    rw turn (drop-first (getD s at 0) (prefactorsAt s (at + 1) count table) ∙ plain-all count table s (at + 1) rest ∙ ap (field.Is 0) end)
+    rw turn (drop-first (getD s at 0) (prefactorsAt s (at + 1) count table) ∙ bytes-all count table s (at + 1) rest ∙ ap (field.Is 0) end)
 
-pub plain-went : (s : List ℕ) (at count table last : ℕ) (t : Bool) (y : Field) → last ≡ table - 1 → (t ≡ true → Plain s at count last) → t ≡ true → y ≡ field.Is 0 (at + count) → y ≡ over (prefactorsAt s at count table)
-plain-went s at count table last t y size is e answer = answer ∙ sym (plain-all count table s at (rw size at (is e)))
+pub bytes-went : (s : List ℕ) (at count table last : ℕ) (t : Bool) (y : Field) → last ≡ table - 1 → (t ≡ true → OneByteEach s at count last) → t ≡ true → y ≡ field.Is 0 (at + count) → y ≡ over (prefactorsAt s at count table)
+bytes-went s at count table last t y size is e answer = answer ∙ sym (bytes-all count table s at (rw size at (is e)))
 
-pub plain-room : (s : List ℕ) (at count last : ℕ) (t : Bool) → (t ≡ true → Plain s at count last) → t ≡ true → at + count ≤ length s
-plain-room s at count last t is e = is e .inside
+pub bytes-room : (s : List ℕ) (at count last : ℕ) (t : Bool) → (t ≡ true → OneByteEach s at count last) → t ≡ true → at + count ≤ length s
+bytes-room s at count last t is e = is e .inside
 
-pub not-plain : (s : List ℕ) (at count last : ℕ) → false ≡ true → Plain s at count last
-not-plain s at count last e = absurd (true≢false (sym e))
+pub not-one-byte-each : (s : List ℕ) (at count last : ℕ) → false ≡ true → OneByteEach s at count last
+not-one-byte-each s at count last e = absurd (true≢false (sym e))
 
-pub plain-is : (s : List ℕ) (at count last : ℕ) (one t : Bool) → at ≤ length s → count ≤ length s - at → one ≡ oneByte last → one ≡ true → (t ≡ true → SmallBytes s at (at + count) last) → t ≡ true → Plain s at count last
-plain-is s at count last one t here room test limit small e = record { one-byte = sym test ∙ limit; inside = omega arith; small = small e }
+pub one-byte-each-is : (s : List ℕ) (at count last : ℕ) (one t : Bool) → at ≤ length s → count ≤ length s - at → one ≡ oneByte last → one ≡ true → (t ≡ true → SmallBytes s at (at + count) last) → t ≡ true → OneByteEach s at count last
+one-byte-each-is s at count last one t here room test limit small e = record { one-byte = sym test ∙ limit; inside = omega arith; small = small e }
 
 -- the loop over bytes
 pub record Looking (s : List ℕ) (at end last place : ℕ) : Type 0 where

@@ -4,7 +4,7 @@ ghost use Prim.Native.Nat.{_+_, _≤_};
 ghost use mathlib.Core.Bool.{true};
 ghost use lib.ListN.{length};
 ghost use Rattle.roll.specs.Reading.{prefactorsAt};
-ghost use Rattle.roll.specs.inner.Over.{SmallBytes, Plain, over, countOver, boysOver, termOver, endOver, termsOver};
+ghost use Rattle.roll.specs.inner.Over.{SmallBytes, OneByteEach, over, countOver, boysOver, termOver, endOver, termsOver};
 use crate::field::Field;
 use crate::field::within;
 use kind::Kind;
@@ -27,8 +27,8 @@ fn all_small(roll: &[u8], at: usize, end: usize, last: u32) -> bool
 }
 
 // Whether so many prefactors stand here, one byte each, all within the limit.
-fn is_plain(roll: &[u8], at: usize, count: u32, last: u32) -> bool
-    ensures { λ r. ⌜ (r ≡ true → Plain (now (roll .entry)) at count last) ⌝ }
+fn one_byte_each(roll: &[u8], at: usize, count: u32, last: u32) -> bool
+    ensures { λ r. ⌜ (r ≡ true → OneByteEach (now (roll .entry)) at count last) ⌝ }
 {
     if roll.len() < at {
         return false;
@@ -47,14 +47,14 @@ fn prefactors_over(roll: &[u8], at: usize, count: u32, table: u32) -> Field
     requires { ⌜ 1 ≤ table ⌝ }
     ensures { λ r. ⌜ r ≡ over (prefactorsAt (now (roll .entry)) at count table) ⌝ }
 {
-    if is_plain(roll, at, count, table - 1) {
-        return plain_over(roll, at, count);
+    if one_byte_each(roll, at, count, table - 1) {
+        return bytes_over(roll, at, count);
     }
     each_over(roll, at, count, table)
 }
 
 // The place after so many bytes that stand in the roll.
-fn plain_over(roll: &[u8], at: usize, count: u32) -> Field
+fn bytes_over(roll: &[u8], at: usize, count: u32) -> Field
     requires { ⌜ at + count ≤ length (now roll) ⌝ }
     ensures { λ r. ⌜ r ≡ Field.Is 0 (at + count) ⌝ }
 {

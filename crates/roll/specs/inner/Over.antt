@@ -19,7 +19,7 @@ pub record SmallBytes (s : List ℕ) (at end last : ℕ) : Type 0 where
   pub each : (i : ℕ) → at ≤ i → i < end → getD s i 0 ≤ last
 
 -- so many numbers of one byte each
-pub record Plain (s : List ℕ) (at count last : ℕ) : Type 0 where
+pub record OneByteEach (s : List ℕ) (at count last : ℕ) : Type 0 where
   pub one-byte : oneByte last ≡ true
   pub inside : at + count ≤ length s
   pub small : SmallBytes s at (at + count) last
