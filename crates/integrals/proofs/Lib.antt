@@ -1,7 +1,4 @@
-pub mod Skipping
-pub mod Stored
-pub mod Adding
-pub mod Values
-pub mod Again
-pub mod Rolls
 pub mod Only
+pub mod Rolls
+pub mod SumsLaws
+pub mod Values

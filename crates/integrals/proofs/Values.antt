@@ -13,7 +13,9 @@ use Rattle.kind.specs.Kinds.{usesBoys}
 use Rattle.kind.specs.Limits.{tablePlaces}
 use Rattle.term.specs.Terms.{Term}
 use Rattle.geometry.specs.declared.Centre.{Centre}
-use Rattle.geometry.specs.Floats.{allFinite, inPlaces}
+use Rattle.geometry.specs.declared.Point.{Point}
+use Rattle.geometry.specs.Floats.{_⊖_, _⊗_, two, three, allFinite, inPlaces}
+use Rattle.geometry.specs.Geometry.{pointOf, r12Squared, eOf}
 use Rattle.geometry.specs.Tables.{prefac}
 use Rattle.geometry.specs.Checks.{usedFinite, exponentsAboveZero, finiteWith, geometryFinite}
 use Rattle.geometry.proofs.Checks.{finite-table}
@@ -21,6 +23,10 @@ use Rattle.integrals.specs.declared.Value.{Value}
 use Rattle.integrals.specs.declared.Value.the-variants.{Is, Refused}
 use Rattle.integrals.specs.Sums.{kineticStart, totalOf, integralOf}
 use Rattle.integrals.specs.Values.{inputsFinite, boysCounted, unless, resultOf, valueOf}
+
+pub kinetic-made : (a b : Centre) (p q : Point) (ab : Float) → p ≡ pointOf a → q ≡ pointOf b → ab ≡ r12Squared p q → eOf a b ⊗ (three ⊖ two ⊗ eOf a b ⊗ ab) ≡ kineticStart a b
+unfolding kineticStart
+kinetic-made a b p q ab e f g = rw (g, e, f)
 
 pub result-is : (x : Float) (t : Bool) → t ≡ finite x → t ≡ true → Is x ≡ resultOf x
 unfolding resultOf unless

@@ -20,9 +20,9 @@ unfoldable pub evaluateOf : List ℕ → Centre → Centre → Centre → Centre
 evaluateOf s a b c d aux boys = ofRoll (rollAt s) a b c d aux boys
 
 -- the number, the place and the f64 that 01 gives each case; 0 is success
-abbrev pub numberOf : Value → ℕ
-numberOf (Is x) = 0
-numberOf (Refused number place) = number
+abbrev pub refusalOf : Value → ℕ
+refusalOf (Is x) = 0
+refusalOf (Refused number place) = number
 
 abbrev pub placeOf : Value → ℕ
 placeOf (Is x) = 0

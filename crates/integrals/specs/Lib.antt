@@ -1,4 +1,4 @@
+pub mod Evaluation
 pub mod Sums
 pub mod Values
-pub mod Stored
-pub mod Evaluation
+pub mod inner

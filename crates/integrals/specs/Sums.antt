@@ -20,8 +20,8 @@ abbrev pub scaleOf : ℕ → Float
 scaleOf scale = ofInt binary64 (pos scale)
 
 -- F(order), of the host's Boys numbers
-abbrev pub boysAt : List Float → ℕ → Float
-boysAt boys order = getD boys order 0·0
+abbrev pub boysNumber : List Float → ℕ → Float
+boysNumber boys order = getD boys order 0·0
 
 -- g is multiplied by the table's entries in listed order
 unfoldable pub productOf : List Float → List ℕ → Float → Float
@@ -52,7 +52,7 @@ unfoldable pub kineticOf : Float → List Float → Float → Term → Float
 kineticOf kinetic table aux t = scaleOf (t .scale) ⊗ aux ⊗ kineticG kinetic table (t .prefactors)
 
 unfoldable pub nuclearOf : List Float → Float → List Float → Term → Float
-nuclearOf table aux boys t = scaleOf (t .scale) ⊗ aux ⊗ gOf table (t .prefactors) ⊗ boysAt boys (t .boys)
+nuclearOf table aux boys t = scaleOf (t .scale) ⊗ aux ⊗ gOf table (t .prefactors) ⊗ boysNumber boys (t .boys)
 
 unfoldable pub coulombOf : List Float → Float → Term → Float
 coulombOf table b t = scaleOf (t .scale) ⊗ b ⊗ gOf table (t .prefactors)
@@ -71,7 +71,7 @@ ofOrder i (t ∷ ts) = cond (eqb (t .boys) i) (t ∷ ofOrder i ts) (ofOrder i ts
 unfoldable pub runOrders : List Float → Float → List Float → List Term → ℕ → ℕ → Float → Float
 runOrders table s boys ts zero i sum = sum
 runOrders table s boys ts (suc left) i sum =
-    runOrders table s boys ts left (suc i) (sumFrom (coulombOf table (boysAt boys i ⊗ s)) (ofOrder i ts) sum)
+    runOrders table s boys ts left (suc i) (sumFrom (coulombOf table (boysNumber boys i ⊗ s)) (ofOrder i ts) sum)
 
 -- the sum starts at 0.0; Coulomb runs i from 0 to L
 unfoldable pub totalOf : Kind → ℕ → Float → List Float → Float → List Float → List Term → Float

@@ -2,7 +2,7 @@
 ghost use mathlib.Core.Path.{_≡_};
 ghost use Rattle.integrals.specs.Sums.{kineticStart, totalOf};
 ghost use Rattle.integrals.specs.Values.{inputsFinite, boysCounted, resultOf, valueOf};
-ghost use Rattle.integrals.specs.Stored.{ofCursor, termsAt};
+ghost use Rattle.integrals.specs.inner.Stored.{ofCursor, againFrom};
 ghost use Rattle.integrals.specs.Evaluation.{evaluateOf};
 ghost use Rattle.kind.specs.Kinds.{kindOf};
 use geometry::Centre;
@@ -10,8 +10,8 @@ use kind::Kind;
 use kind::Named;
 use roll::Cursor;
 use roll::Opening;
+use sums::Terms;
 
-mod reader;
 mod sums;
 
 // The integral, or a refusal's number and place.
@@ -32,21 +32,18 @@ fn kinetic_of(a: Centre, b: Centre) -> f64
 }
 
 fn integral(
-    kind: Kind,
-    l: u8,
+    terms: Terms,
     a: Centre,
     b: Centre,
     table: &[f64],
     aux: f64,
     boys: &[f64],
     roll: &[u8],
-    start: usize,
-    terms: u32,
 ) -> f64
-    ensures { λ r. ⌜ r ≡ totalOf kind l (kineticStart a b) (now (table .entry)) aux (now (boys .entry)) (termsAt (now (roll .entry)) terms start) ⌝ }
+    ensures { λ r. ⌜ r ≡ totalOf (terms .kind) (terms .cursor .l) (kineticStart a b) (now (table .entry)) aux (now (boys .entry)) (againFrom (now (roll .entry)) (terms .cursor)) ⌝ }
 {
     let kinetic = kinetic_of(a, b);
-    sums::total(kind, l, kinetic, table, aux, boys, roll, start, terms)
+    sums::total(terms, kinetic, table, aux, boys, roll)
 }
 
 // Check 8: every float that is used is finite.
@@ -91,8 +88,7 @@ fn result(x: f64) -> Value
 
 // Checks 8, 9, 10 and 11 of a roll's terms, and their sum.
 fn judged(
-    kind: Kind,
-    l: u8,
+    terms: Terms,
     a: Centre,
     b: Centre,
     c: Centre,
@@ -100,25 +96,25 @@ fn judged(
     aux: f64,
     boys: &[f64],
     roll: &[u8],
-    start: usize,
-    terms: u32,
 ) -> Value
-    ensures { λ r. ⌜ r ≡ valueOf kind l a b c d aux (now (boys .entry)) (termsAt (now (roll .entry)) terms start) ⌝ }
+    ensures { λ r. ⌜ r ≡ valueOf (terms .kind) (terms .cursor .l) a b c d aux (now (boys .entry)) (againFrom (now (roll .entry)) (terms .cursor)) ⌝ }
 {
+    let kind = terms.kind;
+    let cursor = terms.cursor;
     if !inputs_finite(kind, a, b, c, d, aux, boys) {
         return Value::Refused(8, 0);
     }
     if !geometry::exponents_above_zero(kind, a, b, c, d) {
         return Value::Refused(9, 0);
     }
-    if !boys_counted(kind, l, boys.len()) {
+    if !boys_counted(kind, cursor.l, boys.len()) {
         return Value::Refused(10, 0);
     }
     let table = geometry::prefac(kind, a, b, c, d);
     if !geometry::geometry_finite(kind, a, b, c, d, &table) {
         return Value::Refused(11, 0);
     }
-    result(integral(kind, l, a, b, &table, aux, boys, roll, start, terms))
+    result(integral(terms, a, b, &table, aux, boys, roll))
 }
 
 // The terms of a roll that was judged, from its cursor on.
@@ -135,19 +131,7 @@ fn from_cursor(
     ensures { λ r. ⌜ r ≡ ofCursor (kindOf (cursor .kind)) cursor a b c d aux (now (boys .entry)) (now (roll .entry)) ⌝ }
 {
     match Kind::of(cursor.kind) {
-        Named::Is(kind) => judged(
-            kind,
-            cursor.l,
-            a,
-            b,
-            c,
-            d,
-            aux,
-            boys,
-            roll,
-            cursor.place,
-            cursor.left,
-        ),
+        Named::Is(kind) => judged(Terms { kind, cursor }, a, b, c, d, aux, boys, roll),
         Named::Unknown => Value::Refused(7, 0),
     }
 }

@@ -3,14 +3,22 @@ ghost use Prim.Native.Nat.{_+_, _≤_};
 ghost use mathlib.Core.Path.{_≡_};
 ghost use lib.ListN.{length, getD};
 ghost use Rattle.geometry.specs.Floats.{_⊕_, _⊗_, zero};
-ghost use Rattle.integrals.specs.Sums.{boysAt, productOf, staysKinetic, plainOf, kineticOf, nuclearOf, coulombOf, sumFrom, ofOrder, runOrders, totalOf};
-ghost use Rattle.integrals.specs.Stored.{headAt, addOrderOf, startOf, addendOf, between, termOf, termsAt};
-use super::reader::Head;
-use super::reader::boys_at;
-use super::reader::end_at;
-use super::reader::head_at;
-use super::reader::wide;
+ghost use Rattle.integrals.specs.Sums.{boysNumber, productOf, staysKinetic, plainOf, kineticOf, nuclearOf, coulombOf, sumFrom, ofOrder, runOrders, totalOf};
+ghost use Rattle.roll.specs.inner.Again.{headAt, between, headTerm, termsAgain};
+ghost use Rattle.integrals.specs.inner.Stored.{addOrderOf, startOf, addendOf, againFrom};
 use kind::Kind;
+use number::wide;
+use roll::Cursor;
+use roll::Head;
+use roll::boys_at;
+use roll::end_at;
+use roll::head_at;
+
+// The terms of a judged roll: their kind, and the cursor that stands before them.
+pub(crate) struct Terms {
+    pub(crate) kind: Kind,
+    pub(crate) cursor: Cursor,
+}
 
 // What a term adds to a sum in list order.
 enum Adds {
@@ -36,7 +44,7 @@ fn product(table: &[f64], roll: &[u8], from: usize, end: usize, start: f64) -> f
     let mut g = start;
     let mut at = from;
     while at < end {
-        g = g * float_at(table, wide(roll[at]));
+        g = g * float_at(table, wide(roll[at]) as usize);
         at += 1;
     }
     g
@@ -91,7 +99,7 @@ fn addend(
     h: Head,
 ) -> f64
     requires { ⌜ h .end ≤ length (now roll) ⌝ }
-    ensures { λ r. ⌜ r ≡ addendOf adds kinetic (now (table .entry)) aux (now (boys .entry)) (termOf (now (roll .entry)) h) ⌝ }
+    ensures { λ r. ⌜ r ≡ addendOf adds kinetic (now (table .entry)) aux (now (boys .entry)) (headTerm (now (roll .entry)) h) ⌝ }
 {
     let start = start_of(adds, roll, h.from, h.end, kinetic);
     let g = product(table, roll, h.from, h.end, start);
@@ -114,7 +122,7 @@ fn sum(
     start: usize,
     terms: u32,
 ) -> f64
-    ensures { λ r. ⌜ r ≡ sumFrom (addendOf adds kinetic (now (table .entry)) aux (now (boys .entry))) (termsAt (now (roll .entry)) terms start) zero ⌝ }
+    ensures { λ r. ⌜ r ≡ sumFrom (addendOf adds kinetic (now (table .entry)) aux (now (boys .entry))) (termsAgain (now (roll .entry)) start terms) zero ⌝ }
 {
     let mut sum = 0.0;
     let mut at = start;
@@ -131,7 +139,7 @@ fn sum(
 // What the term at a place adds to the sum of its Boys order.
 fn add_term(b: f64, table: &[f64], roll: &[u8], h: Head, sum: f64) -> f64
     requires { ⌜ h .end ≤ length (now roll) ⌝ }
-    ensures { λ r. ⌜ r ≡ sum ⊕ coulombOf (now (table .entry)) b (termOf (now (roll .entry)) h) ⌝ }
+    ensures { λ r. ⌜ r ≡ sum ⊕ coulombOf (now (table .entry)) b (headTerm (now (roll .entry)) h) ⌝ }
 {
     let g = product(table, roll, h.from, h.end, 1.0);
     sum + h.scale as f64 * b * g
@@ -139,7 +147,7 @@ fn add_term(b: f64, table: &[f64], roll: &[u8], h: Head, sum: f64) -> f64
 
 // A term of the Boys order that is summed adds scale·b·g, any other nothing.
 fn add_order(order: usize, b: f64, table: &[f64], roll: &[u8], at: usize, sum: f64) -> f64
-    ensures { λ r. ⌜ r ≡ addOrderOf order b (now (table .entry)) (termOf (now (roll .entry)) (headAt (now (roll .entry)) at)) sum ⌝ }
+    ensures { λ r. ⌜ r ≡ addOrderOf order b (now (table .entry)) (headTerm (now (roll .entry)) (headAt (now (roll .entry)) at)) sum ⌝ }
 {
     if boys_at(roll, at) == order {
         return add_term(b, table, roll, head_at(roll, at), sum);
@@ -158,7 +166,7 @@ fn pass(
     terms: u32,
     before: f64,
 ) -> f64
-    ensures { λ r. ⌜ r ≡ sumFrom (coulombOf (now (table .entry)) (boysAt (now (boys .entry)) order ⊗ s)) (ofOrder order (termsAt (now (roll .entry)) terms start)) before ⌝ }
+    ensures { λ r. ⌜ r ≡ sumFrom (coulombOf (now (table .entry)) (boysNumber (now (boys .entry)) order ⊗ s)) (ofOrder order (termsAgain (now (roll .entry)) start terms)) before ⌝ }
 {
     let b = float_at(boys, order) * s;
     let mut sum = before;
@@ -173,7 +181,7 @@ fn pass(
 }
 
 fn get_overlap(table: &[f64], aux: f64, boys: &[f64], roll: &[u8], start: usize, terms: u32) -> f64
-    ensures { λ r. ⌜ r ≡ sumFrom (plainOf (now (table .entry)) aux) (termsAt (now (roll .entry)) terms start) zero ⌝ }
+    ensures { λ r. ⌜ r ≡ sumFrom (plainOf (now (table .entry)) aux) (termsAgain (now (roll .entry)) start terms) zero ⌝ }
 {
     sum(Adds::Plain, 0.0, table, aux, boys, roll, start, terms)
 }
@@ -187,19 +195,19 @@ fn get_kinetic(
     start: usize,
     terms: u32,
 ) -> f64
-    ensures { λ r. ⌜ r ≡ sumFrom (kineticOf kinetic (now (table .entry)) aux) (termsAt (now (roll .entry)) terms start) zero ⌝ }
+    ensures { λ r. ⌜ r ≡ sumFrom (kineticOf kinetic (now (table .entry)) aux) (termsAgain (now (roll .entry)) start terms) zero ⌝ }
 {
     sum(Adds::Kinetic, kinetic, table, aux, boys, roll, start, terms)
 }
 
 fn get_nuclear(table: &[f64], aux: f64, boys: &[f64], roll: &[u8], start: usize, terms: u32) -> f64
-    ensures { λ r. ⌜ r ≡ sumFrom (nuclearOf (now (table .entry)) aux (now (boys .entry))) (termsAt (now (roll .entry)) terms start) zero ⌝ }
+    ensures { λ r. ⌜ r ≡ sumFrom (nuclearOf (now (table .entry)) aux (now (boys .entry))) (termsAgain (now (roll .entry)) start terms) zero ⌝ }
 {
     sum(Adds::Nuclear, 0.0, table, aux, boys, roll, start, terms)
 }
 
 fn get_moment(table: &[f64], aux: f64, boys: &[f64], roll: &[u8], start: usize, terms: u32) -> f64
-    ensures { λ r. ⌜ r ≡ sumFrom (plainOf (now (table .entry)) aux) (termsAt (now (roll .entry)) terms start) zero ⌝ }
+    ensures { λ r. ⌜ r ≡ sumFrom (plainOf (now (table .entry)) aux) (termsAgain (now (roll .entry)) start terms) zero ⌝ }
 {
     sum(Adds::Plain, 0.0, table, aux, boys, roll, start, terms)
 }
@@ -214,7 +222,7 @@ fn get_coulomb(
     start: usize,
     terms: u32,
 ) -> f64
-    ensures { λ r. ⌜ r ≡ runOrders (now (table .entry)) s (now (boys .entry)) (termsAt (now (roll .entry)) terms start) (l + 1) 0 zero ⌝ }
+    ensures { λ r. ⌜ r ≡ runOrders (now (table .entry)) s (now (boys .entry)) (termsAgain (now (roll .entry)) start terms) (l + 1) 0 zero ⌝ }
 {
     let last = l as usize;
     let mut sum = 0.0;
@@ -227,23 +235,24 @@ fn get_coulomb(
 }
 
 pub(crate) fn total(
-    kind: Kind,
-    l: u8,
+    terms: Terms,
     kinetic: f64,
     table: &[f64],
     aux: f64,
     boys: &[f64],
     roll: &[u8],
-    start: usize,
-    terms: u32,
 ) -> f64
-    ensures { λ r. ⌜ r ≡ totalOf kind l kinetic (now (table .entry)) aux (now (boys .entry)) (termsAt (now (roll .entry)) terms start) ⌝ }
+    ensures { λ r. ⌜ r ≡ totalOf (terms .kind) (terms .cursor .l) kinetic (now (table .entry)) aux (now (boys .entry)) (againFrom (now (roll .entry)) (terms .cursor)) ⌝ }
 {
+    let kind = terms.kind;
+    let cursor = terms.cursor;
+    let start = cursor.place;
+    let left = cursor.left;
     match kind {
-        Kind::Overlap => get_overlap(table, aux, boys, roll, start, terms),
-        Kind::Kinetic => get_kinetic(kinetic, table, aux, boys, roll, start, terms),
-        Kind::Nuclear => get_nuclear(table, aux, boys, roll, start, terms),
-        Kind::Moment => get_moment(table, aux, boys, roll, start, terms),
-        Kind::Coulomb => get_coulomb(l, table, aux, boys, roll, start, terms),
+        Kind::Overlap => get_overlap(table, aux, boys, roll, start, left),
+        Kind::Kinetic => get_kinetic(kinetic, table, aux, boys, roll, start, left),
+        Kind::Nuclear => get_nuclear(table, aux, boys, roll, start, left),
+        Kind::Moment => get_moment(table, aux, boys, roll, start, left),
+        Kind::Coulomb => get_coulomb(cursor.l, table, aux, boys, roll, start, left),
     }
 }

@@ -3,7 +3,7 @@ use Prim.Native.Nat.{ℕ, _+_, _^_, _≤_, _<_}
 use native.Mathlib.Omega.{arith}
 use mathlib.Core.Path.{_≡_, refl, sym, _∙_}
 use mathlib.Core.Bool.{Bool, true, false}
-use mathlib.Core.List.{List, _++_}
+use mathlib.Core.List.{List}
 use borrow.Author.Tests.{le-ltb, ltb-false}
 use lib.Dec.{ltb}
 use lib.ListN.{length, drop, length-append}
@@ -17,7 +17,8 @@ use Rattle.listing.specs.declared.Listed.the-variants.{Text, Refused}
 use Rattle.listing.specs.Text.{listingText, refusalText}
 use Rattle.listing.specs.Answers.{textAt, textOut, TextTold, readAnswer, readOut, listingAt, listingOut, ListingTold}
 use Rattle.listing.proofs.Room.{listing-short, refusal-short}
-use Rattle.list.specs.Output.{outputOf, textRoom, Holds}
+use Rattle.list.specs.Output.{outputOf}
+use Rattle.list.specs.inner.Room.{textRoom, Holds}
 
 -- a text that has room from the front on
 at-front : (text out : List ℕ) → length text ≤ length out → (textAt text out 0 ≡ Text (length text)) × Holds (textOut text out 0) (length text) text

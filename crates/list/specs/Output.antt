@@ -1,10 +1,9 @@
 -- What the program writes of a roll, whatever its bytes are.
-use Prim.Native.Nat.{ℕ, _*_, _≤_}
-use mathlib.Core.Path.{_≡_}
+use Prim.Native.Nat.{ℕ}
 use mathlib.Core.Bool.{cond}
 use mathlib.Core.List.{List}
 use lib.Dec.{ltb}
-use lib.ListN.{length, take}
+use lib.ListN.{length}
 use Rattle.kind.specs.Limits.{mostListed}
 use Rattle.roll.specs.Reading.{Reading, got, refused, Roll, rollAt}
 use Rattle.listing.specs.Text.{listingText, refusalText}
@@ -17,12 +16,3 @@ readOutput (refused n place) = refusalText n place
 -- the listing; a roll of more bytes than the listing takes is 6
 unfoldable pub outputOf : List ℕ → List ℕ
 outputOf roll = cond (ltb mostListed (length roll)) (refusalText 6 0) (readOutput (rollAt roll))
-
--- the bytes lent to a text: no listing has more
-abbrev pub textRoom : ℕ
-textRoom = 5 * mostListed
-
--- the first n bytes are the text
-pub record Holds (out : List ℕ) (n : ℕ) (text : List ℕ) : Type 0 where
-  pub inside : n ≤ length out
-  pub is : take n out ≡ text

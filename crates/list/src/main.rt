@@ -2,7 +2,8 @@
 ghost use Prim.Native.Nat.{_≤_};
 ghost use lib.ListN.{length};
 ghost use Rattle.listing.specs.Text.{refusalText};
-ghost use Rattle.list.specs.Output.{outputOf, textRoom, Holds};
+ghost use Rattle.list.specs.Output.{outputOf};
+ghost use Rattle.list.specs.inner.Room.{textRoom, Holds};
 use kind::Kind;
 use libc::STDIN_FILENO;
 use libc::STDOUT_FILENO;

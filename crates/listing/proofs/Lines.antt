@@ -13,9 +13,9 @@ use Rattle.term.specs.declared.Term.{Term as Held}
 use Rattle.text.specs.declared.Written.{Written}
 use Rattle.text.specs.declared.Written.the-variants.{To}
 use Rattle.text.specs.Digits.{decimalOf}
-use Rattle.roll.specs.Bytes.{seen}
+use Rattle.roll.specs.inner.Held.{fromHeld}
 use Rattle.listing.specs.Text.{blank, colon, feed, kindWord, ordersWord, termsWord, refusedWord, atWord, afterBlanks, kindText, headLine, termNumbers, termLine, refusalText}
-use Rattle.listing.specs.Saying.{Said}
+use Rattle.listing.specs.inner.Saying.{Said}
 use Rattle.listing.proofs.Saying.{Saying, said-both, saying-more, saying-done}
 
 pub named-said : (room n : ℕ) (name a b c : List ℕ) (w q r : Written) → Said room a w name q b → Said room b q (decimalOf n) r c → Said room a w (name ++ decimalOf n) r c
@@ -48,7 +48,7 @@ pub numbers-said : (room number scale boys : ℕ) (a b c d e : List ℕ) (w p q 
 unfolding termNumbers
 numbers-said room number scale boys a b c d e w p q r s one two three four = said-both one (said-both two (said-both three four))
 
-pub term-said : (room number : ℕ) (t : Held) (a b c d : List ℕ) (w p q r : Written) → Said room a w (termNumbers number (t .scale) (t .boys)) p b → Said room b p (afterBlanks (take (t .count - 0) (drop 0 (t .prefactors)))) q c → Said room c q feed r d → Said room a w (termLine number (seen t)) r d
+pub term-said : (room number : ℕ) (t : Held) (a b c d : List ℕ) (w p q r : Written) → Said room a w (termNumbers number (t .scale) (t .boys)) p b → Said room b p (afterBlanks (take (t .count - 0) (drop 0 (t .prefactors)))) q c → Said room c q feed r d → Said room a w (termLine number (fromHeld t)) r d
 unfolding termLine
 term-said room number t a b c d w p q r one two three = let all : t .count - 0 ≡ t .count = omega arith in said-both one (said-both (rw all at two) three)
 

@@ -4,7 +4,7 @@ use Prim.Native.Nat.{ℕ, _+_, _-_, _≤_, _<_}
 use native.Mathlib.Nat.{add-zero}
 use native.Mathlib.Omega.{arith}
 use mathlib.Core.Path.{_≡_, refl, ap, sym, _∙_}
-use mathlib.Core.List.{List, [], _∷_, _++_}
+use mathlib.Core.List.{List, [], _++_}
 use borrow.Author.Tests.{le-leb, lt-leb, leb-true, leb-false}
 use lib.Dec.{leb}
 use lib.ListN.{length, length-append}
@@ -16,40 +16,40 @@ use Rattle.text.specs.declared.Written.{Written}
 use Rattle.text.specs.declared.Written.the-variants.{To, NoRoom}
 use Rattle.laws.specs.Placed.{roomFor}
 use Rattle.text.specs.Writing.{WrittenTold}
-use Rattle.listing.specs.Saying.{further, Said, Kept}
+use Rattle.listing.specs.inner.Saying.{advanced, Said, Kept}
 
 -- ---- places
 
-pub further-past : (room at n : ℕ) → room < at → NoRoom ≡ further room (To at) n
-further-past room at n h = rw (lt-leb (at + n) room (omega arith))
+pub advanced-past : (room at n : ℕ) → room < at → NoRoom ≡ advanced room (To at) n
+advanced-past room at n h = rw (lt-leb (at + n) room (omega arith))
 
-pub further-none : (room at n : ℕ) → at ≤ room → room - at < n → NoRoom ≡ further room (To at) n
-further-none room at n h k = rw (lt-leb (at + n) room (omega arith))
+pub advanced-none : (room at n : ℕ) → at ≤ room → room - at < n → NoRoom ≡ advanced room (To at) n
+advanced-none room at n h k = rw (lt-leb (at + n) room (omega arith))
 
-pub further-to : (room at n : ℕ) → at ≤ room → n ≤ room - at → To (at + n) ≡ further room (To at) n
-further-to room at n h k = rw (le-leb (at + n) room (omega arith))
+pub advanced-to : (room at n : ℕ) → at ≤ room → n ≤ room - at → To (at + n) ≡ advanced room (To at) n
+advanced-to room at n h k = rw (le-leb (at + n) room (omega arith))
 
 -- two stretches are one
-further-both : (room m n : ℕ) (w : Written) → further room (further room w m) n ≡ further room w (m + n)
-further-both room m n NoRoom = refl
-further-both room m n (To at) =
+advanced-both : (room m n : ℕ) (w : Written) → advanced room (advanced room w m) n ≡ advanced room w (m + n)
+advanced-both room m n NoRoom = refl
+advanced-both room m n (To at) =
     tested (leb (at + m) room)
     (λ t. let same : at + m + n ≡ at + (m + n) = omega arith in rw (t, same))
     (λ f. let past : room < at + m = leb-false (at + m) room f in rw (f, lt-leb (at + (m + n)) room (omega arith)))
 
 -- what was said is within the room
-pub further-kept : (room n : ℕ) (w : Written) → Kept room (further room w n)
-further-kept room n w = further-both room n 0 w ∙ ap (further room w) (add-zero n)
+pub advanced-kept : (room n : ℕ) (w : Written) → Kept room (advanced room w n)
+advanced-kept room n w = advanced-both room n 0 w ∙ ap (advanced room w) (add-zero n)
 
-pub further-is : (room n : ℕ) (w : Written) (end : ℕ) → further room w n ≡ To end → (at : ℕ) × (w ≡ To at) × (end ≡ at + n) × (at + n ≤ room)
-further-is room n NoRoom end e = absurd (clash (cc))
-further-is room n (To at) end e =
+pub advanced-is : (room n : ℕ) (w : Written) (end : ℕ) → advanced room w n ≡ To end → (at : ℕ) × (w ≡ To at) × (end ≡ at + n) × (at + n ≤ room)
+advanced-is room n NoRoom end e = absurd (clash (cc))
+advanced-is room n (To at) end e =
     tested (leb (at + n) room)
     (λ t. let is : To (at + n) ≡ To end = rw t at e in (at, refl, cc, leb-true (at + n) room t))
     (λ f. let is : NoRoom ≡ To end = rw f at e in absurd (clash (cc)))
 
-pub further-not : (room n at : ℕ) → further room (To at) n ≡ NoRoom → room < at + n
-further-not room n at e =
+pub advanced-not : (room n at : ℕ) → advanced room (To at) n ≡ NoRoom → room < at + n
+advanced-not room n at e =
     tested (leb (at + n) room)
     (λ t. let is : To (at + n) ≡ NoRoom = rw t at e in absurd (clash (cc)))
     (λ f. leb-false (at + n) room f)
@@ -67,13 +67,13 @@ wrote-long before after text at q w =
     (λ t. let is : after ≡ sets before at text = wrote-sets before after text at q w (leb-true _ _ t) in ap length is ∙ length-sets before at text)
     (λ f. let is : after ≡ before = w .out ∙ rw f in ap length is)
 
-pub said-piece : (room : ℕ) (before after text : List ℕ) (w : Written) (at n : ℕ) (q r : Written) → w ≡ To at → WrittenTold before at text q after → n ≡ length text → r ≡ further room (To at) n → Said room before w text r after
+pub said-piece : (room : ℕ) (before after text : List ℕ) (w : Written) (at n : ℕ) (q r : Written) → w ≡ To at → WrittenTold before at text q after → n ≡ length text → r ≡ advanced room (To at) n → Said room before w text r after
 said-piece room before after text w at n q r is wrote size answer =
-    let told : r ≡ further room w (length text) = answer ∙ ap (further room (To at)) size ∙ ap (λ (w : Written). further room w (length text)) (sym is) in
+    let told : r ≡ advanced room w (length text) = answer ∙ ap (advanced room (To at)) size ∙ ap (λ (w : Written). advanced room w (length text)) (sym is) in
     record {
       answer = told;
       holds = λ enough at′ end from to.
-          let f = further-is room (length text) w end (sym told ∙ to) in
+          let f = advanced-is room (length text) w end (sym told ∙ to) in
           let same : at′ ≡ at = cc in
           let place : f .0 ≡ at = cc (f .1) in
           rw same (wrote-sets before after text at q wrote (omega (arith, f .3)));
@@ -94,11 +94,11 @@ pub said-both : {room : ℕ} {a b c xs ys : List ℕ} {w q r : Written} → Said
 said-both {room} {a} {b} {c} {xs} {ys} {w} {q} {r} first second =
     record {
       answer =
-          second .answer ∙ ap (λ (w : Written). further room w (length ys)) (first .answer)
-          ∙ further-both room (length xs) (length ys) w ∙ ap (further room w) (sym (length-append xs ys));
+          second .answer ∙ ap (λ (w : Written). advanced room w (length ys)) (first .answer)
+          ∙ advanced-both room (length xs) (length ys) w ∙ ap (advanced room w) (sym (length-append xs ys));
       holds = λ enough at end from to.
-          let m = further-is room (length ys) q end (sym (second .answer) ∙ to) in
-          let f = further-is room (length xs) w (m .0) (sym (first .answer) ∙ m .1) in
+          let m = advanced-is room (length ys) q end (sym (second .answer) ∙ to) in
+          let f = advanced-is room (length xs) w (m .0) (sym (first .answer) ∙ m .1) in
           let same : f .0 ≡ at = cc (f .1) in
           let mid : m .0 ≡ at + length xs = omega (arith, f .2) in
           let one : b ≡ sets a at xs = first .holds enough at (m .0) from (m .1) in
@@ -111,7 +111,7 @@ pub said-none : (room : ℕ) (a : List ℕ) (w : Written) → Kept room w → Sa
 said-none room a w kept = record { answer = sym kept; holds = λ enough at end from to. refl; long = refl }
 
 pub said-kept : (room : ℕ) (a b xs : List ℕ) (w r : Written) → Said room a w xs r b → Kept room r
-said-kept room a b xs w r s = rw (s .answer) (further-kept room (length xs) w)
+said-kept room a b xs w r s = rw (s .answer) (advanced-kept room (length xs) w)
 
 -- ---- what a loop has still to say
 

@@ -10,11 +10,10 @@ use lib.Seq.{sets}
 use Rattle.laws.proofs.Parts.{part-all, part-put}
 use Rattle.text.specs.declared.Written.{Written}
 use Rattle.text.specs.declared.Written.the-variants.{To, NoRoom}
-use Rattle.listing.specs.declared.Listed.{Listed}
 use Rattle.listing.specs.declared.Listed.the-variants.{Text, Refused}
-use Rattle.listing.specs.Saying.{Said}
+use Rattle.listing.specs.inner.Saying.{Said}
 use Rattle.listing.specs.Answers.{textAt, textOut, TextTold}
-use Rattle.listing.proofs.Saying.{further-is, further-not}
+use Rattle.listing.proofs.Saying.{advanced-is, advanced-not}
 
 no-bytes : (l : List ℕ) → length l ≡ 0 → l ≡ []
 no-bytes [] e = refl
@@ -33,7 +32,7 @@ pub told-full : (text out part : List ℕ) (start : ℕ) (m : Written) → start
 unfolding textAt textOut
 told-full text out part start m inside measured full =
     let none : part ≡ [] = no-bytes part (measured .long) in
-    let over : length out - start < 0 + length text = further-not (length out - start) (length text) 0 (sym (measured .answer) ∙ full) in
+    let over : length out - start < 0 + length text = advanced-not (length out - start) (length text) 0 (sym (measured .answer) ∙ full) in
     record {
       answer = rw (le-ltb (length out) start inside, lt-ltb (length out) (start + length text) (omega arith));
       out = rw (none, lt-ltb (length out) (start + length text) (omega arith));
@@ -43,7 +42,7 @@ pub told-text : (text out part written : List ℕ) (start n : ℕ) (m r : Writte
 unfolding textAt textOut
 told-text text out part written start n m r inside measured fits said =
     let none : part ≡ [] = no-bytes part (measured .long) in
-    let f = further-is (length out - start) (length text) (To 0) n (sym (measured .answer) ∙ fits) in
+    let f = advanced-is (length out - start) (length text) (To 0) n (sym (measured .answer) ∙ fits) in
     let zero-at : f .0 ≡ 0 = cc (f .1) in
     let size : n ≡ length text = omega (arith, f .2) in
     let room : start + length text ≤ length out = omega (arith, f .3) in

@@ -2,9 +2,9 @@
 use Prim.Native.Nat.{ℕ, _+_}
 use mathlib.Core.Path.{_≡_}
 use mathlib.Core.Bool.{cond}
-use mathlib.Core.List.{List, _++_}
+use mathlib.Core.List.{List}
 use lib.Dec.{ltb}
-use lib.ListN.{length, take, drop}
+use lib.ListN.{length}
 use Rattle.laws.specs.Placed.{placed}
 use Rattle.kind.specs.Limits.{mostListed}
 use Rattle.roll.specs.Reading.{Reading, got, refused, Roll, rollAt}
@@ -50,9 +50,9 @@ pub record ListingTold (roll before : List ℕ) (start : ℕ) (r : Listed) (afte
   pub out : after ≡ listingOut roll before start
 
 -- the number that 01 gives each case, 0 for success, and its place
-abbrev pub numberOf : Listed → ℕ
-numberOf (listed.Text n) = 0
-numberOf (listed.Refused n place) = n
+abbrev pub refusalOf : Listed → ℕ
+refusalOf (listed.Text n) = 0
+refusalOf (listed.Refused n place) = n
 
 abbrev pub placeOf : Listed → ℕ
 placeOf (listed.Text n) = 0

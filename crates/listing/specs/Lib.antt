@@ -1,3 +1,3 @@
 pub mod Answers
-pub mod Saying
 pub mod Text
+pub mod inner

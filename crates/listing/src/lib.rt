@@ -6,9 +6,10 @@ ghost use mathlib.Core.List.{_++_};
 ghost use Prim.Native.Nat.{_≤_};
 ghost use lib.ListN.{length};
 ghost use Rattle.text.specs.Digits.{decimalOf};
-ghost use Rattle.roll.specs.Bytes.{seen};
+ghost use Rattle.roll.specs.inner.Held.{fromHeld};
+ghost use Rattle.roll.specs.inner.Judged.{Judged, leftOf, Readable};
 ghost use Rattle.listing.specs.Text.{afterBlanks, kindText, headLine, termNumbers, termLine, termLines, refusalText};
-ghost use Rattle.listing.specs.Saying.{further, Said, Kept, leftOf, Readable, Judged, textOf};
+ghost use Rattle.listing.specs.inner.Saying.{advanced, Said, Kept, textOf};
 ghost use Rattle.listing.specs.Answers.{TextTold, ListingTold};
 use kind::Kind;
 use kind::Named;
@@ -26,7 +27,7 @@ pub enum Listed {
 
 // The place after `n` more bytes, where the room has them.
 fn advance(room: usize, at: usize, n: usize) -> Written
-    ensures { λ r. ⌜ r ≡ further room (Written.To at) n ⌝ }
+    ensures { λ r. ⌜ r ≡ advanced room (Written.To at) n ⌝ }
 {
     if room < at {
         return Written::NoRoom;
@@ -122,7 +123,7 @@ fn say_numbers(
 // A term's line.
 fn say_term(out: &mut [u8], room: usize, w: Written, number: u64, t: Term) -> Written
     requires { ⌜ t .count ≤ length (t .prefactors) ⌝ }
-    ensures { λ r. ⌜ Said room (now (out .entry)) w (termLine number (seen t)) r (now (out .exit)) ⌝ }
+    ensures { λ r. ⌜ Said room (now (out .entry)) w (termLine number (fromHeld t)) r (now (out .exit)) ⌝ }
 {
     let prefactors = t.prefactors;
     let count = t.count as usize;

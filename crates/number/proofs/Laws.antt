@@ -1,34 +1,32 @@
 -- What was written reads back, and what reads is the only writing of its number.
 -- Both go group by group, as the definitions do.
-use Prim.Native.Nat.{ℕ, zero, suc, zero-le, _+_, _*_, _/_, _%_, _^_, _≤_, _<_}
+use Prim.Native.Nat.{ℕ, zero, suc, _+_, _*_, _/_, _%_, _^_, _≤_, _<_}
 use mathlib.Core.Path.{_≡_, refl, sym, ap, _∙_}
 use mathlib.Core.List.{List, [], _∷_, _++_, append-assoc}
 use mathlib.Core.Bool.{Bool, true, false, cond}
 use mathlib.Core.Logic.{⊎-elim}
-use native.Mathlib.Numerals.{add-one}
 use native.Mathlib.Omega.{arith}
 use native.Mathlib.Nat.{pow-suc, pos-of-ne-zero}
 use borrow.Author.Tests.{lt-ltb, le-ltb, ltb-true, ltb-false, ne-eqb}
 use lib.Dec.{ltb, lit<}
-use lib.ListN.{length, getD, drop, length-append, length-drop, drop-of-length-le, List·getD-eq-default}
-use lib.Seq.{drop-append-seam, drop-append-add, drop-drop, getD-drop}
+use lib.ListN.{length, drop, length-append, length-drop}
+use lib.Seq.{drop-append-seam, drop-drop, getD-drop}
 use Rattle.laws.proofs.Cases.{clash}
-use Rattle.number.specs.declared.Number.{Number}
-use Rattle.number.specs.declared.Number.the-variants.{Is, Ended, NotShortest, TooLarge}
+use Rattle.number.specs.declared.Number.the-variants.{Is}
 use Rattle.number.specs.Numbers.{groups, bytesOf, lengthOf, above, higher, readFrom, readAt, Bytes}
 use Rattle.number.proofs.Reading.{none-ended, cons-last, cons-more, fifth-is, higher-is, higher-below, above-is, Ends}
 use Rattle.number.proofs.Writing.{groups-last, groups-more, length-some}
 
 -- ---- what was written reads back
 
-fifth-back : (n : ℕ) (post : List ℕ) (at : ℕ) → 1 ≤ n → n < 16 → higher 0 (n ∷ post) at ≡ Is n (at + 1)
+fifth-back : (n : ℕ) (post : List ℕ) (at : ℕ) → 1 ≤ n → n < 16 → higher (n ∷ post) at 0 ≡ Is n (at + 1)
 unfolding higher
 fifth-back n post at some few =
     let nz : n ≡ 0 → ⊥ = λ z. omega arith in
     let le : n ≤ 15 = omega arith in
     simp (le-ltb 15 n le, ne-eqb n 0 nz)
 
-higher-back : (more n : ℕ) (post : List ℕ) (at : ℕ) → 1 ≤ n → n < 16 * 128 ^ more → higher more (groups more n ++ post) at ≡ Is n (at + length (groups more n))
+higher-back : (more n : ℕ) (post : List ℕ) (at : ℕ) → 1 ≤ n → n < 16 * 128 ^ more → higher (groups more n ++ post) at more ≡ Is n (at + length (groups more n))
 higher-back zero n post at some few = rw (groups-last 0 n (omega arith)) (fifth-back n post at some (omega arith))
 higher-back (suc more) n post at some few = by (ltb n 128) refl (higher-back more (n / 128) post (at + 1))
   where
@@ -36,8 +34,8 @@ higher-back (suc more) n post at some few = by (ltb n 128) refl (higher-back mor
     nz z = omega arith
 
     by : (q : Bool) → ltb n 128 ≡ q
-        → (1 ≤ n / 128 → n / 128 < 16 * 128 ^ more → higher more (groups more (n / 128) ++ post) (at + 1) ≡ Is (n / 128) (at + 1 + length (groups more (n / 128))))
-        → higher (suc more) (groups (suc more) n ++ post) at ≡ Is n (at + length (groups (suc more) n))
+        → (1 ≤ n / 128 → n / 128 < 16 * 128 ^ more → higher (groups more (n / 128) ++ post) (at + 1) more ≡ Is (n / 128) (at + 1 + length (groups more (n / 128))))
+        → higher (groups (suc more) n ++ post) at (suc more) ≡ Is n (at + length (groups (suc more) n))
     by true lt rest =
         let small : n < 128 = ltb-true n 128 lt in
         rw (groups-last (suc more) n small) (cons-last (suc more) n post at (λ e. clash (cc)) nz small)
@@ -102,7 +100,7 @@ took-more more b h t at n next big byte says took =
       some = omega arith;
     }
 
-higher-only : (more : ℕ) (l : List ℕ) (at n next : ℕ) → Bytes l → higher more l at ≡ Is n next → Took more l at n next
+higher-only : (more : ℕ) (l : List ℕ) (at n next : ℕ) → Bytes l → higher l at more ≡ Is n next → Took more l at n next
 higher-only more [] at n next bytes e = let none = none-ended more at in absurd (clash (cc))
 higher-only zero (b ∷ t) at n next bytes e = let f = fifth-is b t at n next e in took-end zero b t at n next (omega arith) (f .1)
 higher-only (suc more) (b ∷ t) at n next bytes e =
@@ -122,7 +120,7 @@ unfolding readFrom bytesOf lengthOf
 from-only [] at n next bytes e = absurd (clash (cc))
 from-only (b ∷ t) at n next bytes e = by (ltb b 128) refl e
   where
-    by : (q : Bool) → ltb b 128 ≡ q → cond q (Is b (at + 1)) (above (b % 128) (higher 3 t (at + 1))) ≡ Is n next → (n < 2 ^ 32) × ((rest : List ℕ) × ((b ∷ t) ≡ groups 4 n ++ rest) × (next ≡ at + length (groups 4 n)))
+    by : (q : Bool) → ltb b 128 ≡ q → cond q (Is b (at + 1)) (above (b % 128) (higher t (at + 1) 3)) ≡ Is n next → (n < 2 ^ 32) × ((rest : List ℕ) × ((b ∷ t) ≡ groups 4 n ++ rest) × (next ≡ at + length (groups 4 n)))
     by true lt e =
         let small : b < 128 = ltb-true b 128 lt in
         let says : b ≡ n = cc in
@@ -130,7 +128,7 @@ from-only (b ∷ t) at n next bytes e = by (ltb b 128) refl e
         let one : groups 4 n ≡ n ∷ [] = groups-last 4 n (omega arith) in
         (omega arith, (t, rw (one, ← says), rw one after))
     by false ge e =
-        let a = above-is (b % 128) n next (higher 3 t (at + 1)) e in
+        let a = above-is (b % 128) n next (higher t (at + 1) 3) e in
         let below = higher-below 3 t (at + 1) (a .0) next (a .1) in
         let took = took-more 3 b (a .0) t at n next (ltb-false b 128 ge) (bytes 0) (a .2) (higher-only 3 t (at + 1) (a .0) next (λ i. bytes (suc i)) (a .1)) in
         (omega (arith, bytes 0), (took .rest, took .is, took .after))

@@ -7,56 +7,55 @@ use native.Mathlib.Numerals.{add-one}
 use native.Mathlib.Omega.{arith}
 use native.Mathlib.Nat.{pow-suc, pow-le-pow-right, mod-lt}
 use mathlib.Core.Logic.{_⊎_, inl, inr, ⊎-elim}
-use borrow.Author.Tests.{lt-ltb, le-ltb, ltb-true, ltb-false, eqb-true, eqb-false, ne-eqb, eq-eqb}
+use borrow.Author.Tests.{lt-ltb, le-ltb, ltb-true, ltb-false, eqb-false, ne-eqb}
 use lib.Dec.{ltb, eqb, lit<}
 use lib.ListN.{length, getD, drop, length-drop, drop-of-length-le}
 use lib.Seq.{drop-cons}
 use Rattle.laws.proofs.Cases.{clash}
 use Rattle.number.specs.declared.Number.{Number}
 use Rattle.number.specs.declared.Number.the-variants.{Is, Ended, NotShortest, TooLarge}
-use Rattle.number.specs.Numbers.{group, above, last, higher, readFrom, readAt}
+use Rattle.number.specs.Numbers.{oneByte, above, last, higher, readFrom, readAt}
 
 -- what stands at a place inside, and what follows it
 pub head : (s : List ℕ) (at b : ℕ) → at < length s → b ≡ getD s at 0 → drop at s ≡ b ∷ drop (at + 1) s
 head s at b inside is = cc (drop-cons s at 0 inside, add-one at)
 
-pub none-ended : (more at : ℕ) → higher more [] at ≡ Ended
+pub none-ended : (more at : ℕ) → higher [] at more ≡ Ended
 unfolding higher
-none-ended zero at = refl
-none-ended (suc more) at = refl
+none-ended more at = refl
 
-pub higher-ended : (s : List ℕ) (at more : ℕ) → length s ≤ at → Ended ≡ higher more (drop at s) at
+pub higher-ended : (s : List ℕ) (at more : ℕ) → length s ≤ at → Ended ≡ higher (drop at s) at more
 higher-ended s at more past = rw (drop-of-length-le s past) (sym (none-ended more at))
 
-none-zero : (more b : ℕ) (t : List ℕ) (at : ℕ) → b ≡ 0 → higher more (b ∷ t) at ≡ NotShortest
+none-zero : (more b : ℕ) (t : List ℕ) (at : ℕ) → b ≡ 0 → higher (b ∷ t) at more ≡ NotShortest
 unfolding higher
 none-zero zero b t at z = rw z
 none-zero (suc more) b t at z = rw z
 
-pub higher-zero : (s : List ℕ) (at more b : ℕ) → at < length s → b ≡ getD s at 0 → b ≡ 0 → NotShortest ≡ higher more (drop at s) at
+pub higher-zero : (s : List ℕ) (at more b : ℕ) → at < length s → b ≡ getD s at 0 → b ≡ 0 → NotShortest ≡ higher (drop at s) at more
 higher-zero s at more b inside is z = rw (head s at b inside is) (sym (none-zero more b (drop (at + 1) s) at z))
 
-pub higher-large : (s : List ℕ) (at more b : ℕ) → at < length s → b ≡ getD s at 0 → more ≡ 0 → 15 < b → TooLarge ≡ higher more (drop at s) at
+pub higher-large : (s : List ℕ) (at more b : ℕ) → at < length s → b ≡ getD s at 0 → more ≡ 0 → 15 < b → TooLarge ≡ higher (drop at s) at more
 unfolding higher
 higher-large s at more b inside is z big = rw (head s at b inside is, z) (simp (lt-ltb 15 b big))
 
-pub higher-fifth : (s : List ℕ) (at more b : ℕ) → at < length s → b ≡ getD s at 0 → more ≡ 0 → (b ≡ 0 → ⊥) → b ≤ 15 → Is b (at + 1) ≡ higher more (drop at s) at
+pub higher-fifth : (s : List ℕ) (at more b : ℕ) → at < length s → b ≡ getD s at 0 → more ≡ 0 → (b ≡ 0 → ⊥) → b ≤ 15 → Is b (at + 1) ≡ higher (drop at s) at more
 unfolding higher
 higher-fifth s at more b inside is z nz small = rw (head s at b inside is, z) (simp (le-ltb 15 b small, ne-eqb b 0 nz))
 
-pub cons-last : (more b : ℕ) (t : List ℕ) (at : ℕ) → (more ≡ 0 → ⊥) → (b ≡ 0 → ⊥) → b < 128 → higher more (b ∷ t) at ≡ Is b (at + 1)
+pub cons-last : (more b : ℕ) (t : List ℕ) (at : ℕ) → (more ≡ 0 → ⊥) → (b ≡ 0 → ⊥) → b < 128 → higher (b ∷ t) at more ≡ Is b (at + 1)
 unfolding higher
 cons-last zero b t at some nz small = absurd (some refl)
 cons-last (suc more) b t at some nz small = simp (lt-ltb b 128 small, ne-eqb b 0 nz)
 
-pub higher-last : (s : List ℕ) (at more b : ℕ) → at < length s → b ≡ getD s at 0 → (more ≡ 0 → ⊥) → (b ≡ 0 → ⊥) → b < 128 → Is b (at + 1) ≡ higher more (drop at s) at
+pub higher-last : (s : List ℕ) (at more b : ℕ) → at < length s → b ≡ getD s at 0 → (more ≡ 0 → ⊥) → (b ≡ 0 → ⊥) → b < 128 → Is b (at + 1) ≡ higher (drop at s) at more
 higher-last s at more b inside is some nz small = rw (head s at b inside is) (sym (cons-last more b (drop (at + 1) s) at some nz small))
 
-pub cons-more : (more less b : ℕ) (t : List ℕ) (at : ℕ) → more ≡ suc less → 128 ≤ b → higher more (b ∷ t) at ≡ above (b % 128) (higher less t (at + 1))
+pub cons-more : (more less b : ℕ) (t : List ℕ) (at : ℕ) → more ≡ suc less → 128 ≤ b → higher (b ∷ t) at more ≡ above (b % 128) (higher t (at + 1) less)
 unfolding higher
 cons-more more less b t at e big = rw e (simp (le-ltb b 128 big))
 
-pub higher-more : (s : List ℕ) (at more less b : ℕ) (r q : Number) → at < length s → b ≡ getD s at 0 → (more ≡ 0 → ⊥) → less ≡ more - 1 → 128 ≤ b → q ≡ higher less (drop (at + 1) s) (at + 1) → r ≡ above (b % 128) q → r ≡ higher more (drop at s) at
+pub higher-more : (s : List ℕ) (at more less b : ℕ) (r q : Number) → at < length s → b ≡ getD s at 0 → (more ≡ 0 → ⊥) → less ≡ more - 1 → 128 ≤ b → q ≡ higher (drop (at + 1) s) (at + 1) less → r ≡ above (b % 128) q → r ≡ higher (drop at s) at more
 higher-more s at more less b r q inside is some e big eq er =
     let more-is : more ≡ suc less = omega arith in
     er ∙ ap (above (b % 128)) eq ∙ rw (head s at b inside is) (sym (cons-more more less b (drop (at + 1) s) at more-is big))
@@ -88,10 +87,10 @@ last-is b at n next e = by (eqb b 0) refl e
 pub record Follows (more b : ℕ) (t : List ℕ) (at n next : ℕ) : Type 0 where
   pub rest : ℕ
   pub big : 128 ≤ b
-  pub reads : higher more t (at + 1) ≡ Is rest next
+  pub reads : higher t (at + 1) more ≡ Is rest next
   pub says : n ≡ b % 128 + 128 * rest
 
-pub fifth-is : (b : ℕ) (t : List ℕ) (at n next : ℕ) → higher 0 (b ∷ t) at ≡ Is n next → (b ≤ 15) × Ends b at n next
+pub fifth-is : (b : ℕ) (t : List ℕ) (at n next : ℕ) → higher (b ∷ t) at 0 ≡ Is n next → (b ≤ 15) × Ends b at n next
 unfolding higher
 fifth-is b t at n next e = by (ltb 15 b) refl e
   where
@@ -99,18 +98,18 @@ fifth-is b t at n next e = by (ltb 15 b) refl e
     by true lt e = absurd (clash (cc))
     by false ge e = (ltb-false 15 b ge, last-is b at n next e)
 
-pub higher-is : (more b : ℕ) (t : List ℕ) (at n next : ℕ) → higher (suc more) (b ∷ t) at ≡ Is n next → ((b < 128) × Ends b at n next) ⊎ Follows more b t at n next
+pub higher-is : (more b : ℕ) (t : List ℕ) (at n next : ℕ) → higher (b ∷ t) at (suc more) ≡ Is n next → ((b < 128) × Ends b at n next) ⊎ Follows more b t at n next
 unfolding higher
 higher-is more b t at n next e = by (ltb b 128) refl e
   where
-    by : (q : Bool) → ltb b 128 ≡ q → cond q (last b at) (above (b % 128) (higher more t (at + 1))) ≡ Is n next → ((b < 128) × Ends b at n next) ⊎ Follows more b t at n next
+    by : (q : Bool) → ltb b 128 ≡ q → cond q (last b at) (above (b % 128) (higher t (at + 1) more)) ≡ Is n next → ((b < 128) × Ends b at n next) ⊎ Follows more b t at n next
     by true lt e = inl (ltb-true b 128 lt, last-is b at n next e)
     by false ge e =
-        let a = above-is (b % 128) n next (higher more t (at + 1)) e in
+        let a = above-is (b % 128) n next (higher t (at + 1) more) e in
         inr (record { rest = a .0; big = ltb-false b 128 ge; reads = a .1; says = a .2 })
 
 -- what a byte after the first says is below sixteen groups of what may follow it
-pub higher-below : (more : ℕ) (l : List ℕ) (at n next : ℕ) → higher more l at ≡ Is n next → n < 16 * 128 ^ more
+pub higher-below : (more : ℕ) (l : List ℕ) (at n next : ℕ) → higher l at more ≡ Is n next → n < 16 * 128 ^ more
 higher-below more [] at n next e = let none = none-ended more at in absurd (clash (cc))
 higher-below zero (b ∷ t) at n next e = let f = fifth-is b t at n next e in omega arith
 higher-below (suc more) (b ∷ t) at n next e =
@@ -120,7 +119,7 @@ higher-below (suc more) (b ∷ t) at n next e =
     (λ w. let rest = higher-below more t (at + 1) (w .rest) next (w .reads) in omega (arith, mod-lt b {m = 128} (lit< tt)))
     (higher-is more b t at n next e)
 
-pub above-small : (more : ℕ) (l : List ℕ) (at n next : ℕ) (r : Number) → r ≡ higher more l at → more ≤ 3 → r ≡ Is n next → n < 2 ^ 25
+pub above-small : (more : ℕ) (l : List ℕ) (at n next : ℕ) (r : Number) → r ≡ higher l at more → more ≤ 3 → r ≡ Is n next → n < 2 ^ 25
 above-small more l at n next r is few e = omega (arith, higher-below more l at n next (sym is ∙ e), pow-le-pow-right {n = 128} (lit< tt) few)
 
 pub read-ended : (s : List ℕ) (at : ℕ) → length s ≤ at → Ended ≡ readAt s at
@@ -131,13 +130,20 @@ pub read-one : (s : List ℕ) (at b : ℕ) → at < length s → b ≡ getD s at
 unfolding readAt readFrom
 read-one s at b inside is small = rw (head s at b inside is) (simp (lt-ltb b 128 small))
 
-pub read-more : (s : List ℕ) (at b : ℕ) (r q : Number) → at < length s → b ≡ getD s at 0 → 128 ≤ b → q ≡ higher 3 (drop (at + 1) s) (at + 1) → r ≡ above (b % 128) q → r ≡ readAt s at
+-- the tests of the reader
+pub read-first : (s : List ℕ) (at b next : ℕ) (t : Bool) → at < length s → b ≡ getD s at 0 → next ≡ at + 1 → t ≡ oneByte b → t ≡ true → Is b next ≡ readAt s at
+read-first s at b next t inside is place test e = rw place (read-one s at b inside is (ltb-true b 128 (sym test ∙ e)))
+
+pub read-more : (s : List ℕ) (at b next : ℕ) (t : Bool) (r q : Number) → at < length s → b ≡ getD s at 0 → next ≡ at + 1 → t ≡ oneByte b → t ≡ false → q ≡ higher (drop next s) next 3 → r ≡ above (b % 128) q → r ≡ readAt s at
 unfolding readAt readFrom
-read-more s at b r q inside is big eq er = er ∙ ap (above (b % 128)) eq ∙ rw (head s at b inside is) (simp (le-ltb b 128 big))
+read-more s at b next t r q inside is place test e eq er =
+    let big : 128 ≤ b = ltb-false b 128 (sym test ∙ e) in
+    let rest : q ≡ higher (drop (at + 1) s) (at + 1) 3 = rw place at eq in
+    er ∙ ap (above (b % 128)) rest ∙ rw (head s at b inside is) (simp (le-ltb b 128 big))
 
 -- ---- a number that reads stands inside
 
-higher-inside : (more : ℕ) (l : List ℕ) (at n next : ℕ) → higher more l at ≡ Is n next → (at < next) × (next ≤ at + length l)
+higher-inside : (more : ℕ) (l : List ℕ) (at n next : ℕ) → higher l at more ≡ Is n next → (at < next) × (next ≤ at + length l)
 higher-inside more [] at n next e = let none = none-ended more at in absurd (clash (cc))
 higher-inside zero (b ∷ t) at n next e = let f = fifth-is b t at n next e in (omega arith, omega arith)
 higher-inside (suc more) (b ∷ t) at n next e =
@@ -150,10 +156,10 @@ unfolding readFrom
 from-inside [] at n next e = absurd (clash (cc))
 from-inside (b ∷ t) at n next e = by (ltb b 128) refl e
   where
-    by : (q : Bool) → ltb b 128 ≡ q → cond q (Is b (at + 1)) (above (b % 128) (higher 3 t (at + 1))) ≡ Is n next → (at < next) × (next ≤ at + length (b ∷ t))
+    by : (q : Bool) → ltb b 128 ≡ q → cond q (Is b (at + 1)) (above (b % 128) (higher t (at + 1) 3)) ≡ Is n next → (at < next) × (next ≤ at + length (b ∷ t))
     by true lt e = let after : next ≡ at + 1 = cc in (omega arith, omega arith)
     by false ge e =
-        let a = above-is (b % 128) n next (higher 3 t (at + 1)) e in
+        let a = above-is (b % 128) n next (higher t (at + 1) 3) e in
         let rest = higher-inside 3 t (at + 1) (a .0) next (a .1) in
         (omega arith, omega arith)
 

@@ -1,5 +1,5 @@
 -- The bytes of a number, one law for each way that the writer goes.
-use Prim.Native.Nat.{ℕ, zero, suc, zero-le, suc-le-suc, _+_, _*_, _/_, _%_, _^_, _≤_, _<_}
+use Prim.Native.Nat.{ℕ, zero, suc, zero-le, suc-le-suc, _+_, _/_, _%_, _^_, _≤_, _<_}
 use mathlib.Core.Path.{_≡_, refl, sym, ap, _∙_}
 use mathlib.Core.List.{List, [], _∷_}
 use mathlib.Core.Bool.{Bool, true, false, cond}
@@ -11,7 +11,7 @@ use lib.Dec.{ltb, lit<, lit≤}
 use lib.ListN.{length, set, length-set}
 use lib.Seq.{sets}
 use Rattle.number.specs.declared.Written.the-variants.{Next, NoRoom}
-use Rattle.number.specs.Numbers.{groups, bytesOf, lengthOf, writtenAt, outAfter, Wrote}
+use Rattle.number.specs.Numbers.{oneByte, groups, bytesOf, lengthOf, writtenAt, outAfter, Wrote}
 
 pub groups-last : (more n : ℕ) → n < 128 → groups more n ≡ n ∷ []
 unfolding groups
@@ -79,6 +79,13 @@ length-five n big below =
     let rest = length-four (n / 128) (omega arith) (omega arith) in
     let all = length-more n (omega arith) (omega arith) in
     omega arith
+
+-- the tests of `length`
+pub length-one : (n : ℕ) (t : Bool) → t ≡ oneByte n → t ≡ true → 1 ≡ lengthOf n
+length-one n t is e = sym (length-last n (ltb-true n 128 (sym is ∙ e)))
+
+pub length-not-one : (n : ℕ) (t : Bool) → t ≡ oneByte n → t ≡ false → n < 16384 → 2 ≡ lengthOf n
+length-not-one n t is e below = length-two n (ltb-false n 128 (sym is ∙ e)) below
 
 pub store-last : (out : List ℕ) (at n : ℕ) → n < 128 → set out at n ≡ sets out at (bytesOf n)
 store-last out at n small = rw (bytes-last n small)

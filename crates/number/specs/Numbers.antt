@@ -1,7 +1,7 @@
 -- 01, "The roll": numbers stand in groups of seven bits, lowest first, the high bit set on all but the last byte, shortest form, below 2^32.
 use Prim.Native.Nat.{ℕ, zero, suc, _+_, _*_, _/_, _%_, _<_}
 use mathlib.Core.Path.{_≡_}
-use mathlib.Core.Bool.{cond}
+use mathlib.Core.Bool.{Bool, cond}
 use mathlib.Core.List.{List, [], _∷_}
 use lib.Dec.{ltb, leb, eqb}
 use lib.ListN.{length, getD, drop}
@@ -15,10 +15,14 @@ use Rattle.number.specs.declared.Written.the-variants.{Next, NoRoom}
 abbrev pub group : ℕ
 group = 128
 
+-- whether a number is one byte; as a byte, whether it ends a number
+abbrev pub oneByte : ℕ → Bool
+oneByte n = ltb n group
+
 -- the groups of n, lowest first, with at most `more` bytes after the first
 unfoldable pub groups : ℕ → ℕ → List ℕ
 groups zero n = n ∷ []
-groups (suc more) n = cond (ltb n group) (n ∷ []) ((group + n % group) ∷ groups more (n / group))
+groups (suc more) n = cond (oneByte n) (n ∷ []) ((group + n % group) ∷ groups more (n / group))
 
 -- a number below 2^32 has one to five bytes
 unfoldable pub bytesOf : ℕ → List ℕ
@@ -39,15 +43,15 @@ abbrev pub last : ℕ → ℕ → Number
 last b at = cond (eqb b 0) NotShortest (Is b (at + 1))
 
 -- a number's second byte and those after it, at `at`; `more` may still follow it. A fifth byte above 15 means 2^32 and above, whatever follows
-unfoldable pub higher : ℕ → List ℕ → ℕ → Number
-higher more [] at = Ended
-higher zero (b ∷ s) at = cond (ltb 15 b) TooLarge (last b at)
-higher (suc more) (b ∷ s) at = cond (ltb b group) (last b at) (above (b % group) (higher more s (at + 1)))
+unfoldable pub higher : List ℕ → ℕ → ℕ → Number
+higher [] at more = Ended
+higher (b ∷ s) at zero = cond (ltb 15 b) TooLarge (last b at)
+higher (b ∷ s) at (suc more) = cond (oneByte b) (last b at) (above (b % group) (higher s (at + 1) more))
 
 -- the number that a list begins with, whose first byte is at `at`
 unfoldable pub readFrom : List ℕ → ℕ → Number
 readFrom [] at = Ended
-readFrom (b ∷ s) at = cond (ltb b group) (Is b (at + 1)) (above (b % group) (higher 3 s (at + 1)))
+readFrom (b ∷ s) at = cond (oneByte b) (Is b (at + 1)) (above (b % group) (higher s (at + 1) 3))
 
 -- what a slice of bytes holds
 abbrev pub Bytes : List ℕ → Type 0

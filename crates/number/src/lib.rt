@@ -3,7 +3,10 @@ ghost use Prim.Native.Nat.{ℕ, _+_, _<_, _≤_, _^_};
 ghost use mathlib.Core.Path.{_≡_};
 ghost use lib.ListN.{length, drop};
 ghost use lib.Seq.{sets};
-ghost use Rattle.number.specs.Numbers.{bytesOf, lengthOf, above, higher, readAt, refusalOf, Wrote};
+ghost use Rattle.number.specs.Numbers.{group, oneByte, bytesOf, lengthOf, above, higher, readAt, refusalOf, Wrote};
+
+// A group of seven bits is below this, and this is what the high bit adds.
+const GROUP: u32 = 128;
 
 // What stands at a place: a number and the place after it, or why there is none.
 pub enum Number {
@@ -19,20 +22,28 @@ pub enum Written {
     NoRoom,
 }
 
-fn wide(x: u8) -> u32
-    ensures { λ r. ⌜ (r ≡ x) × (r < 256) ⌝ }
+// A byte as a number of a roll.
+pub fn wide(x: u8) -> u32
+    ensures { λ r. ⌜ r ≡ x ⌝ }
 {
     x as u32
 }
 
+// Whether a number is one byte; as a byte, whether it ends a number.
+pub fn one_byte(n: u32) -> bool
+    ensures { λ r. ⌜ r ≡ oneByte n ⌝ }
+{
+    n < GROUP
+}
+
 // A group below the number that the bytes after it make.
 fn above(low: u32, high: Number) -> Number
-    requires { ⌜ low < 128 ⌝ }
+    requires { ⌜ low < group ⌝ }
     requires { ⌜ ((n next : ℕ) → high ≡ Number.Is n next → n < 2 ^ 25) ⌝ }
     ensures { λ r. ⌜ r ≡ above low high ⌝ }
 {
     match high {
-        Number::Is(n, next) => Number::Is(low + 128 * n, next),
+        Number::Is(n, next) => Number::Is(low + GROUP * n, next),
         Number::Ended => Number::Ended,
         Number::NotShortest => Number::NotShortest,
         Number::TooLarge => Number::TooLarge,
@@ -42,7 +53,7 @@ fn above(low: u32, high: Number) -> Number
 // The byte at `next`, after a number's first; `more` bytes may follow it.
 fn higher(s: &[u8], next: usize, more: usize) -> Number
     requires { ⌜ more ≤ 3 ⌝ }
-    ensures { λ r. ⌜ r ≡ higher more (drop next (now (s .entry))) next ⌝ }
+    ensures { λ r. ⌜ r ≡ higher (drop next (now (s .entry))) next more ⌝ }
 {
     if s.len() <= next {
         return Number::Ended;
@@ -57,10 +68,10 @@ fn higher(s: &[u8], next: usize, more: usize) -> Number
         }
         return Number::Is(b, next + 1);
     }
-    if b < 128 {
+    if b < GROUP {
         return Number::Is(b, next + 1);
     }
-    above(b % 128, higher(s, next + 1, more - 1))
+    above(b % GROUP, higher(s, next + 1, more - 1))
 }
 
 // The number at a place. Most have one byte.
@@ -71,10 +82,11 @@ pub fn read(s: &[u8], at: usize) -> Number
         return Number::Ended;
     }
     let first = wide(s[at]);
-    if first < 128 {
-        return Number::Is(first, at + 1);
+    let next = at + 1;
+    if one_byte(first) {
+        return Number::Is(first, next);
     }
-    above(first % 128, higher(s, at + 1, 3))
+    above(first % GROUP, higher(s, next, 3))
 }
 
 // The refusal that a number's reason stands for: the one place that says so.
@@ -93,7 +105,7 @@ pub fn refusal_of(n: Number) -> u8
 pub fn length(n: u32) -> usize
     ensures { λ r. ⌜ r ≡ lengthOf n ⌝ }
 {
-    if n < 128 {
+    if one_byte(n) {
         return 1;
     }
     if n < 16384 {
@@ -114,9 +126,9 @@ fn put(out: &mut [u8], start: usize, n: u32) -> usize
 {
     let mut left = n;
     let mut at = start;
-    while 128 <= left {
-        out[at] = (128 + left % 128) as u8;
-        left = left / 128;
+    while GROUP <= left {
+        out[at] = (GROUP + left % GROUP) as u8;
+        left = left / GROUP;
         at += 1;
     }
     out[at] = left as u8;

@@ -1,8 +1,7 @@
 -- What was written reads back: number by number, from the front, as the definitions read.
-use Prim.Native.Nat.{ℕ, zero, suc, _+_, _-_, _%_, _^_, _≤_, _<_}
+use Prim.Native.Nat.{ℕ, _+_, _-_, _%_, _^_, _≤_, _<_}
 use mathlib.Core.Path.{_≡_, refl, sym, ap, _∙_}
-use mathlib.Core.Bool.{cond}
-use mathlib.Core.List.{List, [], _∷_, _++_, append-assoc, append-nil}
+use mathlib.Core.List.{List, [], _∷_, _++_, append-assoc}
 use native.Mathlib.Omega.{arith}
 use borrow.Author.Tests.{eq-eqb, ne-eqb}
 use lib.ListN.{length, drop, length-drop}
@@ -16,16 +15,16 @@ use Rattle.kind.proofs.Within.{number-within, l-within, table-within}
 use Rattle.number.specs.Numbers.{bytesOf, lengthOf, readAt}
 use Rattle.number.proofs.Laws.{reads-back-from, after-bytes}
 use Rattle.term.specs.Terms.{Term}
-use Rattle.roll.specs.declared.Field.{Field}
-use Rattle.roll.specs.declared.Field.the-variants as field
+use Rattle.roll.specs.declared.field.Field.{Field}
+use Rattle.roll.specs.declared.field.Field.the-variants as field
 use Rattle.roll.specs.Bytes.{numbersBytes, termBytes, termsBytes, rollBytes}
 use Rattle.laws.specs.Total.{total}
-use Rattle.roll.specs.Reading.{Reading, got, refused, onward, andThen, before, withinAt, prefactorsAt, mostBoys, countAt, boysAt, termAt, termsAt, roomAfter, ordersAt, Header, countedAt, ofKind, headerAt, Roll, rollAt}
+use Rattle.roll.specs.Reading.{Reading, got, onward, andThen, withinAt, prefactorsAt, mostBoys, countAt, boysAt, termAt, termsAt, sumAfter, ordersAt, countedAt, ofKind, headerAt, Roll, rollAt}
 use Rattle.roll.specs.Fits.{CentresFit, Below, TermFits, TermsFit, RollFits}
-use Rattle.roll.proofs.Fields.{within-is}
-use Rattle.roll.proofs.Heading.{room-small}
+use Rattle.roll.proofs.FieldLaws.{within-is}
+use Rattle.roll.proofs.HeaderLaws.{sum-small}
 use Rattle.roll.proofs.Inside.{term-inside, header-read, header-inside, orders-most}
-use Rattle.roll.proofs.Stepping.{few-prefactors}
+use Rattle.roll.proofs.TermsLaws.{few-prefactors}
 
 -- ---- a number
 
@@ -39,7 +38,7 @@ field-back s rest at low high n is small above below = (
 
 -- ---- a term
 
-prefactors-back : (ps : List ℕ) (table : ℕ) (s rest : List ℕ) (at : ℕ) → table ≤ tablePlaces → Below table ps → drop at s ≡ numbersBytes ps ++ rest → (next : ℕ) × (prefactorsAt (length ps) table s at ≡ got ps next) × (drop next s ≡ rest)
+prefactors-back : (ps : List ℕ) (table : ℕ) (s rest : List ℕ) (at : ℕ) → table ≤ tablePlaces → Below table ps → drop at s ≡ numbersBytes ps ++ rest → (next : ℕ) × (prefactorsAt s at (length ps) table ≡ got ps next) × (drop next s ≡ rest)
 unfolding prefactorsAt numbersBytes
 prefactors-back [] table s rest at places below is = (at, refl, is)
 prefactors-back (p ∷ ps) table s rest at places below is =
@@ -55,7 +54,7 @@ most-boys Nuclear l = omega arith
 most-boys Moment l = omega arith
 most-boys Coulomb l = omega arith
 
-pub term-back : (k : Kind) (l : ℕ) (t : Term) (s rest : List ℕ) (at : ℕ) → l ≤ mostL k → TermFits k l t → drop at s ≡ termBytes t ++ rest → (next : ℕ) × (termAt k l s at ≡ got t next) × (drop next s ≡ rest)
+pub term-back : (k : Kind) (l : ℕ) (t : Term) (s rest : List ℕ) (at : ℕ) → l ≤ mostL k → TermFits k l t → drop at s ≡ termBytes t ++ rest → (next : ℕ) × (termAt s at k l ≡ got t next) × (drop next s ≡ rest)
 unfolding termBytes termAt boysAt countAt
 term-back k l t s rest at small fit is =
     let ps = t .prefactors in
@@ -73,7 +72,7 @@ term-back k l t s rest at small fit is =
     let r = prefactors-back ps (tableOf k) s rest (h .0) (table-within k) (fit .prefactors) (h .2) in
     (r .0, rw (f .1, g .1, h .1, r .1), r .2)
 
-terms-back : (k : Kind) (l : ℕ) (ts : List Term) (s : List ℕ) (at : ℕ) → l ≤ mostL k → at ≤ length s → TermsFit k l ts → drop at s ≡ termsBytes ts → termsAt (length ts) k l s at ≡ got ts (length s)
+terms-back : (k : Kind) (l : ℕ) (ts : List Term) (s : List ℕ) (at : ℕ) → l ≤ mostL k → at ≤ length s → TermsFit k l ts → drop at s ≡ termsBytes ts → termsAt s at (length ts) k l ≡ got ts (length s)
 unfolding termsAt termsBytes
 terms-back k l [] s at small inside fit is =
     let end : at ≡ length s = omega (arith, length-drop at s, ap length is) in
@@ -85,43 +84,43 @@ terms-back k l (t ∷ ts) s at small inside fit is =
 
 -- ---- the header
 
--- each order within what is left on its centre
+-- each order within what its centre's sum leaves
 abbrev Keeps : ℕ → ℕ → List ℕ → Type 0
-Keeps i room [] = Unit
-Keeps i room (o ∷ os) = (o ≤ room) × Keeps (i + 1) (roomAfter i room o) os
+Keeps i sum [] = Unit
+Keeps i sum (o ∷ os) = (o ≤ mostOrder - sum) × Keeps (i + 1) (sumAfter i sum o) os
 
-fit-keeps : (i : ℕ) (os : List ℕ) → i % 3 ≡ 0 → CentresFit os → Keeps i mostOrder os
+fit-keeps : (i : ℕ) (os : List ℕ) → i % 3 ≡ 0 → CentresFit os → Keeps i 0 os
 fit-keeps i [] phase fit = tt
 fit-keeps i (x ∷ []) phase fit = absurd fit
 fit-keeps i (x ∷ y ∷ []) phase fit = absurd fit
 fit-keeps i (x ∷ y ∷ z ∷ os) phase fit =
     let sum : x + y + z ≤ mostOrder = fit .0 in
-    let left : roomAfter i mostOrder x ≡ mostOrder - x = simp (ne-eqb (i % 3) 2 (λ e. omega arith)) in
-    let left′ : roomAfter (i + 1) (mostOrder - x) y ≡ mostOrder - x - y = simp (ne-eqb ((i + 1) % 3) 2 (λ e. omega arith)) in
-    let anew : roomAfter (i + 1 + 1) (mostOrder - x - y) z ≡ mostOrder = simp (eq-eqb ((i + 1 + 1) % 3) 2 (omega arith)) in
-    let rest : Keeps (i + 1 + 1 + 1) mostOrder os = fit-keeps (i + 1 + 1 + 1) os (omega arith) (fit .1) in
-    (omega arith, rw left (omega arith, rw left′ (omega arith, rw anew rest)))
+    let one : sumAfter i 0 x ≡ 0 + x = simp (ne-eqb (i % 3) 2 (λ e. omega arith)) in
+    let two : sumAfter (i + 1) (0 + x) y ≡ 0 + x + y = simp (ne-eqb ((i + 1) % 3) 2 (λ e. omega arith)) in
+    let anew : sumAfter (i + 1 + 1) (0 + x + y) z ≡ 0 = simp (eq-eqb ((i + 1 + 1) % 3) 2 (omega arith)) in
+    let rest : Keeps (i + 1 + 1 + 1) 0 os = fit-keeps (i + 1 + 1 + 1) os (omega arith) (fit .1) in
+    (omega arith, rw one (omega arith, rw two (omega arith, rw anew rest)))
 
-orders-back : (os : List ℕ) (i room : ℕ) (s rest : List ℕ) (at : ℕ) → room ≤ mostOrder → Keeps i room os → drop at s ≡ numbersBytes os ++ rest → (next : ℕ) × (ordersAt (length os) i room s at ≡ got os next) × (drop next s ≡ rest)
+orders-back : (os : List ℕ) (i sum : ℕ) (s rest : List ℕ) (at : ℕ) → sum ≤ mostOrder → Keeps i sum os → drop at s ≡ numbersBytes os ++ rest → (next : ℕ) × (ordersAt s at (length os) i sum ≡ got os next) × (drop next s ≡ rest)
 unfolding ordersAt numbersBytes
-orders-back [] i room s rest at small keeps is = (at, refl, is)
-orders-back (o ∷ os) i room s rest at small keeps is =
-    let within : o ≤ room = keeps .0 in
-    let f = field-back s (numbersBytes os ++ rest) at 0 room o (is ∙ append-assoc (bytesOf o) (numbersBytes os) rest) (omega arith) (omega arith) within in
-    let r = orders-back os (i + 1) (roomAfter i room o) s rest (f .0) (room-small i room o small) (keeps .1) (f .2) in
+orders-back [] i sum s rest at small keeps is = (at, refl, is)
+orders-back (o ∷ os) i sum s rest at small keeps is =
+    let within : o ≤ mostOrder - sum = keeps .0 in
+    let f = field-back s (numbersBytes os ++ rest) at 0 (mostOrder - sum) o (is ∙ append-assoc (bytesOf o) (numbersBytes os) rest) (omega arith) (omega arith) within in
+    let r = orders-back os (i + 1) (sumAfter i sum o) s rest (f .0) (sum-small i sum o small within) (keeps .1) (f .2) in
     (r .0, rw (f .1, r .1), r .2)
 
 header-back : (k : Kind) (os : List ℕ) (terms : ℕ) (s rest : List ℕ) → length os ≡ ordersOf k → CentresFit os → 1 ≤ terms → terms ≤ mostTerms → s ≡ bytesOf (numberOf k) ++ (numbersBytes os ++ (bytesOf terms ++ rest)) → (next : ℕ) × (headerAt s ≡ got (record { kind = k; orders = os; terms = terms }) next) × (drop next s ≡ rest)
 unfolding headerAt countedAt
 header-back k os terms s rest places fit some most is =
     let f = field-back s (numbersBytes os ++ (bytesOf terms ++ rest)) 0 0 (numberOf Coulomb) (numberOf k) is (omega (arith, number-within k)) (omega arith) (number-within k) in
-    let o = orders-back os 0 mostOrder s (bytesOf terms ++ rest) (f .0) (omega arith) (fit-keeps 0 os refl fit) (f .2) in
+    let o = orders-back os 0 0 s (bytesOf terms ++ rest) (f .0) (omega arith) (fit-keeps 0 os refl fit) (f .2) in
     let c = field-back s rest (o .0) 1 mostTerms terms (o .2) (omega arith) some most in
-    let orders : ordersAt (ordersOf k) 0 mostOrder s (f .0) ≡ got os (o .0) = ap (λ (n : ℕ). ordersAt n 0 mostOrder s (f .0)) (sym places) ∙ o .1 in (
+    let orders : ordersAt s (f .0) (ordersOf k) 0 0 ≡ got os (o .0) = ap (λ (n : ℕ). ordersAt s (f .0) n 0 0) (sym places) ∙ o .1 in (
       c .0,
-      ap (λ (x : Field). onward x (λ n next. ofKind (kindOf n) s next)) (f .1)
-          ∙ ap (λ (m : Named). ofKind m s (f .0)) (kind-number k)
-          ∙ ap (λ (x : Reading (List ℕ)). andThen x (λ orders next. countedAt k orders s next)) orders
+      ap (λ (x : Field). onward x (λ n next. ofKind s next (kindOf n))) (f .1)
+          ∙ ap (λ (m : Named). ofKind s (f .0) m) (kind-number k)
+          ∙ ap (λ (x : Reading (List ℕ)). andThen x (λ orders next. countedAt s next k orders)) orders
           ∙ ap (λ (x : Field). onward x (λ count next. got (record { kind = k; orders = os; terms = count }) next)) (c .1),
       c .2,
     )

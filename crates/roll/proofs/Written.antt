@@ -1,8 +1,8 @@
 -- A roll that reads is the writing of what it says, and keeps the limits: number by number, from the front.
-use Prim.Native.Nat.{ℕ, zero, suc, _+_, _-_, _%_, _≤_, _<_}
+use Prim.Native.Nat.{ℕ, zero, suc, _+_, _-_, _≤_}
 use mathlib.Core.Path.{_≡_, refl, sym, ap, _∙_}
 use mathlib.Core.Bool.{Bool, true, false, cond}
-use mathlib.Core.List.{List, [], _∷_, _++_, append-assoc, append-nil}
+use mathlib.Core.List.{List, [], _∷_, _++_, append-assoc}
 use native.Mathlib.Omega.{arith}
 use borrow.Author.Tests.{eqb-true}
 use lib.Dec.{eqb}
@@ -19,11 +19,11 @@ use Rattle.number.proofs.Laws.{reads-only}
 use Rattle.term.specs.Terms.{Term}
 use Rattle.roll.specs.Bytes.{numbersBytes, termBytes, termsBytes, rollBytes}
 use Rattle.laws.specs.Total.{total}
-use Rattle.roll.specs.Reading.{Reading, got, refused, onward, andThen, before, withinAt, prefactorsAt, mostBoys, termAt, termsAt, roomAfter, ordersAt, Header, headerAt, Roll, rollAt}
+use Rattle.roll.specs.Reading.{got, refused, onward, andThen, before, withinAt, prefactorsAt, mostBoys, termAt, termsAt, sumAfter, ordersAt, headerAt, Roll, rollAt}
 use Rattle.roll.specs.Fits.{CentresFit, Below, TermFits, TermsFit, RollFits}
-use Rattle.roll.proofs.Fields.{Taken, taken}
-use Rattle.roll.proofs.Filling.{before-is, onward-is}
-use Rattle.roll.proofs.Inside.{andThen-is, TermRead, term-read, HeaderRead, header-read, Centre, centre}
+use Rattle.roll.proofs.FieldLaws.{Taken, taken}
+use Rattle.roll.proofs.Filling.{before-is, onward-is, andThen-is}
+use Rattle.roll.proofs.Inside.{term-read, header-read, Centre, centre}
 
 -- what stands at a place, then what stands after it
 then : (s xs ys : List ℕ) (at m n : ℕ) → drop at s ≡ xs ++ drop m s → drop m s ≡ ys ++ drop n s → drop at s ≡ (xs ++ ys) ++ drop n s
@@ -32,21 +32,21 @@ then s xs ys at m n p q = p ∙ ap (λ (l : List ℕ). xs ++ l) q ∙ sym (appen
 taken-bytes : (s : List ℕ) (at low high n next : ℕ) → Bytes s → Taken s at low high n next → drop at s ≡ bytesOf n ++ drop next s
 taken-bytes s at low high n next bytes t = reads-only s at n next bytes (t .read) .bytes
 
-prefactors-bytes : (count table : ℕ) (s : List ℕ) (at : ℕ) (ps : List ℕ) (next : ℕ) → Bytes s → 1 ≤ table → prefactorsAt count table s at ≡ got ps next → (drop at s ≡ numbersBytes ps ++ drop next s) × Below table ps
+prefactors-bytes : (count table : ℕ) (s : List ℕ) (at : ℕ) (ps : List ℕ) (next : ℕ) → Bytes s → 1 ≤ table → prefactorsAt s at count table ≡ got ps next → (drop at s ≡ numbersBytes ps ++ drop next s) × Below table ps
 unfolding prefactorsAt numbersBytes
 prefactors-bytes zero table s at ps next bytes some e =
     let none : [] ≡ ps = cc in
     let same : at ≡ next = cc in
     rw (← none, ← same) (refl, tt)
 prefactors-bytes (suc count) table s at ps next bytes some e =
-    let o = onward-is (withinAt s at 0 (table - 1)) (λ p n. before (p ∷ []) (prefactorsAt count table s n)) ps next e in
-    let b = before-is (o .0) (prefactorsAt count table s (o .1)) ps next (o .3) in
+    let o = onward-is (withinAt s at 0 (table - 1)) (λ p n. before (p ∷ []) (prefactorsAt s n count table)) ps next e in
+    let b = before-is (o .0) (prefactorsAt s (o .1) count table) ps next (o .3) in
     let t = taken s at 0 (table - 1) (withinAt s at 0 (table - 1)) (o .0) (o .1) refl (o .2) in
     let rest = prefactors-bytes count table s (o .1) (b .0) next bytes some (b .1) in
     let below = t .below in
     rw (b .2) (then s (bytesOf (o .0)) (numbersBytes (b .0)) at (o .1) next (taken-bytes s at 0 (table - 1) (o .0) (o .1) bytes t) (rest .0), (omega arith, rest .1))
 
-term-bytes : (k : Kind) (l : ℕ) (s : List ℕ) (at : ℕ) (t : Term) (next : ℕ) → Bytes s → termAt k l s at ≡ got t next → (drop at s ≡ termBytes t ++ drop next s) × TermFits k l t
+term-bytes : (k : Kind) (l : ℕ) (s : List ℕ) (at : ℕ) (t : Term) (next : ℕ) → Bytes s → termAt s at k l ≡ got t next → (drop at s ≡ termBytes t ++ drop next s) × TermFits k l t
 unfolding termBytes
 term-bytes k l s at t next bytes e =
     let r = term-read k l s at t next e in
@@ -63,7 +63,7 @@ record TermsRead (left : ℕ) (k : Kind) (l : ℕ) (s : List ℕ) (at : ℕ) (ts
   pub count : length ts ≡ left
   pub ends : end ≡ length s
 
-terms-none : (k : Kind) (l : ℕ) (s : List ℕ) (at : ℕ) (ts : List Term) (end : ℕ) → termsAt 0 k l s at ≡ got ts end → TermsRead 0 k l s at ts end
+terms-none : (k : Kind) (l : ℕ) (s : List ℕ) (at : ℕ) (ts : List Term) (end : ℕ) → termsAt s at 0 k l ≡ got ts end → TermsRead 0 k l s at ts end
 unfolding termsAt termsBytes
 terms-none k l s at ts end e = by (eqb at (length s)) refl e
   where
@@ -76,12 +76,12 @@ terms-none k l s at ts end e = by (eqb at (length s)) refl e
         rw (← none) (record { bytes = nothing; fit = tt; count = refl; ends = sym same ∙ place })
     by false f e = absurd (clash (cc))
 
-terms-read : (left : ℕ) (k : Kind) (l : ℕ) (s : List ℕ) (at : ℕ) (ts : List Term) (end : ℕ) → Bytes s → termsAt left k l s at ≡ got ts end → TermsRead left k l s at ts end
+terms-read : (left : ℕ) (k : Kind) (l : ℕ) (s : List ℕ) (at : ℕ) (ts : List Term) (end : ℕ) → Bytes s → termsAt s at left k l ≡ got ts end → TermsRead left k l s at ts end
 unfolding termsAt termsBytes
 terms-read zero k l s at ts end bytes e = terms-none k l s at ts end e
 terms-read (suc left) k l s at ts end bytes e =
-    let x = andThen-is (termAt k l s at) (λ t next. before (t ∷ []) (termsAt left k l s next)) ts end e in
-    let b = before-is (x .0) (termsAt left k l s (x .1)) ts end (x .3) in
+    let x = andThen-is (termAt s at k l) (λ t next. before (t ∷ []) (termsAt s next left k l)) ts end e in
+    let b = before-is (x .0) (termsAt s (x .1) left k l) ts end (x .3) in
     let t = term-bytes k l s at (x .0) (x .1) bytes (x .2) in
     let r = terms-read left k l s (x .1) (b .0) end bytes (b .1) in
     rw (b .2)
@@ -94,33 +94,33 @@ terms-read (suc left) k l s at ts end bytes e =
 
 -- ---- the orders
 
-orders-bytes : (n i room : ℕ) (s : List ℕ) (at : ℕ) (os : List ℕ) (next : ℕ) → Bytes s → ordersAt n i room s at ≡ got os next → (drop at s ≡ numbersBytes os ++ drop next s) × (length os ≡ n)
+orders-bytes : (n i sum : ℕ) (s : List ℕ) (at : ℕ) (os : List ℕ) (next : ℕ) → Bytes s → ordersAt s at n i sum ≡ got os next → (drop at s ≡ numbersBytes os ++ drop next s) × (length os ≡ n)
 unfolding ordersAt numbersBytes
-orders-bytes zero i room s at os next bytes e =
+orders-bytes zero i sum s at os next bytes e =
     let none : [] ≡ os = cc in
     let same : at ≡ next = cc in
     rw (← none, ← same) (refl, refl)
-orders-bytes (suc n) i room s at os next bytes e =
-    let o = onward-is (withinAt s at 0 room) (λ o m. before (o ∷ []) (ordersAt n (i + 1) (roomAfter i room o) s m)) os next e in
-    let b = before-is (o .0) (ordersAt n (i + 1) (roomAfter i room (o .0)) s (o .1)) os next (o .3) in
-    let t = taken s at 0 room (withinAt s at 0 room) (o .0) (o .1) refl (o .2) in
-    let rest = orders-bytes n (i + 1) (roomAfter i room (o .0)) s (o .1) (b .0) next bytes (b .1) in
-    rw (b .2) (then s (bytesOf (o .0)) (numbersBytes (b .0)) at (o .1) next (taken-bytes s at 0 room (o .0) (o .1) bytes t) (rest .0), ap suc (rest .1))
+orders-bytes (suc n) i sum s at os next bytes e =
+    let o = onward-is (withinAt s at 0 (mostOrder - sum)) (λ o m. before (o ∷ []) (ordersAt s m n (i + 1) (sumAfter i sum o))) os next e in
+    let b = before-is (o .0) (ordersAt s (o .1) n (i + 1) (sumAfter i sum (o .0))) os next (o .3) in
+    let t = taken s at 0 (mostOrder - sum) (withinAt s at 0 (mostOrder - sum)) (o .0) (o .1) refl (o .2) in
+    let rest = orders-bytes n (i + 1) (sumAfter i sum (o .0)) s (o .1) (b .0) next bytes (b .1) in
+    rw (b .2) (then s (bytesOf (o .0)) (numbersBytes (b .0)) at (o .1) next (taken-bytes s at 0 (mostOrder - sum) (o .0) (o .1) bytes t) (rest .0), ap suc (rest .1))
 
-none-fit : (i : ℕ) (s : List ℕ) (at : ℕ) (os : List ℕ) (next : ℕ) → ordersAt 0 i mostOrder s at ≡ got os next → CentresFit os
+none-fit : (i : ℕ) (s : List ℕ) (at : ℕ) (os : List ℕ) (next : ℕ) → ordersAt s at 0 i 0 ≡ got os next → CentresFit os
 unfolding ordersAt
 none-fit i s at os next e = let none : [] ≡ os = cc in rw (← none) tt
 
 centre-fit : (n i : ℕ) (s : List ℕ) (os : List ℕ) (next : ℕ) (c : Centre n i s os next) → CentresFit (c .rest) → CentresFit os
 centre-fit n i s os next c rest = rw (c .is) (c .fits, rest)
 
-two-fit : (s : List ℕ) (at : ℕ) (os : List ℕ) (next : ℕ) → ordersAt 6 0 mostOrder s at ≡ got os next → CentresFit os
+two-fit : (s : List ℕ) (at : ℕ) (os : List ℕ) (next : ℕ) → ordersAt s at 6 0 0 ≡ got os next → CentresFit os
 two-fit s at os next e =
     let a = centre 3 0 s at os next refl e in
     let b = centre 0 3 s (a .place) (a .rest) next refl (a .onward) in
     centre-fit 3 0 s os next a (centre-fit 0 3 s (a .rest) next b (none-fit 6 s (b .place) (b .rest) next (b .onward)))
 
-orders-fit : (k : Kind) (s : List ℕ) (at : ℕ) (os : List ℕ) (next : ℕ) → ordersAt (ordersOf k) 0 mostOrder s at ≡ got os next → CentresFit os
+orders-fit : (k : Kind) (s : List ℕ) (at : ℕ) (os : List ℕ) (next : ℕ) → ordersAt s at (ordersOf k) 0 0 ≡ got os next → CentresFit os
 orders-fit Overlap s at os next e = two-fit s at os next e
 orders-fit Kinetic s at os next e = two-fit s at os next e
 orders-fit Nuclear s at os next e = two-fit s at os next e
@@ -142,12 +142,12 @@ orders-fit Coulomb s at os next e =
 pub roll-read : (s : List ℕ) (r : Roll) (end : ℕ) → Bytes s → rollAt s ≡ got r end → (s ≡ rollBytes (r .kind) (r .orders) (r .terms)) × RollFits r
 unfolding rollAt rollBytes
 roll-read s r end bytes e =
-    let x = andThen-is (headerAt s) (λ h next. andThen (termsAt (h .terms) (h .kind) (total (h .orders)) s next) (λ ts end. got (record { kind = h .kind; orders = h .orders; terms = ts }) end)) r end e in
+    let x = andThen-is (headerAt s) (λ h next. andThen (termsAt s next (h .terms) (h .kind) (total (h .orders))) (λ ts end. got (record { kind = h .kind; orders = h .orders; terms = ts }) end)) r end e in
     let h = x .0 in
-    let y = andThen-is (termsAt (h .terms) (h .kind) (total (h .orders)) s (x .1)) (λ ts end. got (record { kind = h .kind; orders = h .orders; terms = ts }) end) r end (x .3) in
+    let y = andThen-is (termsAt s (x .1) (h .terms) (h .kind) (total (h .orders))) (λ ts end. got (record { kind = h .kind; orders = h .orders; terms = ts }) end) r end (x .3) in
     let made : record { kind = h .kind; orders = h .orders; terms = y .0 } ≡ r = cc (y .3) in
     let hr = header-read s h (x .1) (x .2) in
-    let os = orders-bytes (ordersOf (h .kind)) 0 mostOrder s (hr .a) (h .orders) (hr .b) bytes (hr .orders) in
+    let os = orders-bytes (ordersOf (h .kind)) 0 0 s (hr .a) (h .orders) (hr .b) bytes (hr .orders) in
     let tr = terms-read (h .terms) (h .kind) (total (h .orders)) s (x .1) (y .0) (y .1) bytes (y .2) in
     let count : bytesOf (h .terms) ≡ bytesOf (length (y .0)) = ap bytesOf (sym (tr .count)) in
     let after : drop (hr .b) s ≡ bytesOf (length (y .0)) ++ termsBytes (y .0) = taken-bytes s (hr .b) 1 mostTerms (h .terms) (x .1) bytes (hr .terms) ∙ cc (count, tr .bytes) in

@@ -1,10 +1,9 @@
 -- 01, "The roll": what is written, in its order.
 use Prim.Native.Nat.{ℕ}
 use mathlib.Core.List.{List, [], _∷_, _++_}
-use lib.ListN.{length, take}
+use lib.ListN.{length}
 use Rattle.kind.specs.declared.Kind.{Kind}
 use Rattle.kind.specs.Kinds.{numberOf}
-use Rattle.term.specs.declared.Term.{Term as Held}
 use Rattle.term.specs.Terms.{Term}
 use Rattle.number.specs.Numbers.{bytesOf}
 
@@ -24,7 +23,3 @@ termsBytes (t ∷ ts) = termBytes t ++ termsBytes ts
 -- order: kind; its orders; term count; the terms
 unfoldable pub rollBytes : Kind → List ℕ → List Term → List ℕ
 rollBytes k orders ts = bytesOf (numberOf k) ++ (numbersBytes orders ++ (bytesOf (length ts) ++ termsBytes ts))
-
--- the term that the code holds: no count goes past the prefactors' places
-abbrev pub seen : Held → Term
-seen t = record { scale = t .scale; boys = t .boys; prefactors = take (t .count) (t .prefactors) }

@@ -15,8 +15,8 @@ use Rattle.term.specs.Terms.{Term}
 use Rattle.number.specs.declared.Number.{Number}
 use Rattle.number.specs.declared.Number.the-variants as number
 use Rattle.number.specs.Numbers.{readAt, refusalOf}
-use Rattle.roll.specs.declared.Field.{Field}
-use Rattle.roll.specs.declared.Field.the-variants as field
+use Rattle.roll.specs.declared.field.Field.{Field}
+use Rattle.roll.specs.declared.field.Field.the-variants as field
 
 -- what was read and the place after it, or a refusal with its place
 pub data Reading (A : Type 0) : Type 0 where
@@ -27,17 +27,17 @@ pub data Reading (A : Type 0) : Type 0 where
 
 -- a number that breaks its limits is 7 where it begins
 abbrev pub limited : ℕ → ℕ → ℕ → ℕ → ℕ → Field
-limited at low high n next = cond (ltb n low || ltb high n) (field.Refused 7 at) (field.Is n next)
+limited n next at low high = cond (ltb n low || ltb high n) (field.Refused 7 at) (field.Is n next)
 
 -- a number that cannot be read ends the reading at once, with the refusal of its reason where it begins
-abbrev pub opened : ℕ → ℕ → ℕ → Number → Field
-opened at low high (number.Is n next) = limited at low high n next
-opened at low high number.Ended = field.Refused (refusalOf number.Ended) at
-opened at low high number.NotShortest = field.Refused (refusalOf number.NotShortest) at
-opened at low high number.TooLarge = field.Refused (refusalOf number.TooLarge) at
+abbrev pub opened : Number → ℕ → ℕ → ℕ → Field
+opened (number.Is n next) at low high = limited n next at low high
+opened number.Ended at low high = field.Refused (refusalOf number.Ended) at
+opened number.NotShortest at low high = field.Refused (refusalOf number.NotShortest) at
+opened number.TooLarge at low high = field.Refused (refusalOf number.TooLarge) at
 
 unfoldable pub withinAt : List ℕ → ℕ → ℕ → ℕ → Field
-withinAt s at low high = opened at low high (readAt s at)
+withinAt s at low high = opened (readAt s at) at low high
 
 -- ---- one thing after the other
 
@@ -56,43 +56,43 @@ before xs r = andThen r (λ ys next. got (xs ++ ys) next)
 -- ---- a term
 
 -- prefactors, each below the table size
-unfoldable pub prefactorsAt : ℕ → ℕ → List ℕ → ℕ → Reading (List ℕ)
-prefactorsAt zero table s at = got [] at
-prefactorsAt (suc count) table s at = onward (withinAt s at 0 (table - 1)) (λ p next. before (p ∷ []) (prefactorsAt count table s next))
+unfoldable pub prefactorsAt : List ℕ → ℕ → ℕ → ℕ → Reading (List ℕ)
+prefactorsAt s at zero table = got [] at
+prefactorsAt s at (suc count) table = onward (withinAt s at 0 (table - 1)) (λ p next. before (p ∷ []) (prefactorsAt s next count table))
 
 -- Boys order at most L; 0 for kinds 0, 1, 3
 abbrev pub mostBoys : Kind → ℕ → ℕ
 mostBoys k l = cond (usesBoys k) l 0
 
 -- prefactor count at most L; kinetic L+1
-unfoldable pub countAt : Kind → ℕ → ℕ → ℕ → List ℕ → ℕ → Reading Term
-countAt k l scale boys s at =
+unfoldable pub countAt : List ℕ → ℕ → Kind → ℕ → ℕ → ℕ → Reading Term
+countAt s at k l scale boys =
     onward (withinAt s at 0 (mostPrefactors k l)) (λ count next.
-    andThen (prefactorsAt count (tableOf k) s next) (λ ps end.
+    andThen (prefactorsAt s next count (tableOf k)) (λ ps end.
     got (record { scale = scale; boys = boys; prefactors = ps }) end))
 
-unfoldable pub boysAt : Kind → ℕ → ℕ → List ℕ → ℕ → Reading Term
-boysAt k l scale s at = onward (withinAt s at 0 (mostBoys k l)) (λ boys next. countAt k l scale boys s next)
+unfoldable pub boysAt : List ℕ → ℕ → Kind → ℕ → ℕ → Reading Term
+boysAt s at k l scale = onward (withinAt s at 0 (mostBoys k l)) (λ boys next. countAt s next k l scale boys)
 
 -- for each term scale (1 to 65,536), Boys order, prefactor count, prefactors
-unfoldable pub termAt : Kind → ℕ → List ℕ → ℕ → Reading Term
-termAt k l s at = onward (withinAt s at 1 mostScale) (λ scale next. boysAt k l scale s next)
+unfoldable pub termAt : List ℕ → ℕ → Kind → ℕ → Reading Term
+termAt s at k l = onward (withinAt s at 1 mostScale) (λ scale next. boysAt s next k l scale)
 
 -- as many terms as the count says, and nothing follows
-unfoldable pub termsAt : ℕ → Kind → ℕ → List ℕ → ℕ → Reading (List Term)
-termsAt zero k l s at = cond (eqb at (length s)) (got [] at) (refused 7 at)
-termsAt (suc left) k l s at = andThen (termAt k l s at) (λ t next. before (t ∷ []) (termsAt left k l s next))
+unfoldable pub termsAt : List ℕ → ℕ → ℕ → Kind → ℕ → Reading (List Term)
+termsAt s at zero k l = cond (eqb at (length s)) (got [] at) (refused 7 at)
+termsAt s at (suc left) k l = andThen (termAt s at k l) (λ t next. before (t ∷ []) (termsAt s next left k l))
 
 -- ---- the header
 
--- what a centre's order sum may still grow by after its order number i (0, 1, 2 by axis); then the next centre begins
-abbrev pub roomAfter : ℕ → ℕ → ℕ → ℕ
-roomAfter i room order = cond (eqb (i % 3) 2) mostOrder (room - order)
+-- the order sum on a centre after its order number i (0, 1, 2 by axis); then the next centre begins
+abbrev pub sumAfter : ℕ → ℕ → ℕ → ℕ
+sumAfter i sum order = cond (eqb (i % 3) 2) 0 (sum + order)
 
--- the orders by centre, x y z each; an order at which the centre's sum passes the limit is wrong
-unfoldable pub ordersAt : ℕ → ℕ → ℕ → List ℕ → ℕ → Reading (List ℕ)
-ordersAt zero i room s at = got [] at
-ordersAt (suc n) i room s at = onward (withinAt s at 0 room) (λ o next. before (o ∷ []) (ordersAt n (i + 1) (roomAfter i room o) s next))
+-- n orders by centre, x y z each, from order number i on; `sum` is the centre's so far, and an order with which it passes the limit is wrong
+unfoldable pub ordersAt : List ℕ → ℕ → ℕ → ℕ → ℕ → Reading (List ℕ)
+ordersAt s at zero i sum = got [] at
+ordersAt s at (suc n) i sum = onward (withinAt s at 0 (mostOrder - sum)) (λ o next. before (o ∷ []) (ordersAt s next n (i + 1) (sumAfter i sum o)))
 
 pub record Header : Type 0 where
   pub kind : Kind
@@ -100,17 +100,17 @@ pub record Header : Type 0 where
   pub terms : ℕ
 
 -- term count (1 to 65,535)
-unfoldable pub countedAt : Kind → List ℕ → List ℕ → ℕ → Reading Header
-countedAt k orders s at = onward (withinAt s at 1 mostTerms) (λ count next. got (record { kind = k; orders = orders; terms = count }) next)
+unfoldable pub countedAt : List ℕ → ℕ → Kind → List ℕ → Reading Header
+countedAt s at k orders = onward (withinAt s at 1 mostTerms) (λ count next. got (record { kind = k; orders = orders; terms = count }) next)
 
 -- the kind's own number of orders
-abbrev pub ofKind : Named → List ℕ → ℕ → Reading Header
-ofKind (named.Is k) s at = andThen (ordersAt (ordersOf k) 0 mostOrder s at) (λ orders next. countedAt k orders s next)
-ofKind named.Unknown s at = refused 7 0
+abbrev pub ofKind : List ℕ → ℕ → Named → Reading Header
+ofKind s at (named.Is k) = andThen (ordersAt s at (ordersOf k) 0 0) (λ orders next. countedAt s next k orders)
+ofKind s at named.Unknown = refused 7 0
 
 -- order: kind; orders; term count
 unfoldable pub headerAt : List ℕ → Reading Header
-headerAt s = onward (withinAt s 0 0 (numberOf Coulomb)) (λ n next. ofKind (kindOf n) s next)
+headerAt s = onward (withinAt s 0 0 (numberOf Coulomb)) (λ n next. ofKind s next (kindOf n))
 
 -- ---- the roll
 
@@ -122,5 +122,5 @@ pub record Roll : Type 0 where
 unfoldable pub rollAt : List ℕ → Reading Roll
 rollAt s =
     andThen (headerAt s) (λ h next.
-    andThen (termsAt (h .terms) (h .kind) (total (h .orders)) s next) (λ ts end.
+    andThen (termsAt s next (h .terms) (h .kind) (total (h .orders))) (λ ts end.
     got (record { kind = h .kind; orders = h .orders; terms = ts }) end))

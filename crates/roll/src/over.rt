@@ -4,16 +4,12 @@ ghost use Prim.Native.Nat.{_+_, _≤_};
 ghost use mathlib.Core.Bool.{true};
 ghost use lib.ListN.{length};
 ghost use Rattle.roll.specs.Reading.{prefactorsAt};
-ghost use Rattle.roll.specs.Over.{SmallBytes, Plain, over, countOver, boysOver, termOver, endOver, termsOver};
-use crate::Field;
-use crate::within;
+ghost use Rattle.roll.specs.inner.Over.{SmallBytes, OneByteEach, over, countOver, boysOver, termOver, endOver, termsOver};
+use crate::field::Field;
+use crate::field::within;
 use kind::Kind;
-
-fn wide(byte: u8) -> u32
-    ensures { λ r. ⌜ r ≡ byte ⌝ }
-{
-    byte as u32
-}
+use number::one_byte;
+use number::wide;
 
 // Whether the bytes from one place to another are all at most `last`.
 fn all_small(roll: &[u8], at: usize, end: usize, last: u32) -> bool
@@ -31,34 +27,34 @@ fn all_small(roll: &[u8], at: usize, end: usize, last: u32) -> bool
 }
 
 // Whether so many prefactors stand here, one byte each, all within the limit.
-fn is_plain(roll: &[u8], at: usize, count: u32, last: u32) -> bool
-    ensures { λ r. ⌜ (r ≡ true → Plain (now (roll .entry)) at count last) ⌝ }
+fn one_byte_each(roll: &[u8], at: usize, count: u32, last: u32) -> bool
+    ensures { λ r. ⌜ (r ≡ true → OneByteEach (now (roll .entry)) at count last) ⌝ }
 {
-    if 127 < last {
-        return false;
-    }
     if roll.len() < at {
         return false;
     }
     if roll.len() - at < count as usize {
         return false;
     }
-    all_small(roll, at, at + count as usize, last)
+    if one_byte(last) {
+        return all_small(roll, at, at + count as usize, last);
+    }
+    false
 }
 
 // Goes over so many prefactors, each below the table size. Most are one byte each.
 fn prefactors_over(roll: &[u8], at: usize, count: u32, table: u32) -> Field
     requires { ⌜ 1 ≤ table ⌝ }
-    ensures { λ r. ⌜ r ≡ over (prefactorsAt count table (now (roll .entry)) at) ⌝ }
+    ensures { λ r. ⌜ r ≡ over (prefactorsAt (now (roll .entry)) at count table) ⌝ }
 {
-    if is_plain(roll, at, count, table - 1) {
-        return plain_over(roll, at, count);
+    if one_byte_each(roll, at, count, table - 1) {
+        return bytes_over(roll, at, count);
     }
     each_over(roll, at, count, table)
 }
 
 // The place after so many bytes that stand in the roll.
-fn plain_over(roll: &[u8], at: usize, count: u32) -> Field
+fn bytes_over(roll: &[u8], at: usize, count: u32) -> Field
     requires { ⌜ at + count ≤ length (now roll) ⌝ }
     ensures { λ r. ⌜ r ≡ Field.Is 0 (at + count) ⌝ }
 {
@@ -68,7 +64,7 @@ fn plain_over(roll: &[u8], at: usize, count: u32) -> Field
 // The same, a number after the other.
 fn each_over(roll: &[u8], at: usize, count: u32, table: u32) -> Field
     requires { ⌜ 1 ≤ table ⌝ }
-    ensures { λ r. ⌜ r ≡ over (prefactorsAt count table (now (roll .entry)) at) ⌝ }
+    ensures { λ r. ⌜ r ≡ over (prefactorsAt (now (roll .entry)) at count table) ⌝ }
 {
     let last = table - 1;
     let mut place = at;
@@ -85,7 +81,7 @@ fn each_over(roll: &[u8], at: usize, count: u32, table: u32) -> Field
 
 fn count_over(roll: &[u8], at: usize, most: u32, table: u32) -> Field
     requires { ⌜ 1 ≤ table ⌝ }
-    ensures { λ r. ⌜ r ≡ countOver most table (now (roll .entry)) at ⌝ }
+    ensures { λ r. ⌜ r ≡ countOver (now (roll .entry)) at most table ⌝ }
 {
     match within(roll, at, 0, most) {
         Field::Is(count, next) => prefactors_over(roll, next, count, table),
@@ -95,7 +91,7 @@ fn count_over(roll: &[u8], at: usize, most: u32, table: u32) -> Field
 
 fn boys_over(roll: &[u8], at: usize, boys: u32, most: u32, table: u32) -> Field
     requires { ⌜ 1 ≤ table ⌝ }
-    ensures { λ r. ⌜ r ≡ boysOver boys most table (now (roll .entry)) at ⌝ }
+    ensures { λ r. ⌜ r ≡ boysOver (now (roll .entry)) at boys most table ⌝ }
 {
     match within(roll, at, 0, boys) {
         Field::Is(_, next) => count_over(roll, next, most, table),
@@ -106,7 +102,7 @@ fn boys_over(roll: &[u8], at: usize, boys: u32, most: u32, table: u32) -> Field
 // Goes over the term at a place; its Boys order is at most `boys`, its prefactor count at most `most`.
 fn term_over(roll: &[u8], at: usize, boys: u32, most: u32, table: u32) -> Field
     requires { ⌜ 1 ≤ table ⌝ }
-    ensures { λ r. ⌜ r ≡ termOver boys most table (now (roll .entry)) at ⌝ }
+    ensures { λ r. ⌜ r ≡ termOver (now (roll .entry)) at boys most table ⌝ }
 {
     match within(roll, at, 1, Kind::MOST_SCALE) {
         Field::Is(_, next) => boys_over(roll, next, boys, most, table),
@@ -134,7 +130,7 @@ pub(crate) fn terms_over(
     table: u32,
 ) -> Field
     requires { ⌜ 1 ≤ table ⌝ }
-    ensures { λ r. ⌜ r ≡ termsOver terms boys most table (now (roll .entry)) at ⌝ }
+    ensures { λ r. ⌜ r ≡ termsOver (now (roll .entry)) at terms boys most table ⌝ }
 {
     let mut place = at;
     let mut left = terms;

@@ -1,5 +1,5 @@
 -- `kinetic_of` meets its contract: the callees' promises put into the definition. Assumes nothing.
-use Rattle.integrals.specs.Sums.{kineticStart}
+use Rattle.integrals.proofs.Values.{kinetic-made}
 use borrow.Author.Needs.{needs}
 use Rattle.integrals.proofs.kinetic_of.Statement.{statement}
 use Rattle.integrals.proofs.kinetic_of.Tie as tie
@@ -14,8 +14,7 @@ get-r12-squared-requires : tie.Need-get-r12-squared-requires
 get-r12-squared-requires c κs = search needs
 
 returns : tie.Need-returns
-unfolding kineticStart
-returns c = cc
+returns c = search kinetic-made
 
 pub kinetic-of-spec : {M : Type 1} → statement M
 kinetic-of-spec =

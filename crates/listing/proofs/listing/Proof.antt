@@ -1,5 +1,6 @@
 -- `listing` meets its contract: a roll that the check takes is one that reads. Assumes nothing.
-use Rattle.listing.proofs.Rolls.{check-judged, listing-over, listing-told, listing-refused}
+use Rattle.roll.proofs.Checked.{checked-judged}
+use Rattle.listing.proofs.Rolls.{listing-over, listing-told, listing-refused}
 use borrow.Author.Needs.{needs}
 use Rattle.listing.proofs.listing.Statement.{statement}
 use Rattle.listing.proofs.listing.Tie as tie
@@ -14,7 +15,7 @@ enum-told : tie.Need-enum-told
 enum-told c = search needs
 
 written-requires : tie.Need-written-requires
-written-requires c κs = search check-judged
+written-requires c κs = search checked-judged
 
 enum-known-found : tie.Need-enum-known-found
 enum-known-found c = search needs

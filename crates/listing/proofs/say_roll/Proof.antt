@@ -1,6 +1,7 @@
 -- `say_roll` meets its contract: the head line and the terms of a judged roll are its text. Assumes nothing.
 use Rattle.listing.proofs.Saying.{said-kept}
-use Rattle.listing.proofs.Rolls.{roll-orders, roll-readable, roll-said, roll-unknown}
+use Rattle.roll.proofs.Checked.{judged-readable}
+use Rattle.listing.proofs.Rolls.{roll-orders, roll-said, roll-unknown}
 use borrow.Author.Needs.{needs}
 use Rattle.listing.proofs.say_roll.Statement.{statement}
 use Rattle.listing.proofs.say_roll.Tie as tie
@@ -27,7 +28,7 @@ say-head-requires : tie.Need-say-head-requires
 say-head-requires c κs = search needs
 
 say-terms-requires : tie.Need-say-terms-requires
-say-terms-requires c κs = (search said-kept, search roll-readable)
+say-terms-requires c κs = (search said-kept, search judged-readable)
 
 enum-told : tie.Need-enum-told
 enum-told c = search needs

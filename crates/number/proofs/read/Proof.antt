@@ -1,6 +1,6 @@
 -- `read` meets its contract: a law of Reading for each way out. Assumes nothing.
 use native.Mathlib.Omega.{arith}
-use Rattle.number.proofs.Reading.{read-ended, read-one, read-more, above-small}
+use Rattle.number.proofs.Reading.{read-ended, read-first, read-more, above-small}
 use borrow.Author.Needs.{needs}
 use Rattle.number.proofs.read.Statement.{statement}
 use Rattle.number.proofs.read.Tie as tie
@@ -14,14 +14,14 @@ shared-slice-read-wide c = search needs
 wide-requires : tie.Need-wide-requires
 wide-requires c κs = search needs
 
-add-t8 : tie.Need-add-t8
-add-t8 c = search needs
+add-next : tie.Need-add-next
+add-next c = search needs
+
+one-byte-requires : tie.Need-one-byte-requires
+one-byte-requires c κs = search needs
 
 returns-2 : tie.Need-returns-2
-returns-2 c = search read-one
-
-add-higher : tie.Need-add-higher
-add-higher c = search needs
+returns-2 c = search read-first
 
 higher-requires : tie.Need-higher-requires
 higher-requires c κs = search needs
@@ -39,9 +39,9 @@ read-spec =
     returns
     shared-slice-read-wide
     wide-requires
-    add-t8
+    add-next
+    one-byte-requires
     returns-2
-    add-higher
     higher-requires
     above-requires
     returns-3)

@@ -1,5 +1,6 @@
 -- `add_order` meets its contract: a law for each way out. Assumes nothing.
-use Rattle.integrals.proofs.Adding.{head-inside, of-order, not-of-order}
+use Rattle.roll.proofs.AgainLaws.{head-inside}
+use Rattle.integrals.proofs.SumsLaws.{of-order, not-of-order}
 use borrow.Author.Needs.{needs}
 use Rattle.integrals.proofs.sums.add_order.Statement.{statement}
 use Rattle.integrals.proofs.sums.add_order.Tie as tie

@@ -1,5 +1,5 @@
 -- `add_term` meets its contract. Assumes nothing.
-use Rattle.integrals.proofs.Adding.{added-term}
+use Rattle.integrals.proofs.SumsLaws.{added-term}
 use borrow.Author.Needs.{needs}
 use Rattle.integrals.proofs.sums.add_term.Statement.{statement}
 use Rattle.integrals.proofs.sums.add_term.Tie as tie

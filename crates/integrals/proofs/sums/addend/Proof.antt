@@ -1,5 +1,5 @@
 -- `addend` meets its contract: a law for each case. Assumes nothing.
-use Rattle.integrals.proofs.Adding.{adds-plain, adds-kinetic, adds-nuclear}
+use Rattle.integrals.proofs.SumsLaws.{adds-plain, adds-kinetic, adds-nuclear}
 use borrow.Author.Needs.{needs}
 use Rattle.integrals.proofs.sums.addend.Statement.{statement}
 use Rattle.integrals.proofs.sums.addend.Tie as tie

@@ -1,5 +1,5 @@
 -- `float_at` meets its contract: within the list any default reads the same. Assumes nothing.
-use Rattle.integrals.proofs.Stored.{read-inside, read-outside}
+use Rattle.integrals.proofs.SumsLaws.{read-inside, read-outside}
 use borrow.Author.Needs.{needs}
 use Rattle.integrals.proofs.sums.float_at.Statement.{statement}
 use Rattle.integrals.proofs.sums.float_at.Tie as tie

@@ -6,13 +6,13 @@ use native.Mathlib.Omega.{arith}
 use borrow.Author.Needs.{needs}
 use Rattle.geometry.specs.Floats.{zero}
 use Rattle.integrals.specs.Sums.{runOrders}
-use Rattle.integrals.specs.Stored.{termsAt}
-use Rattle.integrals.proofs.Adding.{orders-more, orders-done}
+use Rattle.roll.specs.inner.Again.{termsAgain}
+use Rattle.integrals.proofs.SumsLaws.{orders-more, orders-done}
 use Rattle.integrals.proofs.sums.get_coulomb.Statement.{statement}
 use Rattle.integrals.proofs.sums.get_coulomb.Tie as tie
 
 abbrev Inv-loop : tie.InvT-loop
-Inv-loop l table s boys roll start terms last sum₀ order₀ sum order = (order ≤ last + 1) × (runOrders table s boys (termsAt roll terms start) (last + 1 - order) order sum ≡ runOrders table s boys (termsAt roll terms start) (last + 1) 0 zero)
+Inv-loop l table s boys roll start terms last sum₀ order₀ sum order = (order ≤ last + 1) × (runOrders table s boys (termsAgain roll start terms) (last + 1 - order) order sum ≡ runOrders table s boys (termsAgain roll start terms) (last + 1) 0 zero)
 
 abbrev μ-loop : tie.MeasureT-loop
 μ-loop l table s boys roll start terms last sum₀ order₀ sum order = last + 1 - order

@@ -1,5 +1,5 @@
 -- `kinetic_start` meets its contract: a law for each way out. Assumes nothing.
-use Rattle.integrals.proofs.Adding.{starts-kinetic, starts-one}
+use Rattle.integrals.proofs.SumsLaws.{starts-kinetic, starts-one}
 use borrow.Author.Needs.{needs}
 use Rattle.integrals.proofs.sums.kinetic_start.Statement.{statement}
 use Rattle.integrals.proofs.sums.kinetic_start.Tie as tie

@@ -2,13 +2,13 @@
 use mathlib.Core.Path.{_≡_, refl}
 use borrow.Author.Needs.{needs}
 use Rattle.integrals.specs.Sums.{sumFrom, coulombOf, ofOrder}
-use Rattle.integrals.specs.Stored.{termsAt}
-use Rattle.integrals.proofs.Adding.{pass-more, pass-done}
+use Rattle.roll.specs.inner.Again.{termsAgain}
+use Rattle.integrals.proofs.SumsLaws.{pass-more, pass-done}
 use Rattle.integrals.proofs.sums.pass.Statement.{statement}
 use Rattle.integrals.proofs.sums.pass.Tie as tie
 
 abbrev Inv-loop : tie.InvT-loop
-Inv-loop order table s boys roll start terms before b sum₀ at₀ left₀ sum at left = sumFrom (coulombOf table b) (ofOrder order (termsAt roll left at)) sum ≡ sumFrom (coulombOf table b) (ofOrder order (termsAt roll terms start)) before
+Inv-loop order table s boys roll start terms before b sum₀ at₀ left₀ sum at left = sumFrom (coulombOf table b) (ofOrder order (termsAgain roll at left)) sum ≡ sumFrom (coulombOf table b) (ofOrder order (termsAgain roll start terms)) before
 
 abbrev μ-loop : tie.MeasureT-loop
 μ-loop order table s boys roll start terms before b sum₀ at₀ left₀ sum at left = left

@@ -3,8 +3,8 @@ use mathlib.Core.Path.{_≡_, refl}
 use Prim.Native.Nat.{_-_}
 use borrow.Author.Needs.{needs}
 use Rattle.integrals.specs.Sums.{productOf}
-use Rattle.integrals.specs.Stored.{between}
-use Rattle.integrals.proofs.Stored.{product-more, product-done}
+use Rattle.roll.specs.inner.Again.{between}
+use Rattle.integrals.proofs.SumsLaws.{product-more, product-done}
 use Rattle.integrals.proofs.sums.product.Statement.{statement}
 use Rattle.integrals.proofs.sums.product.Tie as tie
 
@@ -22,6 +22,9 @@ shared-slice-read-wide c = search needs
 
 wide-requires : tie.Need-wide-requires Inv-loop μ-loop
 wide-requires c κs = search needs
+
+cast-float-at : tie.Need-cast-float-at Inv-loop μ-loop
+cast-float-at c = search needs
 
 float-at-requires : tie.Need-float-at-requires Inv-loop μ-loop
 float-at-requires c κs = search needs
@@ -47,6 +50,7 @@ product-spec =
     loop-holds
     shared-slice-read-wide
     wide-requires
+    cast-float-at
     float-at-requires
     add-at
     loop-less

@@ -1,5 +1,5 @@
 -- `start_of` meets its contract: each arm is the definition at its case. Assumes nothing.
-use Rattle.integrals.specs.Stored.{startOf}
+use Rattle.integrals.specs.inner.Stored.{startOf}
 use borrow.Author.Needs.{needs}
 use Rattle.integrals.proofs.sums.start_of.Statement.{statement}
 use Rattle.integrals.proofs.sums.start_of.Tie as tie

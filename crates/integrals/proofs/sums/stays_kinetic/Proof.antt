@@ -3,8 +3,8 @@ use mathlib.Core.Path.{_≡_, refl}
 use Prim.Native.Nat.{_-_}
 use borrow.Author.Needs.{needs}
 use Rattle.integrals.specs.Sums.{staysKinetic}
-use Rattle.integrals.specs.Stored.{between}
-use Rattle.integrals.proofs.Stored.{kinetic-more, kinetic-not, kinetic-done}
+use Rattle.roll.specs.inner.Again.{between}
+use Rattle.integrals.proofs.SumsLaws.{kinetic-more, kinetic-not, kinetic-done}
 use Rattle.integrals.proofs.sums.stays_kinetic.Statement.{statement}
 use Rattle.integrals.proofs.sums.stays_kinetic.Tie as tie
 

@@ -3,13 +3,15 @@ use mathlib.Core.Path.{_≡_, refl}
 use borrow.Author.Needs.{needs}
 use Rattle.geometry.specs.Floats.{zero}
 use Rattle.integrals.specs.Sums.{sumFrom}
-use Rattle.integrals.specs.Stored.{termsAt, addendOf}
-use Rattle.integrals.proofs.Adding.{head-inside, sum-more, sum-done}
+use Rattle.roll.specs.inner.Again.{termsAgain}
+use Rattle.integrals.specs.inner.Stored.{addendOf}
+use Rattle.roll.proofs.AgainLaws.{head-inside}
+use Rattle.integrals.proofs.SumsLaws.{sum-more, sum-done}
 use Rattle.integrals.proofs.sums.sum.Statement.{statement}
 use Rattle.integrals.proofs.sums.sum.Tie as tie
 
 abbrev Inv-loop : tie.InvT-loop
-Inv-loop adds kinetic table aux boys roll start terms sum₀ at₀ left₀ sum at left = sumFrom (addendOf adds kinetic table aux boys) (termsAt roll left at) sum ≡ sumFrom (addendOf adds kinetic table aux boys) (termsAt roll terms start) zero
+Inv-loop adds kinetic table aux boys roll start terms sum₀ at₀ left₀ sum at left = sumFrom (addendOf adds kinetic table aux boys) (termsAgain roll at left) sum ≡ sumFrom (addendOf adds kinetic table aux boys) (termsAgain roll start terms) zero
 
 abbrev μ-loop : tie.MeasureT-loop
 μ-loop adds kinetic table aux boys roll start terms sum₀ at₀ left₀ sum at left = left

@@ -1,7 +1,7 @@
 -- `all_small` meets its contract. The loop's invariant is `Looking`: the bytes so far are small. Assumes nothing.
 use Prim.Native.Nat.{_-_}
 use borrow.Author.Needs.{needs}
-use Rattle.roll.proofs.Going.{Looking, looking-first, looking-more, looking-not, looking-done}
+use Rattle.roll.proofs.OverLaws.{Looking, looking-first, looking-more, looking-not, looking-done}
 use Rattle.roll.proofs.over.all_small.Statement.{statement}
 use Rattle.roll.proofs.over.all_small.Tie as tie
 

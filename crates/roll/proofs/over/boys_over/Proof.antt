@@ -1,5 +1,5 @@
 -- `boys_over` meets its contract: the Boys order, then the rest. Assumes nothing.
-use Rattle.roll.proofs.Going.{boys-went, boys-refused}
+use Rattle.roll.proofs.OverLaws.{boys-went, boys-refused}
 use borrow.Author.Needs.{needs}
 use Rattle.roll.proofs.over.boys_over.Statement.{statement}
 use Rattle.roll.proofs.over.boys_over.Tie as tie

@@ -1,5 +1,5 @@
 -- `count_over` meets its contract: the count, then so many prefactors. Assumes nothing.
-use Rattle.roll.proofs.Going.{counted-over, uncounted-over}
+use Rattle.roll.proofs.OverLaws.{counted-over, uncounted-over}
 use borrow.Author.Needs.{needs}
 use Rattle.roll.proofs.over.count_over.Statement.{statement}
 use Rattle.roll.proofs.over.count_over.Tie as tie

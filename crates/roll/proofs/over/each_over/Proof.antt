@@ -1,6 +1,6 @@
 -- `each_over` meets its contract. The loop's invariant is `Passing`: what is left says what the whole says. Assumes nothing.
 use borrow.Author.Needs.{needs}
-use Rattle.roll.proofs.Going.{Passing, passing-first, passing-more, passing-refused, passing-done}
+use Rattle.roll.proofs.OverLaws.{Passing, passing-first, passing-more, passing-refused, passing-done}
 use Rattle.roll.proofs.over.each_over.Statement.{statement}
 use Rattle.roll.proofs.over.each_over.Tie as tie
 

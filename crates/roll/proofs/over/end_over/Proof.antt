@@ -1,5 +1,5 @@
 -- `end_over` meets its contract: a place is the end or is not. Assumes nothing.
-use Rattle.roll.proofs.Going.{ends-there, ends-not}
+use Rattle.roll.proofs.OverLaws.{ends-there, ends-not}
 use Rattle.roll.proofs.over.end_over.Statement.{statement}
 use Rattle.roll.proofs.over.end_over.Tie as tie
 

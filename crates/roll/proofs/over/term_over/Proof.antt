@@ -1,5 +1,5 @@
 -- `term_over` meets its contract: the scale, then the rest. Assumes nothing.
-use Rattle.roll.proofs.Going.{scale-went, scale-refused}
+use Rattle.roll.proofs.OverLaws.{scale-went, scale-refused}
 use borrow.Author.Needs.{needs}
 use Rattle.roll.proofs.over.term_over.Statement.{statement}
 use Rattle.roll.proofs.over.term_over.Tie as tie

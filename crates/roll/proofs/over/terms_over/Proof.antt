@@ -1,6 +1,6 @@
 -- `terms_over` meets its contract. The loop's invariant is `Going`: the terms left say what all of them say. Assumes nothing.
 use borrow.Author.Needs.{needs}
-use Rattle.roll.proofs.Going.{Going, going-first, going-more, going-refused, going-done}
+use Rattle.roll.proofs.OverLaws.{Going, going-first, going-more, going-refused, going-done}
 use Rattle.roll.proofs.over.terms_over.Statement.{statement}
 use Rattle.roll.proofs.over.terms_over.Tie as tie
 

@@ -1,0 +1,80 @@
+-- `open` meets its contract: the kind, then its orders and count. Assumes nothing.
+use native.Mathlib.Omega.{arith}
+use Rattle.roll.proofs.FieldLaws.{taken-below}
+use Rattle.roll.proofs.HeaderLaws.{orders-places, few-orders, open-kind, open-unknown, open-unread}
+use borrow.Author.Needs.{needs}
+use Rattle.roll.proofs.header.open.Statement.{statement}
+use Rattle.roll.proofs.header.open.Tie as tie
+
+number-requires : tie.Need-number-requires
+number-requires c κs = search needs
+
+cast-within : tie.Need-cast-within
+cast-within c = search needs
+
+within-requires : tie.Need-within-requires
+within-requires c κs = search needs
+
+enum-known-number : tie.Need-enum-known-number
+enum-known-number c = search needs
+
+cast-of : tie.Need-cast-of
+cast-of c = omega (arith, taken-below _ _ _ _ _ _ _ (c .before .before .before .within .ensures) (c .before .number2 .given .1))
+
+of-requires : tie.Need-of-requires
+of-requires c κs = search needs
+
+enum-known-kind : tie.Need-enum-known-kind
+enum-known-kind c = search needs
+
+orders-requires : tie.Need-orders-requires
+orders-requires c κs = search needs
+
+orders-requires-2 : tie.Need-orders-requires-2
+orders-requires-2 c κs = search orders-places
+
+open-count-requires : tie.Need-open-count-requires
+open-count-requires c κs = few-orders _ _ _ _ (search orders-places) (c .orders2 .ensures)
+
+enum-told : tie.Need-enum-told
+enum-told c = search needs
+
+refused-roll-requires : tie.Need-refused-roll-requires
+refused-roll-requires c κs = search needs
+
+enum-known-refusal : tie.Need-enum-known-refusal
+enum-known-refusal c = search needs
+
+refused-roll-requires-2 : tie.Need-refused-roll-requires-2
+refused-roll-requires-2 c κs = search needs
+
+returns : tie.Need-returns
+returns c = search open-kind
+
+returns-2 : tie.Need-returns-2
+returns-2 c = search open-unknown
+
+returns-3 : tie.Need-returns-3
+returns-3 c = search open-unread
+
+pub open-spec : {M : Type 1} → statement M
+open-spec =
+    tie.close
+    (tie.spec
+    number-requires
+    cast-within
+    within-requires
+    enum-known-number
+    cast-of
+    of-requires
+    enum-known-kind
+    orders-requires
+    orders-requires-2
+    open-count-requires
+    enum-told
+    refused-roll-requires
+    enum-known-refusal
+    refused-roll-requires-2
+    returns
+    returns-2
+    returns-3)
