@@ -33,10 +33,7 @@ use Rattle.expansion.proofs.MeasureSizes.{measured-few, small-none, sma
 use Rattle.expansion.proofs.MeasureGroups.{nextPath, next-scale, next-count, next-of, group-split, group-turn, width-one}
 
 unfoldable pub nodeCount : Kind → ℕ → ℕ
-nodeCount k left = 10 * (stage k + total (orders left)) + 10
-
-unfoldable pub innerCount : Kind → ℕ → ℕ
-innerCount k left = 10 * (stage k + total (orders left)) + 9
+nodeCount k left = 10 * (stage k + total (orders left)) + 9
 
 unfoldable pub branchCount : Kind → ℕ → ℕ → ℕ
 branchCount k left number = 10 * (stage k + total (orders left)) + (8 - number)
@@ -73,12 +70,8 @@ module _ (k : Kind) (left scale count : ℕ) (may : MeasureMay k left scale coun
         small-enough = s;
       }
 
-  pub inner-count : (t : ℕ) → nodeCount k left ≡ t → innerCount k left < t
-  unfolding nodeCount innerCount
-  inner-count t e = omega arith
-
-  pub first-count : (t : ℕ) → innerCount k left ≡ t → branchCount k left 0 < t
-  unfolding innerCount branchCount
+  pub first-count : (t : ℕ) → nodeCount k left ≡ t → branchCount k left 0 < t
+  unfolding nodeCount branchCount
   first-count t e = omega arith
 
   module _ (some : left ≡ 0 → ⊥) (l : Lowering) (is : l ≡ lowering k (orders left)) where

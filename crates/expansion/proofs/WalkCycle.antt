@@ -39,10 +39,7 @@ use Rattle.expansion.proofs.TermsWords.{length-prefactors}
 use Rattle.expansion.proofs.WalkTurns.{from-none, from-skip, from-legal, turn-next, below-eight, emitted-none, room-first, room-then, emitted-both}
 
 unfoldable pub nodeFuel : Kind → ℕ → Path → ℕ
-nodeFuel k left p = 10 * depth (viewOf k left p) + 10
-
-unfoldable pub innerFuel : Kind → ℕ → Path → ℕ
-innerFuel k left p = 10 * depth (viewOf k left p) + 9
+nodeFuel k left p = 10 * depth (viewOf k left p) + 9
 
 unfoldable pub branchFuel : Kind → ℕ → Path → ℕ → ℕ
 branchFuel k left p number = 10 * depth (viewOf k left p) + (8 - number)
@@ -207,12 +204,8 @@ module _ (k : Kind) (left : ℕ) (p : Path) (at : ℕ) (out : List ℕ) (may : N
   pub node-emitted : (r : ℕ) (after : List ℕ) → left ≡ 0 → Emitted (termBytes (pathTerm p)) at out r after → Emitted (termsBytes (termsBelow k left p)) at out r after
   node-emitted r after e h = subst (λ (bytes : List ℕ). Emitted bytes at out r after) (sym (one-term e)) h
 
-  pub inner-falls : (t : ℕ) → nodeFuel k left p ≡ t → innerFuel k left p < t
-  unfolding nodeFuel innerFuel
-  inner-falls t e = omega arith
-
-  pub first-falls : (t : ℕ) → innerFuel k left p ≡ t → branchFuel k left p 0 < t
-  unfolding innerFuel branchFuel
+  pub first-falls : (t : ℕ) → nodeFuel k left p ≡ t → branchFuel k left p 0 < t
+  unfolding nodeFuel branchFuel
   first-falls t e = omega arith
 
   module _ (some : left ≡ 0 → ⊥) (r : Lowering) (is : r ≡ lowering k (orders left)) where
