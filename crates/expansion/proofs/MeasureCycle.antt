@@ -1,8 +1,8 @@
 -- What each call of measuring asks and gives, a law for each. The number that falls is the walk's.
-use Prim.Native.Nat.{ℕ, zero, suc, _+_, _*_, _-_, _/_, _%_, _^_, _≤_, _<_}
+use Prim.Native.Nat.{ℕ, _+_, _*_, _-_, _/_, _%_, _^_, _≤_, _<_}
 use mathlib.Core.Path.{_≡_, refl, sym, ap, ap₂, subst, _∙_}
-use mathlib.Core.Bool.{Bool, true, false, cond}
-use mathlib.Core.List.{List, [], _∷_, _++_, append-nil}
+use mathlib.Core.Bool.{Bool, true, false}
+use mathlib.Core.List.{List, [], _∷_, append-nil}
 use native.Mathlib.Omega.{arith}
 use native.Mathlib.Nat.{mul-le-mul}
 use lib.ListN.{length}
@@ -27,9 +27,9 @@ use Rattle.expansion.specs.inner.Walking.{Good, TurnMay, lowering, terms
 use Rattle.expansion.specs.inner.Measuring.{measured, plus, widthOf, groupOf, skipOf, SmallMeasure, MeasureMay, Measures, MeasuresFrom}
 use Rattle.expansion.proofs.TermsBytes.{term-length}
 use Rattle.expansion.proofs.WalkTurns.{from-none, from-skip, turn-next, below-eight}
-use Rattle.expansion.proofs.WalkChildren.{child-moves, child-held}
+use Rattle.expansion.proofs.WalkChildren.{child-held}
 use Rattle.expansion.proofs.WalkCycle.{Words, good-words, below-done, below-none, below-first, first-turn}
-use Rattle.expansion.proofs.MeasureSizes.{measured-few, small-none, small-over, plus-over, plus-none}
+use Rattle.expansion.proofs.MeasureSizes.{measured-few, small-none, small-over, plus-none}
 use Rattle.expansion.proofs.MeasureGroups.{nextPath, next-scale, next-count, next-of, group-split, group-turn, width-one}
 
 unfoldable pub nodeCount : Kind → ℕ → ℕ

@@ -1,10 +1,9 @@
 -- A request's orders: their sums, those unused, and the word that holds them.
-use Prim.Native.Nat.{ℕ, zero, suc, _+_, _*_, _-_, _/_, _%_, _^_, _≤_, _<_}
-use mathlib.Core.Path.{_≡_, refl, sym, ap, ap₂, subst, _∙_}
-use mathlib.Core.Bool.{Bool, true, false, cond, _||_}
-use mathlib.Core.List.{List, [], _∷_, _++_}
+use Prim.Native.Nat.{ℕ, suc, _+_, _*_, _-_, _/_, _%_, _^_, _≤_, _<_}
+use mathlib.Core.Path.{_≡_, sym, ap, ap₂, subst, _∙_}
+use mathlib.Core.Bool.{Bool}
+use mathlib.Core.List.{List, _∷_}
 use native.Mathlib.Omega.{arith}
-use native.Mathlib.Numerals.{add-one, add-two, add-three}
 use native.Mathlib.Nat.{pow-suc, pow-le-pow-right}
 use lib.Dec.{ltb}
 use lib.ListN.{length, getD, drop, drop-of-length-le}
@@ -30,7 +29,7 @@ sum-exceeds orders c v e = ap (ltb mostOrder) e
 pub high-at : (k j : Kind) (orders : List ℕ) (r : Bool) → k ≡ j → r ≡ tooHigh j orders → r ≡ tooHigh k orders
 high-at k j orders r e h = h ∙ ap (λ (i : Kind). tooHigh i orders) (sym e)
 
-module _ (orders : List ℕ) (twelve : length orders ≡ requestOrders) where
+module _ (orders : List ℕ) (in-full : length orders ≡ requestOrders) where
   pub none-after : total (drop requestOrders orders) ≡ 0
   unfolding total
   none-after = ap total (drop-of-length-le orders {i = requestOrders} (omega arith))
@@ -64,7 +63,7 @@ module _ (orders : List ℕ) (twelve : length orders ≡ requestOrders) where
 pub set-at : (k : Kind) (orders : List ℕ) (v : ℕ) → v ≡ total (drop (ordersOf k) orders) → ltb 0 v ≡ unusedSet k orders
 set-at k orders v e = ap (ltb 0) e
 
-module _ (orders : List ℕ) (small : PackMay orders) (twelve : length orders ≡ requestOrders) (i word : ℕ) (packed : Packed orders i word) (some : 0 < i) where
+module _ (orders : List ℕ) (small : PackMay orders) (in-full : length orders ≡ requestOrders) (i word : ℕ) (packed : Packed orders i word) (some : 0 < i) where
   left-over : 16 ^ (requestOrders - (i - 1)) ≡ 16 ^ (requestOrders - i) * 16
   left-over = ap (λ (n : ℕ). 16 ^ n) (let h = packed .within in the-next) ∙ pow-suc 16 (requestOrders - i)
     where

@@ -1,7 +1,6 @@
 -- What each call of the walk asks and gives, a law for each. The number that falls: ten for each step left, then the branches left.
-use Prim.Native.Nat.{ℕ, zero, suc, _+_, _*_, _-_, _/_, _%_, _^_, _≤_, _<_}
-use mathlib.Core.Path.{_≡_, refl, sym, ap, ap₂, subst, _∙_}
-use mathlib.Core.Bool.{true}
+use Prim.Native.Nat.{ℕ, _+_, _*_, _-_, _/_, _%_, _^_, _<_}
+use mathlib.Core.Path.{_≡_, refl, sym, ap, subst, _∙_}
 use mathlib.Core.List.{List, [], _∷_, _++_, append-nil}
 use native.Mathlib.Omega.{arith}
 use lib.ListN.{length}
@@ -15,17 +14,16 @@ use Rattle.steps.specs.declared.Fun.{Fun}
 use Rattle.steps.specs.declared.Fun.the-variants.{Lower, Nothing as none}
 use Rattle.steps.specs.declared.AxisChoice.{AxisChoice}
 use Rattle.steps.specs.declared.AxisChoice.the-variants.{Along, Nowhere}
-use Rattle.steps.specs.Choice.{orderOf, chosen, firstAxis}
+use Rattle.steps.specs.Choice.{chosen, firstAxis}
 use Rattle.steps.specs.Steps.{branches}
 use Rattle.laws.specs.Total.{total}
-use Rattle.steps.specs.States.{State, Next, start, turns, onAxis, onFun, nexts}
+use Rattle.steps.specs.States.{Next, onAxis, onFun, nexts}
 use Rattle.steps.specs.inner.Packed.{orders, multiplierWord}
 use Rattle.steps.proofs.Falling.{some-left, none-left}
 use Rattle.histories.specs.History.{depth, inTurn, expand}
 use Rattle.histories.proofs.Orders.{axis-positive}
 use Rattle.histories.proofs.Choices.{chosen-own}
 use Rattle.histories.proofs.Walk.{expand-done, expand-more}
-use Rattle.histories.specs.inner.OnTheWay.{Reached}
 use Rattle.histories.proofs.Bounds.{scale-on-the-way}
 use Rattle.roll.specs.Bytes.{termBytes, termsBytes}
 use Rattle.expansion.specs.declared.Path.{Path}

@@ -1,11 +1,11 @@
 -- What falls, taken from a word, is what falls in the list of its orders.
-use Prim.Native.Nat.{ℕ, zero, suc, _+_, _*_, _-_, _/_, _%_, _^_, _≤_, _<_}
-use mathlib.Core.Path.{_≡_, refl, sym, ap, ap₂, subst, _∙_}
+use Prim.Native.Nat.{ℕ, zero, suc, _+_, _-_, _/_, _%_, _^_, _≤_, _<_}
+use mathlib.Core.Path.{_≡_, refl, ap, ap₂, _∙_}
 use mathlib.Core.Logic.{_≢_}
-use mathlib.Core.List.{List, [], _∷_}
+use mathlib.Core.List.{List, _∷_}
 use native.Mathlib.Omega.{arith}
 use native.Mathlib.Nat.{pow-suc}
-use lib.ListN.{length, getD, set, List·getD-eq-default}
+use lib.ListN.{getD, set}
 use lib.Seq.{getD-set-same, getD-set-other}
 use Rattle.kind.specs.Limits.{requestOrders}
 use Rattle.steps.specs.declared.CentreName.{CentreName}
@@ -15,7 +15,6 @@ use Rattle.steps.specs.Steps.{Falls, a, a-twice, a-and-b, a-and-c, a-and
 use Rattle.laws.specs.Total.{total}
 use Rattle.laws.proofs.Lists.{in-range}
 use Rattle.steps.specs.inner.Packed.{nibbles, orders, unit, fallWord}
-use Rattle.steps.proofs.Packed.{length-nibbles}
 
 -- an order of a word is below sixteen
 nibble-small : (n i w : ℕ) → getD (nibbles n w) i 0 < 16

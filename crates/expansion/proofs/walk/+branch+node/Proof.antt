@@ -1,6 +1,5 @@
 -- `branch` and `node` meet their contracts. Assumes nothing.
 use borrow.Author.Needs.{needs}
-use native.Mathlib.Omega.{arith}
 use Rattle.expansion.proofs.WalkCycle.{nodeFuel, branchFuel, branch-none, number-fits, skip-falls, skip-may, skipped, child-falls, child-may, then-may, then-done, then-last, node-emits, node-emitted, node-none, first-falls, first-may, first-done}
 use Prim.Native.Nat.{ℕ, _<_}
 use borrow.Fn.Kinds.{In}
