@@ -1,6 +1,5 @@
 -- 01, "Cases": the rows marked *, as the paper prints them.
 use Prim.Native.Nat.{ℕ}
-use mathlib.Core.Bool.{Bool, true, false}
 use mathlib.Core.Path.{_≡_}
 use mathlib.Core.List.{List, [], _∷_, _++_}
 use Rattle.kind.specs.declared.Kind.{Kind}

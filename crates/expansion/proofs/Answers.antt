@@ -1,12 +1,12 @@
 -- The answers of the expansion, a law for each, in 01's order.
-use Prim.Native.Nat.{ℕ, zero, suc, _+_, _*_, _-_, _^_, _≤_, _<_}
-use mathlib.Core.Path.{_≡_, refl, sym, ap, ap₂, subst, _∙_}
+use Prim.Native.Nat.{ℕ, _+_, _-_, _^_, _≤_, _<_}
+use mathlib.Core.Path.{_≡_, refl, sym, ap, ap₂, _∙_}
 use mathlib.Core.Bool.{Bool, true, false, cond}
-use mathlib.Core.List.{List, [], _∷_, _++_}
+use mathlib.Core.List.{List}
 use native.Mathlib.Omega.{arith}
 use borrow.Author.Tests.{lt-ltb, le-ltb, leb-true, leb-false}
 use borrow.Rule.Slice.PartMut.{putMid}
-use lib.Dec.{ltb, leb}
+use lib.Dec.{leb}
 use lib.ListN.{length, take, drop, length-drop}
 use lib.Seq.{sets}
 use Rattle.laws.proofs.Cases.{clash}
@@ -27,10 +27,9 @@ use Rattle.expansion.specs.declared.Measured.the-variants.{Fits, Over}
 use Rattle.expansion.specs.declared.Expanded.{Expanded}
 use Rattle.expansion.specs.declared.Expanded.the-variants.{Roll, Refused}
 use Rattle.expansion.specs.inner.View.{pathTerm, fiveBits, pathPrefactors}
-use Rattle.expansion.specs.inner.Walking.{termsBelow}
-use Rattle.expansion.specs.inner.Measuring.{measured, Measures, MeasureMay, SmallMeasure, termsIn, bytesIn}
+use Rattle.expansion.specs.inner.Measuring.{measured, Measures, MeasureMay, termsIn, bytesIn}
 use Rattle.expansion.specs.Expanding.{tooHigh, unusedSet, termsOf, rollOf, kindTold, namedTold, namedOut, ExpandTold}
-use Rattle.expansion.specs.inner.Requests.{KnownTold, PackMay, Packed, emptyTerm, RequestWithin, RollMay, RequestMay, SizedMay}
+use Rattle.expansion.specs.inner.Requests.{KnownTold, PackMay, Packed, emptyTerm, RollMay, RequestMay, SizedMay}
 use Rattle.expansion.proofs.HeaderLaws.{within-nibbles, first-good, first-terms, roll-length}
 
 -- an answer that refuses leaves every byte as it was
@@ -51,7 +50,7 @@ module _ (k : Kind) (os out : List ℕ) (begin : ℕ) where
   told-beyond a b e f g h l = refused-with k os out begin 5 (simp (sym e ∙ f, sym g ∙ h, lt-ltb (length out) begin l))
 
   pub request-may : (a b : Bool) → a ≡ tooHigh k os → a ≡ false → b ≡ unusedSet k os → b ≡ false → length os ≡ requestOrders → begin ≤ length out → RequestMay k os begin out
-  request-may a b e f g h t l = record { within = record { low-sums = sym e ∙ f; none-unused = sym g ∙ h; twelve = t }; begins = l }
+  request-may a b e f g h t l = record { within = record { low-sums = sym e ∙ f; none-unused = sym g ∙ h; in-full = t }; begins = l }
 
 -- a path with nothing done yet
 abbrev emptyPath : Path

@@ -1,7 +1,7 @@
 -- A request within the limits, and the roll that is written of it.
-use Prim.Native.Nat.{ℕ, zero, suc, _+_, _*_, _-_, _^_, _≤_, _<_}
-use mathlib.Core.Path.{_≡_, refl, sym, ap, ap₂, subst, subst₂, _∙_}
-use mathlib.Core.Bool.{false, cond, _||_}
+use Prim.Native.Nat.{ℕ, zero, suc, _+_, _^_, _≤_, _<_}
+use mathlib.Core.Path.{_≡_, refl, sym, ap, ap₂, subst, _∙_}
+use mathlib.Core.Bool.{false, _||_}
 use mathlib.Core.List.{List, [], _∷_, _++_, append-assoc}
 use native.Mathlib.Omega.{arith}
 use native.Mathlib.Numerals.{add-one}
@@ -12,29 +12,27 @@ use lib.Seq.{sets, length-sets, take-suc}
 use Rattle.kind.specs.declared.Kind.{Kind}
 use Rattle.kind.specs.declared.Kind.the-variants.{Overlap, Kinetic, Nuclear, Moment, Coulomb}
 use Rattle.kind.specs.Kinds.{numberOf, ordersOf}
-use Rattle.kind.specs.Limits.{mostOrder, mostL·any, mostTerms, requestOrders}
+use Rattle.kind.specs.Limits.{mostOrder, mostL·any, requestOrders}
 use Rattle.laws.proofs.Lists.{sets-append}
 use Rattle.laws.proofs.Cases.{or-false-both}
 use Rattle.kind.proofs.Within.{orders-within, number-within}
 use Rattle.term.specs.Terms.{Term}
 use Rattle.number.specs.Numbers.{bytesOf, lengthOf}
 use Rattle.number.proofs.Writing.{bytes-last}
-use Rattle.steps.specs.declared.CentreName.{CentreName}
 use Rattle.steps.specs.declared.CentreName.the-variants.{A, B, C, D}
 use Rattle.steps.specs.Choice.{sumOf}
 use Rattle.laws.specs.Total.{total}
-use Rattle.steps.specs.States.{State, start}
-use Rattle.steps.specs.inner.Packed.{orders}
+use Rattle.steps.specs.States.{start}
 use Rattle.histories.specs.History.{stage, depth, expand}
 use Rattle.histories.specs.inner.OnTheWay.{SmallOrders, Reached}
 use Rattle.histories.proofs.Bounds.{started}
 use Rattle.roll.specs.Bytes.{termsBytes, numbersBytes, rollBytes}
 use Rattle.expansion.specs.declared.Path.{Path}
 use Rattle.expansion.specs.inner.View.{pathTerm, Emitted, NumberMay}
-use Rattle.expansion.specs.inner.Walking.{viewOf, Good, termsBelow, Room, NodeMay}
+use Rattle.expansion.specs.inner.Walking.{viewOf, Good, termsBelow, NodeMay}
 use Rattle.expansion.specs.Expanding.{_exceeds_, tooHigh, unusedSet, termsOf, rollOf}
 use Rattle.expansion.specs.inner.Requests.{PackMay, Packed, emptyTerm, RequestWithin, headOf, HeadMay, RollMay}
-use Rattle.laws.proofs.Totals.{three-total}
+use Rattle.laws.proofs.Totals.{total-three}
 use Rattle.expansion.proofs.RequestLaws.{none-after}
 
 -- ---- the orders of a request within the limits
@@ -47,14 +45,14 @@ pub record Sums (k : Kind) (os : List ℕ) : Type 0 where
   pub of-d : sumOf os D ≤ mostOrder
   pub deep : stage k + total os ≤ mostL·any
 
-module _ (os : List ℕ) (twelve : length os ≡ requestOrders) where
+module _ (os : List ℕ) (in-full : length os ≡ requestOrders) where
   all-total : total os ≡ sumOf os A + sumOf os B + sumOf os C + sumOf os D
   all-total =
-      let a = three-total os 0 in
-      let b = three-total os 3 in
-      let c = three-total os 6 in
-      let d = three-total os 9 in
-      let e = none-after os twelve in
+      let a = total-three os 0 in
+      let b = total-three os 3 in
+      let c = total-three os 6 in
+      let d = total-three os 9 in
+      let e = none-after os in-full in
       omega arith
 
   two-sums : (k : Kind) → stage k ≤ 1 → (sumOf os A exceeds mostOrder || sumOf os B exceeds mostOrder) ≡ false → ltb 0 (total (drop 6 os)) ≡ false → Sums k os
@@ -64,9 +62,9 @@ module _ (os : List ℕ) (twelve : length os ≡ requestOrders) where
       let a = ltb-false mostOrder (sumOf os A) (n .0) in
       let b = ltb-false mostOrder (sumOf os B) (n .1) in
       let r = ltb-false 0 (total (drop 6 os)) u in
-      let c = three-total os 6 in
-      let d = three-total os 9 in
-      let l = none-after os twelve in
+      let c = total-three os 6 in
+      let d = total-three os 9 in
+      let l = none-after os in-full in
       record { of-a = a; of-b = b; of-c = omega arith; of-d = omega arith; deep = omega arith }
 
   sums : (k : Kind) → tooHigh k os ≡ false → unusedSet k os ≡ false → Sums k os
@@ -81,8 +79,8 @@ module _ (os : List ℕ) (twelve : length os ≡ requestOrders) where
       let b = ltb-false mostOrder (sumOf os B) (n .1) in
       let c = ltb-false mostOrder (sumOf os C) (m .1) in
       let r = ltb-false 0 (total (drop 9 os)) u in
-      let d = three-total os 9 in
-      let l = none-after os twelve in
+      let d = total-three os 9 in
+      let l = none-after os in-full in
       record { of-a = a; of-b = b; of-c = c; of-d = omega arith; deep = omega arith }
   sums Coulomb e u =
       let t = all-total in
@@ -114,11 +112,11 @@ module _ (os : List ℕ) (twelve : length os ≡ requestOrders) where
 
 module _ (k : Kind) (os : List ℕ) (within : RequestWithin k os) where
   pub all-sums : Sums k os
-  all-sums = sums os (within .twelve) k (within .low-sums) (within .none-unused)
+  all-sums = sums os (within .in-full) k (within .low-sums) (within .none-unused)
 
   pub all-small : SmallOrders os
   unfolding SmallOrders
-  all-small = small-at os (within .twelve) k all-sums
+  all-small = small-at os (within .in-full) k all-sums
 
   pub within-nibbles : PackMay os
   unfolding SmallOrders
@@ -173,7 +171,7 @@ module _ (k : Kind) (os : List ℕ) (within : RequestWithin k os) where
       ∙ ap (λ (l : List ℕ). numberOf k ∷ l) (sym (append-assoc (take (ordersOf k) os) (bytesOf (length (termsOf k os))) (termsBytes (termsOf k os))))
 
   pub orders-long : length (take (ordersOf k) os) ≡ ordersOf k
-  orders-long = length-take (ordersOf k) os ∙ (let h = orders-within k in let l = within .twelve in omega arith)
+  orders-long = length-take (ordersOf k) os ∙ (let h = orders-within k in let l = within .in-full in omega arith)
 
   head-length : length (headOf k os) ≡ 1 + ordersOf k + lengthOf (length (termsOf k os))
   unfolding headOf lengthOf
@@ -261,7 +259,7 @@ ordering-first before os count = record { within = omega arith; stored = refl }
 
 pub ordering-more : (before os : List ℕ) (count : ℕ) (out : List ℕ) (i : ℕ) → count ≤ requestOrders → length os ≡ requestOrders → Ordering before os count out i → i < count
     → Ordering before os count (set out (1 + i) (getD os i 0)) (i + 1)
-ordering-more before os count out i few twelve o h =
+ordering-more before os count out i few in-full o h =
     record {
       within = omega arith;
       stored =

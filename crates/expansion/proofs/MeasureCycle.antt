@@ -1,8 +1,8 @@
 -- What each call of measuring asks and gives, a law for each. The number that falls is the walk's.
-use Prim.Native.Nat.{ℕ, zero, suc, _+_, _*_, _-_, _/_, _%_, _^_, _≤_, _<_}
+use Prim.Native.Nat.{ℕ, _+_, _*_, _-_, _/_, _%_, _^_, _≤_, _<_}
 use mathlib.Core.Path.{_≡_, refl, sym, ap, ap₂, subst, _∙_}
-use mathlib.Core.Bool.{Bool, true, false, cond}
-use mathlib.Core.List.{List, [], _∷_, _++_, append-nil}
+use mathlib.Core.Bool.{Bool, true, false}
+use mathlib.Core.List.{List, [], _∷_, append-nil}
 use native.Mathlib.Omega.{arith}
 use native.Mathlib.Nat.{mul-le-mul}
 use lib.ListN.{length}
@@ -27,16 +27,13 @@ use Rattle.expansion.specs.inner.Walking.{Good, TurnMay, lowering, terms
 use Rattle.expansion.specs.inner.Measuring.{measured, plus, widthOf, groupOf, skipOf, SmallMeasure, MeasureMay, Measures, MeasuresFrom}
 use Rattle.expansion.proofs.TermsBytes.{term-length}
 use Rattle.expansion.proofs.WalkTurns.{from-none, from-skip, turn-next, below-eight}
-use Rattle.expansion.proofs.WalkChildren.{child-moves, child-held}
+use Rattle.expansion.proofs.WalkChildren.{child-held}
 use Rattle.expansion.proofs.WalkCycle.{Words, good-words, below-done, below-none, below-first, first-turn}
-use Rattle.expansion.proofs.MeasureSizes.{measured-few, small-none, small-over, plus-over, plus-none}
+use Rattle.expansion.proofs.MeasureSizes.{measured-few, small-none, small-over, plus-none}
 use Rattle.expansion.proofs.MeasureGroups.{nextPath, next-scale, next-count, next-of, group-split, group-turn, width-one}
 
 unfoldable pub nodeCount : Kind → ℕ → ℕ
-nodeCount k left = 10 * (stage k + total (orders left)) + 10
-
-unfoldable pub innerCount : Kind → ℕ → ℕ
-innerCount k left = 10 * (stage k + total (orders left)) + 9
+nodeCount k left = 10 * (stage k + total (orders left)) + 9
 
 unfoldable pub branchCount : Kind → ℕ → ℕ → ℕ
 branchCount k left number = 10 * (stage k + total (orders left)) + (8 - number)
@@ -73,12 +70,8 @@ module _ (k : Kind) (left scale count : ℕ) (may : MeasureMay k left scale coun
         small-enough = s;
       }
 
-  pub inner-count : (t : ℕ) → nodeCount k left ≡ t → innerCount k left < t
-  unfolding nodeCount innerCount
-  inner-count t e = omega arith
-
-  pub first-count : (t : ℕ) → innerCount k left ≡ t → branchCount k left 0 < t
-  unfolding innerCount branchCount
+  pub first-count : (t : ℕ) → nodeCount k left ≡ t → branchCount k left 0 < t
+  unfolding nodeCount branchCount
   first-count t e = omega arith
 
   module _ (some : left ≡ 0 → ⊥) (l : Lowering) (is : l ≡ lowering k (orders left)) where

@@ -1,39 +1,34 @@
 -- What measuring asks and gives, a law for each call. What is told holds of every path of one scale and one count, so branches that
 -- differ in the Boys order alone measure the same.
-use Prim.Native.Nat.{ℕ, zero, suc, _+_, _*_, _-_, _/_, _%_, _^_, _≤_, _<_}
+use Prim.Native.Nat.{ℕ, zero, suc, _+_, _*_, _-_, _/_, _%_, _^_, _<_}
 use mathlib.Core.Path.{_≡_, refl, sym, ap, ap₂, subst, subst₂, _∙_}
 use mathlib.Core.Bool.{Bool, true, false, cond}
-use mathlib.Core.List.{List, [], _∷_, _++_, append-assoc}
+use mathlib.Core.List.{List, _++_, append-assoc}
 use native.Mathlib.Omega.{arith}
 use native.Mathlib.Numerals.{add-one}
-use borrow.Author.Tests.{eq-eqb, ne-eqb, eqb-true, eqb-false}
+use borrow.Author.Tests.{eqb-true, eqb-false}
 use lib.Dec.{eqb}
 use lib.ListN.{length, getD, drop}
 use lib.Seq.{drop-cons}
 use Rattle.kind.specs.declared.Kind.{Kind}
 use Rattle.kind.specs.declared.Kind.the-variants.{Overlap, Kinetic, Nuclear, Moment, Coulomb}
-use Rattle.kind.specs.Limits.{mostL·any, mostTerms}
 use Rattle.term.specs.Terms.{Term}
-use Rattle.number.specs.Numbers.{lengthOf}
 use Rattle.steps.specs.declared.CentreName.{CentreName}
 use Rattle.steps.specs.declared.Axis.{Axis}
 use Rattle.steps.specs.declared.Move.{Move}
 use Rattle.steps.specs.Choice.{pick}
 use Rattle.steps.specs.Steps.{Falls, Branch, branches, times}
 use Rattle.steps.specs.inner.Packed.{orders, moveIn, fallWord, noBranch, multiplierWord}
-use Rattle.histories.specs.History.{depth}
-use Rattle.histories.proofs.Bounds.{scale-on-the-way}
 use Rattle.expansion.specs.declared.Path.{Path}
 use Rattle.expansion.specs.declared.Child.{Child}
 use Rattle.expansion.specs.declared.Measured.{Measured}
-use Rattle.expansion.specs.declared.Measured.the-variants.{Fits, Over}
 use Rattle.expansion.specs.inner.View.{pathTerm, movedOn, MoveMay}
-use Rattle.expansion.specs.inner.Walking.{viewOf, Good, TurnMay, ChildOf, termsBelow, termsFrom}
-use Rattle.expansion.specs.inner.Measuring.{measured, plus, inPairs, widthOf, groupOf, skipOf, SmallMeasure, MeasureMay, Measures, MeasuresFrom}
-use Rattle.expansion.proofs.TermsWords.{length-prefactors, pushed-over, pushed-on}
-use Rattle.expansion.proofs.WalkChildren.{child-moves, child-held, child-of}
-use Rattle.expansion.proofs.WalkTurns.{from-none, from-skip, from-legal, turn-next, below-eight, multiplier-here}
-use Rattle.expansion.proofs.MeasureSizes.{measured-append, measured-few}
+use Rattle.expansion.specs.inner.Walking.{Good, TurnMay, ChildOf, termsBelow, termsFrom}
+use Rattle.expansion.specs.inner.Measuring.{measured, plus, inPairs, widthOf, groupOf, skipOf, Measures}
+use Rattle.expansion.proofs.TermsWords.{pushed-over, pushed-on}
+use Rattle.expansion.proofs.WalkChildren.{child-moves, child-of}
+use Rattle.expansion.proofs.WalkTurns.{from-legal, turn-next, multiplier-here}
+use Rattle.expansion.proofs.MeasureSizes.{measured-append}
 
 -- a path one step further on, by whether its first word is full
 abbrev pub nextBy : Bool → Path → ℕ → ℕ → ℕ → Path

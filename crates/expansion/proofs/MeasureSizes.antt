@@ -1,22 +1,20 @@
 -- Measures add up: what two lists measure together, a group of branches, and the size of one term.
-use Prim.Native.Nat.{ℕ, zero, suc, _+_, _*_, _-_, _/_, _%_, _^_, _≤_, _<_}
-use mathlib.Core.Path.{_≡_, refl, sym, ap, ap₂, subst, _∙_}
+use Prim.Native.Nat.{ℕ, zero, suc, _+_, _*_, _/_, _^_, _≤_, _<_}
+use mathlib.Core.Path.{_≡_, refl, sym, ap, ap₂, _∙_}
 use mathlib.Core.Bool.{Bool, true, false, cond}
-use mathlib.Core.List.{List, [], _∷_, _++_}
+use mathlib.Core.List.{List, _++_}
 use native.Mathlib.Omega.{arith}
 use borrow.Author.Tests.{le-leb, lt-leb, leb-true, leb-false, eq-eqb, ne-eqb}
-use lib.Dec.{leb, eqb}
+use lib.Dec.{leb}
 use lib.ListN.{length, length-append}
-use Rattle.kind.specs.declared.Kind.{Kind}
-use Rattle.kind.specs.declared.Kind.the-variants.{Overlap, Kinetic, Nuclear, Moment, Coulomb}
 use Rattle.kind.specs.Limits.{mostTerms}
 use Rattle.term.specs.Terms.{Term}
 use Rattle.number.specs.Numbers.{lengthOf}
 use Rattle.number.proofs.Writing.{length-few}
-use Rattle.roll.specs.Bytes.{termBytes, termsBytes}
+use Rattle.roll.specs.Bytes.{termsBytes}
 use Rattle.expansion.specs.declared.Measured.{Measured}
 use Rattle.expansion.specs.declared.Measured.the-variants.{Fits, Over}
-use Rattle.expansion.specs.inner.Measuring.{measured, plus, inPairs, widthOf, groupOf, skipOf, termsIn, bytesIn, SmallMeasure}
+use Rattle.expansion.specs.inner.Measuring.{measured, plus, inPairs, groupOf, skipOf, termsIn, bytesIn, SmallMeasure}
 use Rattle.expansion.proofs.WalkTurns.{terms-append}
 
 pub measured-few : (ts : List Term) → length ts ≤ mostTerms → measured ts ≡ Fits (length ts) (length (termsBytes ts))

@@ -1,33 +1,29 @@
 -- Whatever the expansion writes reads back as exactly its kind, orders and terms.
-use Prim.Native.Nat.{ℕ, zero, suc, _+_, _*_, _-_, _≤_, _<_}
-use mathlib.Core.Path.{_≡_, refl, sym, ap, ap₂, subst, _∙_}
-use mathlib.Core.Bool.{Bool, true, false}
-use mathlib.Core.List.{List, [], _∷_, _++_, List·Memᴰ}
+use Prim.Native.Nat.{ℕ, suc, _+_, _-_, _≤_, _<_}
+use mathlib.Core.Path.{_≡_, refl, sym, ap, subst, _∙_}
+use mathlib.Core.Bool.{false}
+use mathlib.Core.List.{List, [], _∷_, List·Memᴰ}
 use mathlib.Core.List.List·Memᴰ.{List·Memᴰ·head, List·Memᴰ·tail}
 use native.Mathlib.Omega.{arith}
 use native.Mathlib.Numerals.{add-one}
 use borrow.Author.Tests.{ltb-false}
-use lib.Dec.{ltb}
 use lib.ListN.{length, getD, take, drop, take-append-drop}
 use lib.Seq.{drop-cons, getD-drop}
 use Rattle.kind.specs.declared.Kind.{Kind}
 use Rattle.kind.specs.declared.Kind.the-variants.{Overlap, Kinetic, Nuclear, Moment, Coulomb}
 use Rattle.kind.specs.Kinds.{ordersOf, tableOf, mostPrefactors, usesBoys}
-use Rattle.kind.specs.Limits.{mostOrder, mostL·any, mostTerms, requestOrders}
+use Rattle.kind.specs.Limits.{mostOrder, mostTerms}
 use Rattle.term.specs.Terms.{Term}
-use Rattle.steps.specs.declared.CentreName.the-variants.{A, B, C, D}
-use Rattle.steps.specs.Choice.{sumOf}
 use Rattle.laws.specs.Total.{total}
 use Rattle.steps.specs.States.{start}
-use Rattle.histories.specs.History.{stage, depth, expand}
-use Rattle.laws.proofs.Totals.{append-total, getD-le-total}
-use Rattle.histories.proofs.Bounds.{Kept, terms-kept, scale-limit}
+use Rattle.histories.specs.History.{stage, depth}
+use Rattle.laws.proofs.Totals.{total-append, getD-le-total}
+use Rattle.histories.proofs.Bounds.{terms-kept, scale-limit}
 use Rattle.histories.proofs.Some.{Unused, some-term}
-use Rattle.roll.specs.Bytes.{rollBytes}
-use Rattle.roll.specs.Reading.{Roll, got, rollAt, mostBoys}
+use Rattle.roll.specs.Reading.{got, rollAt, mostBoys}
 use Rattle.roll.specs.Fits.{CentresFit, Below, TermFits, TermsFit, RollFits}
 use Rattle.roll.proofs.Back.{roll-back}
-use Rattle.expansion.specs.Expanding.{unusedSet, termsOf, rollOf}
+use Rattle.expansion.specs.Expanding.{termsOf, rollOf}
 use Rattle.expansion.specs.inner.Requests.{RequestWithin}
 use Rattle.expansion.proofs.HeaderLaws.{Sums, all-sums, all-small, orders-long}
 
@@ -76,17 +72,17 @@ module _ (k : Kind) (os : List ℕ) (within : RequestWithin k os) where
 
   two-centres : CentresFit (take 6 os)
   two-centres =
-      let t = within .twelve in
+      let t = within .in-full in
       centre-more os 0 3 (omega arith) (sums .of-a) (centre-more os 3 0 (omega arith) (sums .of-b) tt)
 
   centres : CentresFit (take (ordersOf k) os)
   centres = by-kind k
     where
       three : CentresFit (take 9 os)
-      three = let t = within .twelve in centre-more os 0 6 (omega arith) (sums .of-a) (centre-more os 3 3 (omega arith) (sums .of-b) (centre-more os 6 0 (omega arith) (sums .of-c) tt))
+      three = let t = within .in-full in centre-more os 0 6 (omega arith) (sums .of-a) (centre-more os 3 3 (omega arith) (sums .of-b) (centre-more os 6 0 (omega arith) (sums .of-c) tt))
 
       four : CentresFit (take 12 os)
-      four = let t = within .twelve in centre-more os 0 9 (omega arith) (sums .of-a) (centre-more os 3 6 (omega arith) (sums .of-b) (centre-more os 6 3 (omega arith) (sums .of-c) (centre-more os 9 0 (omega arith) (sums .of-d) tt)))
+      four = let t = within .in-full in centre-more os 0 9 (omega arith) (sums .of-a) (centre-more os 3 6 (omega arith) (sums .of-b) (centre-more os 6 3 (omega arith) (sums .of-c) (centre-more os 9 0 (omega arith) (sums .of-d) tt)))
 
       by-kind : (j : Kind) → CentresFit (take (ordersOf j) os)
       by-kind Overlap = two-centres
@@ -100,7 +96,7 @@ module _ (k : Kind) (os : List ℕ) (within : RequestWithin k os) where
 
   used-total : total (take (ordersOf k) os) ≡ total os
   used-total =
-      let h = append-total (take (ordersOf k) os) (drop (ordersOf k) os) in let e = ap total (take-append-drop (ordersOf k) os) in let z = rest-zero in omega arith
+      let h = total-append (take (ordersOf k) os) (drop (ordersOf k) os) in let e = ap total (take-append-drop (ordersOf k) os) in let z = rest-zero in omega arith
 
   unused : Unused k os
   unfolding Unused

@@ -1,10 +1,9 @@
 -- A request's orders: their sums, those unused, and the word that holds them.
-use Prim.Native.Nat.{ℕ, zero, suc, _+_, _*_, _-_, _/_, _%_, _^_, _≤_, _<_}
-use mathlib.Core.Path.{_≡_, refl, sym, ap, ap₂, subst, _∙_}
-use mathlib.Core.Bool.{Bool, true, false, cond, _||_}
-use mathlib.Core.List.{List, [], _∷_, _++_}
+use Prim.Native.Nat.{ℕ, suc, _+_, _*_, _-_, _/_, _%_, _^_, _≤_, _<_}
+use mathlib.Core.Path.{_≡_, sym, ap, ap₂, subst, _∙_}
+use mathlib.Core.Bool.{Bool}
+use mathlib.Core.List.{List, _∷_}
 use native.Mathlib.Omega.{arith}
-use native.Mathlib.Numerals.{add-one, add-two, add-three}
 use native.Mathlib.Nat.{pow-suc, pow-le-pow-right}
 use lib.Dec.{ltb}
 use lib.ListN.{length, getD, drop, drop-of-length-le}
@@ -16,7 +15,7 @@ use Rattle.kind.specs.Limits.{mostOrder, requestOrders}
 use Rattle.steps.specs.declared.CentreName.{CentreName}
 use Rattle.steps.specs.Choice.{sumOf}
 use Rattle.laws.specs.Total.{total}
-use Rattle.laws.proofs.Totals.{three-total}
+use Rattle.laws.proofs.Totals.{total-three}
 use Rattle.steps.specs.inner.Packed.{nibbles}
 use Rattle.expansion.specs.Expanding.{_exceeds_, tooHigh, unusedSet}
 use Rattle.expansion.specs.inner.Requests.{PackMay, Packed}
@@ -30,16 +29,16 @@ sum-exceeds orders c v e = ap (ltb mostOrder) e
 pub high-at : (k j : Kind) (orders : List ℕ) (r : Bool) → k ≡ j → r ≡ tooHigh j orders → r ≡ tooHigh k orders
 high-at k j orders r e h = h ∙ ap (λ (i : Kind). tooHigh i orders) (sym e)
 
-module _ (orders : List ℕ) (twelve : length orders ≡ requestOrders) where
+module _ (orders : List ℕ) (in-full : length orders ≡ requestOrders) where
   pub none-after : total (drop requestOrders orders) ≡ 0
   unfolding total
   none-after = ap total (drop-of-length-le orders {i = requestOrders} (omega arith))
 
   pub last-three : (v : ℕ) → v ≡ getD orders 9 0 + getD orders (9 + 1) 0 + getD orders (9 + 2) 0 → v ≡ total (drop 9 orders)
-  last-three v e = let h = three-total orders 9 in let n = none-after in omega arith
+  last-three v e = let h = total-three orders 9 in let n = none-after in omega arith
 
   pub last-six : (u v : ℕ) → u ≡ getD orders 6 0 + getD orders (6 + 1) 0 + getD orders (6 + 2) 0 → v ≡ getD orders 9 0 + getD orders (9 + 1) 0 + getD orders (9 + 2) 0 → u + v ≡ total (drop 6 orders)
-  last-six u v e f = let g = three-total orders 6 in let h = three-total orders 9 in let n = none-after in omega arith
+  last-six u v e f = let g = total-three orders 6 in let h = total-three orders 9 in let n = none-after in omega arith
 
   module _ (k : Kind) where
     pub unused-overlap : (u v : ℕ) → k ≡ Overlap → u ≡ getD orders 6 0 + getD orders (6 + 1) 0 + getD orders (6 + 2) 0 → v ≡ getD orders 9 0 + getD orders (9 + 1) 0 + getD orders (9 + 2) 0 → u + v ≡ total (drop (ordersOf k) orders)
@@ -64,7 +63,7 @@ module _ (orders : List ℕ) (twelve : length orders ≡ requestOrders) where
 pub set-at : (k : Kind) (orders : List ℕ) (v : ℕ) → v ≡ total (drop (ordersOf k) orders) → ltb 0 v ≡ unusedSet k orders
 set-at k orders v e = ap (ltb 0) e
 
-module _ (orders : List ℕ) (small : PackMay orders) (twelve : length orders ≡ requestOrders) (i word : ℕ) (packed : Packed orders i word) (some : 0 < i) where
+module _ (orders : List ℕ) (small : PackMay orders) (in-full : length orders ≡ requestOrders) (i word : ℕ) (packed : Packed orders i word) (some : 0 < i) where
   left-over : 16 ^ (requestOrders - (i - 1)) ≡ 16 ^ (requestOrders - i) * 16
   left-over = ap (λ (n : ℕ). 16 ^ n) (let h = packed .within in the-next) ∙ pow-suc 16 (requestOrders - i)
     where

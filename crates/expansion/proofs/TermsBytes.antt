@@ -1,5 +1,5 @@
 -- A term's bytes: the scale's, then one for each of its other numbers.
-use Prim.Native.Nat.{ℕ, zero, suc, _+_, _*_, _-_, _/_, _%_, _^_, _≤_, _<_}
+use Prim.Native.Nat.{ℕ, zero, suc, _+_, _-_, _/_, _%_, _≤_, _<_}
 use mathlib.Core.Path.{_≡_, refl, sym, ap, ap₂, _∙_}
 use mathlib.Core.Bool.{Bool, true, false}
 use mathlib.Core.List.{List, [], _∷_, _++_, append-assoc}
@@ -12,7 +12,7 @@ use Rattle.laws.proofs.Lists.{sets-append}
 use Rattle.number.specs.Numbers.{bytesOf, lengthOf, Wrote, writtenAt, outAfter}
 use Rattle.number.specs.declared.Written.{Written}
 use Rattle.number.specs.declared.Written.the-variants.{Next, NoRoom}
-use Rattle.number.proofs.Writing.{bytes-last, length-last, store-last}
+use Rattle.number.proofs.Writing.{bytes-last, store-last}
 use Rattle.roll.specs.Bytes.{termBytes, numbersBytes}
 use Rattle.expansion.specs.declared.Path.{Path}
 use Rattle.expansion.specs.inner.View.{fiveBits, pathPrefactors, pathTerm, EmitMay, Emitted, NumberMay, RestMay}

@@ -1,26 +1,23 @@
 -- Where a legal branch leads: the words have room for it, and its state is the step of the view.
-use Prim.Native.Nat.{ℕ, zero, suc, _+_, _*_, _-_, _/_, _%_, _^_, _≤_, _<_}
-use mathlib.Core.Path.{_≡_, refl, sym, ap, ap₂, subst, _∙_}
+use Prim.Native.Nat.{ℕ, _*_, _-_, _%_, _≤_, _<_}
+use mathlib.Core.Path.{_≡_, sym, ap, subst, _∙_}
 use mathlib.Core.Logic.{_≢_}
-use mathlib.Core.Bool.{Bool, true, false}
-use mathlib.Core.List.{List, [], _∷_, _++_, List·Memᴰ}
-use mathlib.Core.List.List·Memᴰ.{List·Memᴰ·head, List·Memᴰ·tail}
+use mathlib.Core.Bool.{true}
+use mathlib.Core.List.{List·Memᴰ}
 use native.Mathlib.Omega.{arith}
 use native.Mathlib.Nat.{mul-le-mul}
-use lib.ListN.{length, getD}
+use lib.ListN.{getD}
 use Rattle.kind.specs.declared.Kind.{Kind}
 use Rattle.kind.specs.declared.Kind.the-variants.{Overlap}
-use Rattle.kind.specs.Limits.{mostL·any, mostScale}
+use Rattle.kind.specs.Limits.{mostScale}
 use Rattle.kind.proofs.Within.{table-within}
-use Rattle.term.specs.Terms.{Term}
 use Rattle.steps.specs.declared.CentreName.{CentreName}
 use Rattle.steps.specs.declared.Axis.{Axis}
 use Rattle.steps.specs.declared.Move.{Move}
-use Rattle.steps.specs.Choice.{pick, orderPlace, operator, orderOf}
+use Rattle.steps.specs.Choice.{pick, orderPlace, operator}
 use Rattle.steps.specs.Steps.{Falls, a-and-o, Branch, branches, times, lowered}
-use Rattle.laws.specs.Total.{total}
 use Rattle.laws.proofs.Lists.{getD-in}
-use Rattle.steps.specs.States.{State, start, step}
+use Rattle.steps.specs.States.{State, step}
 use Rattle.steps.specs.inner.Packed.{orders, moveIn, fallWord, noBranch}
 use Rattle.steps.proofs.Falling.{Apart, falls-word, falls-held}
 use Rattle.histories.specs.History.{depth}
@@ -30,7 +27,6 @@ use Rattle.histories.proofs.Walk.{branch-down}
 use Rattle.histories.specs.inner.OnTheWay.{Reached}
 use Rattle.histories.proofs.Bounds.{step-reached, scale-on-the-way}
 use Rattle.expansion.specs.declared.Path.{Path}
-use Rattle.expansion.specs.declared.Child.{Child}
 use Rattle.expansion.specs.inner.View.{pathTerm, movedOn, MoveMay}
 use Rattle.expansion.specs.inner.Walking.{viewOf, Good, TurnMay, ChildOf}
 use Rattle.expansion.proofs.TermsWords.{length-prefactors}

@@ -1,7 +1,6 @@
 -- What each call of the walk asks and gives, a law for each. The number that falls: ten for each step left, then the branches left.
-use Prim.Native.Nat.{ℕ, zero, suc, _+_, _*_, _-_, _/_, _%_, _^_, _≤_, _<_}
-use mathlib.Core.Path.{_≡_, refl, sym, ap, ap₂, subst, _∙_}
-use mathlib.Core.Bool.{true}
+use Prim.Native.Nat.{ℕ, _+_, _*_, _-_, _/_, _%_, _^_, _<_}
+use mathlib.Core.Path.{_≡_, refl, sym, ap, subst, _∙_}
 use mathlib.Core.List.{List, [], _∷_, _++_, append-nil}
 use native.Mathlib.Omega.{arith}
 use lib.ListN.{length}
@@ -15,17 +14,16 @@ use Rattle.steps.specs.declared.Fun.{Fun}
 use Rattle.steps.specs.declared.Fun.the-variants.{Lower, Nothing as none}
 use Rattle.steps.specs.declared.AxisChoice.{AxisChoice}
 use Rattle.steps.specs.declared.AxisChoice.the-variants.{Along, Nowhere}
-use Rattle.steps.specs.Choice.{orderOf, chosen, firstAxis}
+use Rattle.steps.specs.Choice.{chosen, firstAxis}
 use Rattle.steps.specs.Steps.{branches}
 use Rattle.laws.specs.Total.{total}
-use Rattle.steps.specs.States.{State, Next, start, turns, onAxis, onFun, nexts}
+use Rattle.steps.specs.States.{Next, onAxis, onFun, nexts}
 use Rattle.steps.specs.inner.Packed.{orders, multiplierWord}
 use Rattle.steps.proofs.Falling.{some-left, none-left}
 use Rattle.histories.specs.History.{depth, inTurn, expand}
 use Rattle.histories.proofs.Orders.{axis-positive}
 use Rattle.histories.proofs.Choices.{chosen-own}
 use Rattle.histories.proofs.Walk.{expand-done, expand-more}
-use Rattle.histories.specs.inner.OnTheWay.{Reached}
 use Rattle.histories.proofs.Bounds.{scale-on-the-way}
 use Rattle.roll.specs.Bytes.{termBytes, termsBytes}
 use Rattle.expansion.specs.declared.Path.{Path}
@@ -39,10 +37,7 @@ use Rattle.expansion.proofs.TermsWords.{length-prefactors}
 use Rattle.expansion.proofs.WalkTurns.{from-none, from-skip, from-legal, turn-next, below-eight, emitted-none, room-first, room-then, emitted-both}
 
 unfoldable pub nodeFuel : Kind → ℕ → Path → ℕ
-nodeFuel k left p = 10 * depth (viewOf k left p) + 10
-
-unfoldable pub innerFuel : Kind → ℕ → Path → ℕ
-innerFuel k left p = 10 * depth (viewOf k left p) + 9
+nodeFuel k left p = 10 * depth (viewOf k left p) + 9
 
 unfoldable pub branchFuel : Kind → ℕ → Path → ℕ → ℕ
 branchFuel k left p number = 10 * depth (viewOf k left p) + (8 - number)
@@ -207,12 +202,8 @@ module _ (k : Kind) (left : ℕ) (p : Path) (at : ℕ) (out : List ℕ) (may : N
   pub node-emitted : (r : ℕ) (after : List ℕ) → left ≡ 0 → Emitted (termBytes (pathTerm p)) at out r after → Emitted (termsBytes (termsBelow k left p)) at out r after
   node-emitted r after e h = subst (λ (bytes : List ℕ). Emitted bytes at out r after) (sym (one-term e)) h
 
-  pub inner-falls : (t : ℕ) → nodeFuel k left p ≡ t → innerFuel k left p < t
-  unfolding nodeFuel innerFuel
-  inner-falls t e = omega arith
-
-  pub first-falls : (t : ℕ) → innerFuel k left p ≡ t → branchFuel k left p 0 < t
-  unfolding innerFuel branchFuel
+  pub first-falls : (t : ℕ) → nodeFuel k left p ≡ t → branchFuel k left p 0 < t
+  unfolding nodeFuel branchFuel
   first-falls t e = omega arith
 
   module _ (some : left ≡ 0 → ⊥) (r : Lowering) (is : r ≡ lowering k (orders left)) where

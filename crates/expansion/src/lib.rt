@@ -5,7 +5,6 @@ mod request;
 mod terms;
 mod walk;
 
-ghost use mathlib.Core.Path.{_≡_};
 ghost use Rattle.expansion.specs.Expanding.{ExpandTold};
 ghost use Rattle.expansion.specs.inner.Requests.{KnownTold, RequestMay, SizedMay};
 use kind::Kind;

@@ -93,15 +93,6 @@ pub(crate) fn measure_node(kind: Kind, left: u64, scale: u64, count: u64) -> Mea
     if left == 0 {
         return leaf(scale, count);
     }
-    measure_inner(kind, left, scale, count)
-}
-
-// The size of all terms below a state that has an order left.
-fn measure_inner(kind: Kind, left: u64, scale: u64, count: u64) -> Measured
-    requires { ⌜ MeasureMay kind left scale count ⌝ }
-    requires { ⌜ (left ≡ 0 → ⊥) ⌝ }
-    ensures { λ r. ⌜ Measures kind left scale count r ⌝ }
-{
     let choice = choose(kind, left);
     match choice {
         Lowering::Nothing => Measured::Fits(0, 0),

@@ -63,15 +63,6 @@ pub(crate) fn node(out: &mut [u8], at: usize, kind: Kind, left: u64, path: Path)
     if left == 0 {
         return emit(out, at, path);
     }
-    inner(out, at, kind, left, path)
-}
-
-// Writes all terms below a state that has an order left.
-fn inner(out: &mut [u8], at: usize, kind: Kind, left: u64, path: Path) -> usize
-    requires { ⌜ NodeMay kind left path at (now out) ⌝ }
-    requires { ⌜ (left ≡ 0 → ⊥) ⌝ }
-    ensures { λ r. ⌜ Emitted (termsBytes (termsBelow kind left path)) at (now (out .entry)) r (now (out .exit)) ⌝ }
-{
     let choice = choose(kind, left);
     match choice {
         Lowering::Nothing => at,

@@ -1,15 +1,15 @@
 -- The histories are strictly ascending in dictionary order, so none stands twice.
-use Prim.Native.Nat.{ℕ, zero, suc, _≤_, _<_}
-use mathlib.Core.Path.{_≡_, refl, sym, ap, subst, subst₂, _∙_}
-use mathlib.Core.Logic.{_⊎_, inl, inr, ⊎-elim}
-use mathlib.Core.List.{List, [], _∷_, _++_, map, List·Memᴰ, List·Memᴰ·append-cases}
+use Prim.Native.Nat.{ℕ}
+use mathlib.Core.Path.{_≡_, refl, sym, subst, subst₂}
+use mathlib.Core.Logic.{⊎-elim}
+use mathlib.Core.List.{List, [], _∷_, _++_, List·Memᴰ, List·Memᴰ·append-cases}
 use mathlib.Core.List.List·Memᴰ.{List·Memᴰ·head, List·Memᴰ·tail}
 use native.Mathlib.Omega.{arith}
 use Rattle.laws.specs.Total.{total}
 use Rattle.steps.specs.States.{State, Next, nexts}
-use Rattle.histories.specs.History.{inTurn, after, histories, Before, ends-sooner, branches-lower, branches-alike, Ascending, no-more, and-then}
+use Rattle.histories.specs.History.{inTurn, after, histories, Before, branches-lower, branches-alike, Ascending, no-more, and-then}
 use Rattle.histories.proofs.Walk.{histories-done, histories-more}
-use Rattle.histories.proofs.Demand.{Numbered, no-next, next-then, nexts-numbered, by-depth}
+use Rattle.histories.proofs.Demand.{Numbered, next-then, nexts-numbered, by-depth}
 
 -- nothing stands before itself
 pub before-itself : (h : List ℕ) → Before h h → ⊥

@@ -2,14 +2,13 @@
 use Prim.Native.Nat.{ℕ, zero, suc, _+_, _*_, _-_, _^_, _≤_, _<_}
 use mathlib.Core.Path.{_≡_, refl, sym, ap, subst, _∙_}
 use mathlib.Core.Logic.{_⊎_, inl, inr, ⊎-elim}
-use mathlib.Core.Bool.{Bool, true, false}
+use mathlib.Core.Bool.{Bool, false}
 use mathlib.Core.List.{List, [], _∷_, _++_, List·Memᴰ, List·Memᴰ·append-cases, List·Memᴰ·eq-of-singleton}
 use native.Mathlib.Omega.{arith}
 use native.Mathlib.Nat.{mul-pos, mul-le-mul, mul-le-mul-left, pow-le-pow-right, le-trans}
 use native.Mathlib.Decide.{decLe}
 use lib.ListN.{length, getD, set, length-append}
 use lib.Pow.{pow-add}
-use lib.Seq.{getD-set-same, getD-set-other}
 use Rattle.kind.specs.declared.Kind.{Kind}
 use Rattle.kind.specs.Kinds.{tableOf, usesBoys}
 use Rattle.kind.specs.Limits.{mostOrder, mostL·any, mostScale}
@@ -17,16 +16,16 @@ use Rattle.term.specs.Terms.{Term}
 use Rattle.term.specs.Weights.{weight, weights}
 use Rattle.steps.specs.declared.CentreName.{CentreName}
 use Rattle.steps.specs.declared.Axis.{Axis}
-use Rattle.steps.specs.Choice.{orderPlace, orderOf, operator, pick}
+use Rattle.steps.specs.Choice.{orderPlace, orderOf, operator}
 use Rattle.steps.specs.Steps.{Falls, a, a-twice, a-and-b, a-and-c, a-and-d, a-and-o, nothing, Branch, times, less, lowered, partner, other-c, other-d}
 use Rattle.laws.specs.Total.{total}
 use Rattle.steps.specs.States.{State, Next, start, step, nexts}
-use Rattle.histories.specs.History.{depth, inTurn, expand}
+use Rattle.histories.specs.History.{depth, expand}
 use Rattle.histories.proofs.Orders.{fallen}
-use Rattle.histories.specs.inner.OnTheWay.{follows, SmallOrders, Reached}
+use Rattle.histories.specs.inner.OnTheWay.{SmallOrders, Reached}
 use Rattle.histories.proofs.Fair.{Fair, boysStep}
-use Rattle.histories.proofs.Nexts.{Legal, legal}
-use Rattle.histories.proofs.Walk.{follows-itself, fair-step, step-total, step-down, expand-done, expand-more}
+use Rattle.histories.proofs.Nexts.{legal}
+use Rattle.histories.proofs.Walk.{follows-itself, fair-step, step-total, expand-done, expand-more}
 use Rattle.histories.proofs.Demand.{by-depth}
 use Rattle.histories.proofs.Ascends.{under}
 

@@ -1,6 +1,6 @@
 -- The centre chosen is one of the kind's, and where no order is left none is chosen.
-use Prim.Native.Nat.{ℕ, zero, suc, _+_, _≤_, _<_}
-use mathlib.Core.Path.{_≡_, refl, sym, ap, _∙_}
+use Prim.Native.Nat.{ℕ, zero, suc}
+use mathlib.Core.Path.{_≡_, refl, ap, _∙_}
 use mathlib.Core.Bool.{Bool, true, false}
 use mathlib.Core.List.{List, [], _∷_, List·Memᴰ}
 use mathlib.Core.List.List·Memᴰ.{List·Memᴰ·head, List·Memᴰ·tail}
@@ -11,14 +11,13 @@ use Rattle.kind.specs.declared.Kind.{Kind}
 use Rattle.kind.specs.declared.Kind.the-variants.{Overlap, Kinetic, Nuclear, Moment, Coulomb}
 use Rattle.steps.specs.declared.CentreName.{CentreName}
 use Rattle.steps.specs.declared.CentreName.the-variants.{A, B, C, D}
-use Rattle.steps.specs.declared.Axis.{Axis}
 use Rattle.steps.specs.declared.Axis.the-variants.{X, Y, Z}
 use Rattle.steps.specs.declared.Fun.{Fun}
 use Rattle.steps.specs.declared.Fun.the-variants.{Lower, Nothing}
 use Rattle.steps.specs.declared.Best.{Best}
-use Rattle.steps.specs.Choice.{orderPlace, orderOf, sumOf, pick, orBefore, smallest, onceExhausted, chosen}
+use Rattle.steps.specs.Choice.{orderPlace, sumOf, pick, orBefore, smallest, onceExhausted, chosen}
 use Rattle.laws.specs.Total.{total}
-use Rattle.steps.specs.States.{State, Next, onFun, nexts}
+use Rattle.steps.specs.States.{State, onFun, nexts}
 use Rattle.laws.proofs.Totals.{getD-le-total}
 use Rattle.histories.specs.inner.OnTheWay.{own}
 

@@ -1,15 +1,13 @@
 -- Demand 3, over the kind: the list is the replay of the complete histories, each once, in dictionary order.
-use Prim.Native.Nat.{ℕ, zero, suc, _+_, _≤_, _<_}
-use mathlib.Core.Path.{_≡_, refl, sym, ap, ap₂, subst, _∙_}
-use mathlib.Core.Logic.{_⊎_, inl, inr}
+use Prim.Native.Nat.{ℕ, zero, suc, _<_}
+use mathlib.Core.Path.{_≡_, refl, sym, ap, ap₂, _∙_}
 use mathlib.Core.Bool.{Bool, true, false}
-use mathlib.Core.List.{List, [], _∷_, _++_, map, map-map, map-append, List·Memᴰ, List·Memᴰ·append-cases, Memᴰ·append-left, Memᴰ·append-right, Memᴰ·cast}
+use mathlib.Core.List.{List, [], _∷_, _++_, map, map-map, map-append, List·Memᴰ}
 use mathlib.Core.List.List·Memᴰ.{List·Memᴰ·head, List·Memᴰ·tail}
 use native.Mathlib.Omega.{arith}
 use borrow.Author.Tests.{eq-eqb, ne-eqb}
 use lib.Dec.{eqb}
 use lib.ListN.{length, length-map}
-use Rattle.term.specs.Terms.{Term}
 use Rattle.steps.specs.declared.CentreName.{CentreName}
 use Rattle.steps.specs.declared.Axis.{Axis}
 use Rattle.steps.specs.declared.Fun.{Fun}
@@ -20,9 +18,8 @@ use Rattle.steps.specs.Choice.{pick, chosen, firstAxis}
 use Rattle.steps.specs.Steps.{Branch, branches, times}
 use Rattle.laws.specs.Total.{total}
 use Rattle.steps.specs.States.{State, Next, step, ifLegal, turns, onAxis, onFun, nexts}
-use Rattle.histories.specs.History.{Complete, finished, lowered-by, led, replay, depth, inTurn, expand, after, histories, Before, ends-sooner, branches-lower, branches-alike, Ascending, no-more, and-then}
+use Rattle.histories.specs.History.{led, replay, depth, inTurn, expand, after, histories}
 use Rattle.histories.proofs.Nexts.{turn-of}
-use Rattle.histories.proofs.Choices.{none-legal}
 use Rattle.histories.proofs.Walk.{step-down, expand-done, expand-more, histories-done, histories-more}
 
 -- numbers grow along a list of next states, and lead back to their states

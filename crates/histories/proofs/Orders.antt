@@ -1,26 +1,23 @@
 -- Orders and their total: what one step takes away.
-use Prim.Native.Nat.{ℕ, zero, suc, _+_, _*_, _-_, _≤_, _<_}
-use mathlib.Core.Path.{_≡_, refl, sym, ap, _∙_}
+use Prim.Native.Nat.{ℕ, _+_, _-_, _<_}
+use mathlib.Core.Path.{_≡_, refl}
 use mathlib.Core.Bool.{Bool, true, false}
 use mathlib.Core.Logic.{_≢_}
-use mathlib.Core.List.{List, [], _∷_}
+use mathlib.Core.List.{List}
 use native.Mathlib.Omega.{arith}
 use borrow.Author.Tests.{ltb-true}
 use lib.Dec.{ltb}
-use lib.ListN.{length, getD, set, List·getD-eq-default}
 use lib.Seq.{getD-set-same, getD-set-other}
 use Rattle.laws.proofs.Cases.{clash}
 use Rattle.steps.specs.declared.CentreName.{CentreName}
 use Rattle.steps.specs.declared.CentreName.the-variants.{A, B, C, D}
 use Rattle.steps.specs.declared.Axis.{Axis}
 use Rattle.steps.specs.declared.Axis.the-variants.{X, Y, Z}
-use Rattle.steps.specs.declared.AxisChoice.{AxisChoice}
 use Rattle.steps.specs.declared.AxisChoice.the-variants.{Along, Nowhere}
-use Rattle.steps.specs.Choice.{axisNumber, centreNumber, orderPlace, orderOf, operator, firstAxis, pick}
+use Rattle.steps.specs.Choice.{orderPlace, orderOf, operator, firstAxis, pick}
 use Rattle.steps.specs.Steps.{Falls, a, a-twice, a-and-b, a-and-c, a-and-d, a-and-o, nothing, times, lowered, less, partner, other-c, other-d}
 use Rattle.laws.specs.Total.{total}
-use Rattle.laws.proofs.Lists.{in-range}
-use Rattle.laws.proofs.Totals.{less-total}
+use Rattle.laws.proofs.Totals.{getD-inside, total-less}
 
 -- how many orders fall
 abbrev pub fallen : Falls → ℕ
@@ -55,15 +52,15 @@ module _ (left : List ℕ) (c d : CentreName) (x : Axis) (first : 0 < orderOf le
   apart-total : orderPlace d x ≢ orderPlace c x → 0 < orderOf left d x → total (less (less left c x) d x) + 2 ≡ total left
   apart-total ne second =
       let same : orderOf (less left c x) d x ≡ orderOf left d x = getD-set-other left (orderPlace c x) (orderPlace d x) (orderOf left c x - 1) 0 ne in
-      let one = less-total (less left c x) (orderPlace d x) (rw same second) in
-      let two = less-total left (orderPlace c x) first in
+      let one = total-less (less left c x) (orderPlace d x) (rw same second) in
+      let two = total-less left (orderPlace c x) first in
       omega arith
 
 twice-total : (left : List ℕ) (c : CentreName) (x : Axis) → 0 < orderOf left c x → 0 < orderOf left c x - 1 → total (less (less left c x) c x) + 2 ≡ total left
 twice-total left c x first second =
-    let same : orderOf (less left c x) c x ≡ orderOf left c x - 1 = getD-set-same left (orderPlace c x) (orderOf left c x - 1) 0 (in-range left (orderPlace c x) first) in
-    let one = less-total (less left c x) (orderPlace c x) (rw same second) in
-    let two = less-total left (orderPlace c x) first in
+    let same : orderOf (less left c x) c x ≡ orderOf left c x - 1 = getD-set-same left (orderPlace c x) (orderOf left c x - 1) 0 (getD-inside left (orderPlace c x) first) in
+    let one = total-less (less left c x) (orderPlace c x) (rw same second) in
+    let two = total-less left (orderPlace c x) first in
     omega arith
 
 pub partner-apart : (c : CentreName) (x : Axis) → orderPlace (partner c) x ≢ orderPlace c x
@@ -92,7 +89,7 @@ operator-apart D x e = omega arith
 
 pub lowered-total : (f : Falls) (c : CentreName) (x : Axis) (left : List ℕ) → apart f c ≡ true → 0 < orderOf left c x → 0 < times f c x left → total (lowered f c x left) + fallen f ≡ total left
 unfolding times lowered
-lowered-total a c x left p h l = less-total left (orderPlace c x) h
+lowered-total a c x left p h l = total-less left (orderPlace c x) h
 lowered-total a-twice c x left p h l = twice-total left c x h l
 lowered-total a-and-b c x left p h l = apart-total left c (partner c) x h (partner-apart c x) l
 lowered-total a-and-c c x left p h l = apart-total left c (other-c c) x h (other-c-apart c x) l

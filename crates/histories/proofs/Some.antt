@@ -1,8 +1,8 @@
 -- A list is never empty: where orders are left that the kind uses, branch 0 is legal.
-use Prim.Native.Nat.{ℕ, zero, suc, _+_, _*_, _-_, _≤_, _<_}
+use Prim.Native.Nat.{ℕ, zero, suc, _+_, _-_, _≤_, _<_}
 use mathlib.Core.Path.{_≡_, refl, sym, ap, subst, _∙_}
 use mathlib.Core.Bool.{Bool, true, false}
-use mathlib.Core.List.{List, [], _∷_, _++_, List·Memᴰ}
+use mathlib.Core.List.{List, [], _∷_, List·Memᴰ}
 use mathlib.Core.List.List·Memᴰ.{List·Memᴰ·head, List·Memᴰ·tail}
 use native.Mathlib.Omega.{arith}
 use native.Mathlib.Nat.{add-zero}
@@ -22,13 +22,12 @@ use Rattle.steps.specs.declared.Fun.{Fun}
 use Rattle.steps.specs.declared.Fun.the-variants.{Lower, Nothing}
 use Rattle.steps.specs.declared.AxisChoice.{AxisChoice}
 use Rattle.steps.specs.declared.AxisChoice.the-variants.{Along, Nowhere}
-use Rattle.steps.specs.declared.Best.{Best}
 use Rattle.steps.specs.Choice.{operator, orderPlace, orderOf, sumOf, pick, orBefore, smallest, onceExhausted, chosen, firstAxis}
 use Rattle.steps.specs.Steps.{Falls, a, a-twice, a-and-b, a-and-c, a-and-d, a-and-o, nothing, Branch, branches, times, less, lowered, partner, other-c, other-d}
 use Rattle.laws.specs.Total.{total}
-use Rattle.steps.specs.States.{State, Next, start, step, ifLegal, turns, onAxis, onFun, nexts}
+use Rattle.steps.specs.States.{State, Next, step, ifLegal, turns, onAxis, onFun, nexts}
 use Rattle.histories.specs.History.{inTurn, expand}
-use Rattle.histories.proofs.Nexts.{Legal, legal}
+use Rattle.histories.proofs.Nexts.{legal}
 use Rattle.histories.specs.inner.OnTheWay.{follows, own}
 use Rattle.histories.proofs.Choices.{chosen-own, none-is-none}
 use Rattle.histories.proofs.Walk.{follows-itself, fair-step, expand-done, expand-more}

@@ -9,7 +9,6 @@ use borrow.Author.Tests.{eq-eqb, ne-eqb, eqb-true, eqb-false}
 use lib.Dec.{eqb}
 use Rattle.kind.specs.declared.Kind.{Kind}
 use Rattle.kind.specs.declared.Kind.the-variants.{Overlap, Kinetic, Nuclear, Moment, Coulomb}
-use Rattle.term.specs.Terms.{Term}
 use Rattle.steps.specs.declared.CentreName.{CentreName}
 use Rattle.steps.specs.declared.Axis.{Axis}
 use Rattle.steps.specs.Choice.{orderOf}
@@ -21,7 +20,7 @@ use Rattle.histories.proofs.Orders.{fallen, lowered-total, axis-positiv
 use Rattle.histories.specs.inner.OnTheWay.{follows, own}
 use Rattle.histories.proofs.Fair.{Fair, fair-branch}
 use Rattle.histories.proofs.Choices.{chosen-own}
-use Rattle.histories.proofs.Nexts.{Legal, TurnOf, legal}
+use Rattle.histories.proofs.Nexts.{Legal, legal}
 
 pub follows-itself : (k : Kind) → follows k k ≡ true
 follows-itself Overlap = refl

@@ -1,16 +1,15 @@
 -- A history is in the list exactly when it is complete.
 use Prim.Native.Nat.{ℕ}
-use mathlib.Core.Path.{_≡_, refl, sym, ap, subst, _∙_}
-use mathlib.Core.List.{List, [], _∷_, _++_, map, List·Memᴰ, Memᴰ·append-left, Memᴰ·append-right, Memᴰ·cast, List·Memᴰ·eq-of-singleton}
+use mathlib.Core.Path.{_≡_, refl, sym, ap, subst}
+use mathlib.Core.List.{List, [], _∷_, List·Memᴰ, Memᴰ·append-left, Memᴰ·append-right, List·Memᴰ·eq-of-singleton}
 use mathlib.Core.List.List·Memᴰ.{List·Memᴰ·head, List·Memᴰ·tail}
-use native.Mathlib.Omega.{arith}
 use Rattle.laws.specs.Total.{total}
 use Rattle.steps.specs.States.{State, Next, nexts}
 use Rattle.histories.specs.History.{Complete, finished, lowered-by, inTurn, after, histories}
 use Rattle.histories.proofs.Choices.{none-legal}
 use Rattle.histories.proofs.Walk.{histories-done, histories-more}
 use Rattle.histories.proofs.Demand.{by-depth}
-use Rattle.histories.proofs.Ascends.{Behind, behind, Under, under}
+use Rattle.histories.proofs.Ascends.{behind, under}
 
 into-after : (n : Next) (hs : List (List ℕ)) (h : List ℕ) → List·Memᴰ h hs → List·Memᴰ (n .number ∷ h) (after n hs)
 into-after n (g ∷ hs) h (List·Memᴰ·head e) = List·Memᴰ·head (ap (λ (l : List ℕ). n .number ∷ l) e)

@@ -1,7 +1,7 @@
 -- 01, "Steps": histories, the terms that they give, and their order.
 use Prim.Native.Nat.{ℕ, zero, suc, _+_, _<_}
 use mathlib.Core.Path.{_≡_}
-use mathlib.Core.Bool.{Bool, true, false}
+use mathlib.Core.Bool.{true, false}
 use mathlib.Core.List.{List, [], _∷_, _++_, map, List·Memᴰ}
 use lib.Dec.{eqb}
 use Rattle.kind.specs.declared.Kind.{Kind}

@@ -13,7 +13,7 @@ use lib.Ieee.{Float, nan}
 use lib.ListN.{length, getD}
 use lib.Seq.{drop-cons}
 use Rattle.term.specs.Terms.{Term}
-use Rattle.geometry.proofs.Laws.{left-one, left-none}
+use Rattle.laws.proofs.Counting.{left-one, left-none}
 use Rattle.geometry.specs.Floats.{_⊕_, _⊗_, zero as 0·0, one}
 use Rattle.roll.specs.declared.again.Head.{Head}
 use Rattle.roll.specs.inner.Again.{headAt, between, headTerm, termsAgain}

@@ -55,12 +55,6 @@ getD-in [] i d h = absurd (omega arith)
 getD-in (y ∷ l) zero d h = List·Memᴰ·head refl
 getD-in (y ∷ l) (suc i) d h = List·Memᴰ·tail (getD-in l i d (omega arith))
 
--- where something stands is inside
-pub in-range : (l : List ℕ) (i : ℕ) → 0 < getD l i 0 → i < length l
-in-range [] i h = absurd (omega arith)
-in-range (n ∷ ns) zero h = omega arith
-in-range (n ∷ ns) (suc i) h = let k = in-range ns i h in omega arith
-
 pub length-zero : (l : List ℕ) → length l ≡ 0 → l ≡ []
 length-zero [] e = refl
 length-zero (x ∷ l) e = absurd (omega arith)

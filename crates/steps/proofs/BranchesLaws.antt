@@ -1,6 +1,6 @@
--- One order of a centre in a word; a number that no branch has takes nothing.
+-- One order of a centre in a word; an arm for each branch, and none for a number that no branch has; the multipliers of each kind.
 use Prim.Native.Nat.{ℕ, _+_, _*_, _-_, _%_, _^_, _≤_, zero-le}
-use mathlib.Core.Path.{_≡_, refl, sym, ap, ap₂, _∙_, subst}
+use mathlib.Core.Path.{_≡_, sym, ap, ap₂, _∙_, subst}
 use mathlib.Core.List.{List}
 use native.Mathlib.Nat.{one-mul}
 use native.Mathlib.Omega.{arith}
@@ -8,7 +8,7 @@ use lib.Pow.{pow-mono, shl-exact}
 use lib.ListN.{length, getD, List·getD-eq-default}
 use Rattle.kind.specs.declared.Kind.{Kind}
 use Rattle.steps.specs.declared.CentreName.{CentreName}
-use Rattle.steps.specs.declared.CentreName.the-variants.{A, B, C, D}
+use Rattle.steps.specs.declared.CentreName.the-variants.{A, B}
 use Rattle.steps.specs.declared.Axis.{Axis}
 use Rattle.steps.specs.declared.Move.{Move}
 use Rattle.kind.specs.declared.Kind.the-variants.{Overlap, Moment}

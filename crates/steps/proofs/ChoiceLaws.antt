@@ -1,4 +1,4 @@
--- Which centre stands before those after it, and which axis is the first.
+-- Which centre stands before those after it, the smallest of a row of centres, and which axis is the first.
 use Prim.Native.Nat.{ℕ, zero, suc, _≤_, _<_}
 use mathlib.Core.Path.{_≡_, refl, sym, ap, ap₂, _∙_}
 use mathlib.Core.List.{List, [], _∷_}

@@ -1,11 +1,11 @@
 -- What falls, taken from a word, is what falls in the list of its orders.
-use Prim.Native.Nat.{ℕ, zero, suc, _+_, _*_, _-_, _/_, _%_, _^_, _≤_, _<_}
-use mathlib.Core.Path.{_≡_, refl, sym, ap, ap₂, subst, _∙_}
+use Prim.Native.Nat.{ℕ, zero, suc, _+_, _-_, _/_, _%_, _^_, _≤_, _<_}
+use mathlib.Core.Path.{_≡_, refl, ap, ap₂, _∙_}
 use mathlib.Core.Logic.{_≢_}
-use mathlib.Core.List.{List, [], _∷_}
+use mathlib.Core.List.{List, _∷_}
 use native.Mathlib.Omega.{arith}
 use native.Mathlib.Nat.{pow-suc}
-use lib.ListN.{length, getD, set, List·getD-eq-default}
+use lib.ListN.{getD, set}
 use lib.Seq.{getD-set-same, getD-set-other}
 use Rattle.kind.specs.Limits.{requestOrders}
 use Rattle.steps.specs.declared.CentreName.{CentreName}
@@ -13,9 +13,8 @@ use Rattle.steps.specs.declared.Axis.{Axis}
 use Rattle.steps.specs.Choice.{orderPlace, orderOf, operator}
 use Rattle.steps.specs.Steps.{Falls, a, a-twice, a-and-b, a-and-c, a-and-d, a-and-o, nothing, times, lowered, less, partner, other-c, other-d}
 use Rattle.laws.specs.Total.{total}
-use Rattle.laws.proofs.Lists.{in-range}
+use Rattle.laws.proofs.Totals.{getD-inside}
 use Rattle.steps.specs.inner.Packed.{nibbles, orders, unit, fallWord}
-use Rattle.steps.proofs.Packed.{length-nibbles}
 
 -- an order of a word is below sixteen
 nibble-small : (n i w : ℕ) → getD (nibbles n w) i 0 < 16
@@ -80,7 +79,7 @@ other-second : (w : ℕ) (c d : CentreName) (x : Axis) → orderPlace d x ≢ or
 other-second w c d x ne h = rw (getD-set-other (orders w) (orderPlace c x) (orderPlace d x) (orderOf (orders w) c x - 1) 0 ne) h
 
 same-second : (w : ℕ) (c : CentreName) (x : Axis) → 0 < orderOf (orders w) c x → 0 < orderOf (orders w) c x - 1 → 0 < orderOf (less (orders w) c x) c x
-same-second w c x h k = rw (getD-set-same (orders w) (orderPlace c x) (orderOf (orders w) c x - 1) 0 (in-range (orders w) (orderPlace c x) h)) k
+same-second w c x h k = rw (getD-set-same (orders w) (orderPlace c x) (orderOf (orders w) c x - 1) 0 (getD-inside (orders w) (orderPlace c x) h)) k
 
 -- the places that fall together lie apart
 pub record Apart (c : CentreName) (x : Axis) : Type 0 where

@@ -1,17 +1,16 @@
--- Orders packed in a word: what stands at a place, and what is left when an order falls.
-use Prim.Native.Nat.{ℕ, zero, suc, _+_, _*_, _-_, _/_, _%_, _^_, _≤_, _<_, zero-le, suc-le-suc}
+-- Orders packed in a word: what stands at a place.
+use Prim.Native.Nat.{ℕ, zero, suc, _*_, _/_, _%_, _^_, _<_}
 use mathlib.Core.Path.{_≡_, refl, sym, ap, _∙_}
-use mathlib.Core.List.{List, [], _∷_}
-use native.Mathlib.Nat.{div-one, div-div-eq-div-mul, div-eq-of-lt, pow-suc, mul-comm, mul-suc}
+use native.Mathlib.Nat.{div-one, div-div-eq-div-mul, pow-suc, mul-comm, mul-suc}
 use native.Mathlib.Omega.{arith}
-use lib.ListN.{length, getD, set}
+use lib.ListN.{length, getD}
 use lib.Pow.{pow-add}
 use Rattle.kind.specs.Limits.{requestOrders}
 use Rattle.steps.specs.declared.CentreName.{CentreName}
 use Rattle.steps.specs.declared.CentreName.the-variants.{A, B, C, D}
 use Rattle.steps.specs.declared.Axis.{Axis}
 use Rattle.steps.specs.declared.Axis.the-variants.{X, Y, Z}
-use Rattle.steps.specs.Choice.{centreNumber, axisNumber, orderPlace, orderOf, sumOf}
+use Rattle.steps.specs.Choice.{orderPlace, orderOf}
 use Rattle.steps.specs.inner.Packed.{nibbles, orders}
 
 pub length-nibbles : (n w : ℕ) → length (nibbles n w) ≡ n

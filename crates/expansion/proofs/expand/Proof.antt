@@ -1,5 +1,5 @@
 -- `expand` meets its contract.
-use Rattle.expansion.proofs.Answers.{told-unknown, told-known}
+use Rattle.expansion.proofs.Answers.{told-known}
 use borrow.Author.Needs.{needs}
 use Rattle.expansion.proofs.expand.Statement.{statement}
 use Rattle.expansion.proofs.expand.Tie as tie

@@ -1,5 +1,5 @@
 -- A request of a known kind: its limits kept, its orders in a word, the head of its roll, and room for it.
-use Prim.Native.Nat.{ℕ, _+_, _*_, _-_, _^_, _≤_, _<_}
+use Prim.Native.Nat.{ℕ, _*_, _-_, _^_, _≤_, _<_}
 use mathlib.Core.Path.{_≡_}
 use mathlib.Core.Bool.{false}
 use mathlib.Core.List.{List, [], _∷_, _++_}
@@ -34,16 +34,17 @@ pub record Packed (orders : List ℕ) (i word : ℕ) : Type 0 where
 abbrev pub emptyTerm : Term
 emptyTerm = record { scale = 1; boys = 0; prefactors = [] }
 
--- a request within the limits, its word and its term count, and room for its roll
+-- a request within the limits
 pub record RequestWithin (k : Kind) (orders : List ℕ) : Type 0 where
   pub low-sums : tooHigh k orders ≡ false
   pub none-unused : unusedSet k orders ≡ false
-  pub twelve : length orders ≡ requestOrders
+  pub in-full : length orders ≡ requestOrders
 
 -- what stands before the terms
 unfoldable pub headOf : Kind → List ℕ → List ℕ
 headOf k orders = numberOf k ∷ (take (ordersOf k) orders ++ bytesOf (length (termsOf k orders)))
 
+-- a request with its word and its term count, and room for its head or its roll
 pub record HeadMay (k : Kind) (orders : List ℕ) (terms : ℕ) (out : List ℕ) : Type 0 where
   pub within : RequestWithin k orders
   pub count : terms ≡ length (termsOf k orders)

@@ -1,5 +1,4 @@
 -- `coulomb_move` meets its contract.
-use native.Mathlib.Omega.{arith}
 use Prim.Native.Nat.{_≤_}
 use Rattle.steps.specs.inner.Packed.{moveIn, fallWord}
 use Rattle.steps.proofs.BranchesLaws.{arm, past-eight, no-arm}

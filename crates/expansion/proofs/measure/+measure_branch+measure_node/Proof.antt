@@ -1,18 +1,15 @@
--- `measure_branch`, `measure_inner` and `measure_node` meet their contracts. Assumes nothing.
+-- `measure_branch` and `measure_node` meet their contracts. Assumes nothing.
 use borrow.Author.Needs.{needs}
-use Rattle.expansion.proofs.MeasureCycle.{nodeCount, innerCount, branchCount, end-told, number-next, skip-count, skip-turn, skip-told, fall-fits, scale-fits, count-fits, child-count, child-measured, rest-number, rest-count, rest-turn, over-told, last-told, rest-told, leaf-scale, leaf-count, leaf-told, inner-count, first-count, turn-first, none-told, first-told}
+use Rattle.expansion.proofs.MeasureCycle.{nodeCount, branchCount, end-told, number-next, skip-count, skip-turn, skip-told, fall-fits, scale-fits, count-fits, child-count, child-measured, rest-number, rest-count, rest-turn, over-told, last-told, rest-told, leaf-scale, leaf-count, leaf-told, first-count, turn-first, none-told, first-told}
 use Prim.Native.Nat.{ℕ, _<_}
 use borrow.Fn.Kinds.{In}
 use borrow.Fn.PlainCycle.{Measures, is, falls, and}
 use Rattle.expansion.proofs.measure.measure_branch.Reads as measure-branch
 use Rattle.expansion.proofs.measure.measure_branch.Kinds as measure-branch-kinds
-use Rattle.expansion.proofs.measure.+measure_branch+measure_inner+measure_node.Lts-measure_branch as measure-branch-lts
-use Rattle.expansion.proofs.measure.measure_inner.Reads as measure-inner
-use Rattle.expansion.proofs.measure.measure_inner.Kinds as measure-inner-kinds
-use Rattle.expansion.proofs.measure.+measure_branch+measure_inner+measure_node.Lts-measure_inner as measure-inner-lts
+use Rattle.expansion.proofs.measure.+measure_branch+measure_node.Lts-measure_branch as measure-branch-lts
 use Rattle.expansion.proofs.measure.measure_node.Reads as measure-node
 use Rattle.expansion.proofs.measure.measure_node.Kinds as measure-node-kinds
-use Rattle.expansion.proofs.measure.+measure_branch+measure_inner+measure_node.Lts-measure_node as measure-node-lts
+use Rattle.expansion.proofs.measure.+measure_branch+measure_node.Lts-measure_node as measure-node-lts
 use Rattle.expansion.proofs.measure.group.Reads as group-reads
 use Rattle.expansion.proofs.measure.leaf.Reads as leaf-reads
 use Rattle.expansion.proofs.measure.plus.Reads as plus-reads
@@ -21,14 +18,11 @@ use Rattle.expansion.proofs.measure.width.Reads as width-reads
 use Rattle.expansion.proofs.walk.choose.Reads as choose-reads
 use Rattle.steps.proofs.branch.Reads as branch-reads
 use Rattle.steps.proofs.multipliers.Reads as multipliers-reads
-use Rattle.expansion.proofs.measure.+measure_branch+measure_inner+measure_node.{statement}
-use Rattle.expansion.proofs.measure.+measure_branch+measure_inner+measure_node.Tie.{close}
+use Rattle.expansion.proofs.measure.+measure_branch+measure_node.{statement}
+use Rattle.expansion.proofs.measure.+measure_branch+measure_node.Tie.{close}
 
 abbrev μ-measure-branch : Measures 0 measure-branch-kinds.ps ℕ
 μ-measure-branch κs a = branchCount (a .0) (a .1 .0) (a .1 .1 .1 .1 .1 .1 .0)
-
-abbrev μ-measure-inner : Measures 0 measure-inner-kinds.ps ℕ
-μ-measure-inner κs a = innerCount (a .0) (a .1 .0)
 
 abbrev μ-measure-node : Measures 0 measure-node-kinds.ps ℕ
 μ-measure-node κs a = nodeCount (a .0) (a .1 .0)
@@ -49,18 +43,6 @@ measure-branch-below t =
     (falls 0 measure-branch-kinds.ps _<_ μ-measure-branch t)
     measure-branch.Pre
 
-abbrev measure-inner-at : ℕ → In 0 measure-inner-kinds.ps
-measure-inner-at t =
-    and 0 measure-inner-kinds.ps (is 0 measure-inner-kinds.ps μ-measure-inner t) measure-inner.Pre
-
-abbrev measure-inner-below : ℕ → In 0 measure-inner-kinds.ps
-measure-inner-below t =
-    and
-    0
-    measure-inner-kinds.ps
-    (falls 0 measure-inner-kinds.ps _<_ μ-measure-inner t)
-    measure-inner.Pre
-
 abbrev measure-node-at : ℕ → In 0 measure-node-kinds.ps
 measure-node-at t =
     and 0 measure-node-kinds.ps (is 0 measure-node-kinds.ps μ-measure-node t) measure-node.Pre
@@ -77,11 +59,8 @@ measure-node-below t =
 abbrev measure-branch-claims : ℕ → measure-branch-lts.Claims
 measure-branch-claims t = (measure-branch-below t, measure-branch.Post, branch-reads.Asked, branch-reads.Learnt, measure-node-below t, measure-node.Post, width-reads.Asked, width-reads.Learnt, group-reads.Asked, group-reads.Learnt, skip-reads.Asked, skip-reads.Learnt, plus-reads.Asked, plus-reads.Learnt)
 
-abbrev measure-inner-claims : ℕ → measure-inner-lts.Claims
-measure-inner-claims t = (choose-reads.Asked, choose-reads.Learnt, multipliers-reads.Asked, multipliers-reads.Learnt, measure-branch-below t, measure-branch.Post)
-
 abbrev measure-node-claims : ℕ → measure-node-lts.Claims
-measure-node-claims t = (leaf-reads.Asked, leaf-reads.Learnt, measure-inner-below t, measure-inner.Post)
+measure-node-claims t = (leaf-reads.Asked, leaf-reads.Learnt, choose-reads.Asked, choose-reads.Learnt, multipliers-reads.Asked, multipliers-reads.Learnt, measure-branch-below t, measure-branch.Post)
 
 measure-branch-returns : (t : ℕ) → measure-branch-lts.Need-returns (measure-branch-claims t) (measure-branch-at t) measure-branch.Post
 measure-branch-returns t c = search end-told
@@ -144,42 +123,36 @@ measure-branch-returns-4 t c = search over-told
 measure-branch-returns-5 : (t : ℕ) → measure-branch-lts.Need-returns-5 (measure-branch-claims t) (measure-branch-at t) measure-branch.Post
 measure-branch-returns-5 t c = search rest-told
 
-measure-inner-choose-requires : (t : ℕ) → measure-inner-lts.Need-choose-requires (measure-inner-claims t) (measure-inner-at t) measure-inner.Post
-measure-inner-choose-requires t c κs = search needs
-
-measure-inner-enum-told : (t : ℕ) → measure-inner-lts.Need-enum-told (measure-inner-claims t) (measure-inner-at t) measure-inner.Post
-measure-inner-enum-told t c = search needs
-
-measure-inner-enum-known-choice : (t : ℕ) → measure-inner-lts.Need-enum-known-choice (measure-inner-claims t) (measure-inner-at t) measure-inner.Post
-measure-inner-enum-known-choice t c = search needs
-
-measure-inner-multipliers-requires : (t : ℕ) → measure-inner-lts.Need-multipliers-requires (measure-inner-claims t) (measure-inner-at t) measure-inner.Post
-measure-inner-multipliers-requires t c κs = search needs
-
-measure-inner-measure-branch-requires : (t : ℕ) → measure-inner-lts.Need-measure-branch-requires (measure-inner-claims t) (measure-inner-at t) measure-inner.Post
-measure-inner-measure-branch-requires t c κs = (search first-count, (search, search turn-first))
-
-measure-inner-returns : (t : ℕ) → measure-inner-lts.Need-returns (measure-inner-claims t) (measure-inner-at t) measure-inner.Post
-measure-inner-returns t c = search none-told
-
-measure-inner-returns-2 : (t : ℕ) → measure-inner-lts.Need-returns-2 (measure-inner-claims t) (measure-inner-at t) measure-inner.Post
-measure-inner-returns-2 t c = search first-told
-
 measure-node-leaf-requires : (t : ℕ) → measure-node-lts.Need-leaf-requires (measure-node-claims t) (measure-node-at t) measure-node.Post
 measure-node-leaf-requires t c κs = (search leaf-scale, search leaf-count)
 
 measure-node-returns : (t : ℕ) → measure-node-lts.Need-returns (measure-node-claims t) (measure-node-at t) measure-node.Post
 measure-node-returns t c = search leaf-told
 
-measure-node-measure-inner-requires : (t : ℕ) → measure-node-lts.Need-measure-inner-requires (measure-node-claims t) (measure-node-at t) measure-node.Post
-measure-node-measure-inner-requires t c κs = (search inner-count, (search, search))
+measure-node-choose-requires : (t : ℕ) → measure-node-lts.Need-choose-requires (measure-node-claims t) (measure-node-at t) measure-node.Post
+measure-node-choose-requires t c κs = search needs
+
+measure-node-enum-told : (t : ℕ) → measure-node-lts.Need-enum-told (measure-node-claims t) (measure-node-at t) measure-node.Post
+measure-node-enum-told t c = search needs
+
+measure-node-enum-known-choice : (t : ℕ) → measure-node-lts.Need-enum-known-choice (measure-node-claims t) (measure-node-at t) measure-node.Post
+measure-node-enum-known-choice t c = search needs
+
+measure-node-multipliers-requires : (t : ℕ) → measure-node-lts.Need-multipliers-requires (measure-node-claims t) (measure-node-at t) measure-node.Post
+measure-node-multipliers-requires t c κs = search needs
+
+measure-node-measure-branch-requires : (t : ℕ) → measure-node-lts.Need-measure-branch-requires (measure-node-claims t) (measure-node-at t) measure-node.Post
+measure-node-measure-branch-requires t c κs = (search first-count, (search, search turn-first))
 
 measure-node-returns-2 : (t : ℕ) → measure-node-lts.Need-returns-2 (measure-node-claims t) (measure-node-at t) measure-node.Post
-measure-node-returns-2 t c = search needs
+measure-node-returns-2 t c = search none-told
 
-pub +measure-branch+measure-inner+measure-node-spec : {M : Type 1} → statement M
-+measure-branch+measure-inner+measure-node-spec =
-    close μ-measure-branch μ-measure-inner μ-measure-node (λ t. measure-branch-lts.spec (measure-branch-claims t)
+measure-node-returns-3 : (t : ℕ) → measure-node-lts.Need-returns-3 (measure-node-claims t) (measure-node-at t) measure-node.Post
+measure-node-returns-3 t c = search first-told
+
+pub +measure-branch+measure-node-spec : {M : Type 1} → statement M
++measure-branch+measure-node-spec =
+    close μ-measure-branch μ-measure-node (λ t. measure-branch-lts.spec (measure-branch-claims t)
     (measure-branch-at t)
     measure-branch.Post
     (measure-branch-returns t)
@@ -202,21 +175,16 @@ pub +measure-branch+measure-inner+measure-node-spec : {M : Type 1} → statement
     (measure-branch-plus-requires t)
     (measure-branch-returns-4 t)
     (measure-branch-returns-5 t))
-    (λ t. measure-inner-lts.spec (measure-inner-claims t)
-    (measure-inner-at t)
-    measure-inner.Post
-    (measure-inner-choose-requires t)
-    (measure-inner-enum-told t)
-    (measure-inner-enum-known-choice t)
-    (measure-inner-multipliers-requires t)
-    (measure-inner-measure-branch-requires t)
-    (measure-inner-returns t)
-    (measure-inner-returns-2 t))
     λ t. measure-node-lts.spec
     (measure-node-claims t)
     (measure-node-at t)
     measure-node.Post
     (measure-node-leaf-requires t)
     (measure-node-returns t)
-    (measure-node-measure-inner-requires t)
+    (measure-node-choose-requires t)
+    (measure-node-enum-told t)
+    (measure-node-enum-known-choice t)
+    (measure-node-multipliers-requires t)
+    (measure-node-measure-branch-requires t)
     (measure-node-returns-2 t)
+    (measure-node-returns-3 t)
