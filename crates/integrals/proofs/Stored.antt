@@ -10,7 +10,7 @@ use borrow.Author.Tests.{le-leb, lt-leb}
 use lib.Ieee.{Float, nan}
 use lib.ListN.{length, getD}
 use lib.Seq.{drop-cons}
-use Rattle.geometry.proofs.Laws.{left-one, left-none}
+use Rattle.laws.proofs.Counting.{left-one, left-none}
 use Rattle.geometry.specs.Floats.{_⊗_, zero as 0·0}
 use Rattle.integrals.specs.Sums.{productOf, staysKinetic}
 use Rattle.number.specs.declared.Number.{Number}
