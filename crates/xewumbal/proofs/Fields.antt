@@ -14,22 +14,23 @@ use Rattle.shell.specs.declared.Sought.{Sought}
 use Rattle.shell.specs.declared.Sought.the-variants as sought
 use Rattle.shell.specs.declared.Component.{Component}
 use Rattle.shell.specs.Shells.{ListTold, shell2Of, shell4Of}
-use Rattle.roll.specs.declared.Cursor.{Cursor}
-use Rattle.roll.specs.declared.Found.the-variants as found
-use Rattle.roll.specs.declared.Step.{Step}
-use Rattle.roll.specs.declared.Opening.the-variants as opening
-use Rattle.roll.specs.declared.Opened.{Opened}
-use Rattle.roll.specs.Answers.{openOf, checkOf, stepOf}
+use Rattle.roll.specs.declared.cursor.Cursor.{Cursor}
+use Rattle.roll.specs.declared.cursor.Found.the-variants as found
+use Rattle.roll.specs.declared.cursor.Step.{Step}
+use Rattle.roll.specs.declared.header.Opening.the-variants as opening
+use Rattle.roll.specs.declared.header.Opened.{Opened}
+use Rattle.roll.specs.Header.{openOf, checkOf}
+use Rattle.roll.specs.Cursor.{stepOf}
 use Rattle.geometry.specs.declared.Centre.{Centre}
 use Rattle.geometry.specs.declared.Tabled.the-variants as given
 use Rattle.geometry.specs.declared.Table.{Table}
-use Rattle.geometry.specs.Checks.{prefactorsOf}
+use Rattle.geometry.specs.Checks.{prefactorTableOf}
 use Rattle.geometry.specs.Floats.{zero}
 use Rattle.integrals.specs.declared.Value.{Value}
 use Rattle.integrals.specs.declared.Value.the-variants as value
 use Rattle.integrals.specs.Evaluation.{evaluateOf}
 use Rattle.jk.specs.declared.Answer.{Answer}
-use Rattle.jk.specs.Outcome.{Outcome, outcome, jkOf, numberOf as jkNumber}
+use Rattle.jk.specs.Outcome.{Outcome, outcome, jkOf, refusalOf as jkRefusal}
 use Rattle.xewumbal.specs.declared.xew_centre.{«xew_centre»}
 use Rattle.xewumbal.specs.declared.xew_written.{«xew_written»}
 use Rattle.xewumbal.specs.declared.xew_value.{«xew_value»}
@@ -120,10 +121,10 @@ unfolding nextAnswer
 next-answered c roll below s x at told is = is ∙ ap hostStep (told ∙ ap (λ (b : Cursor). stepOf b roll) at)
 
 module _ (a b c d : «xew_centre») (p q r s : Centre) where
-  pub prefactors-answered : (kind : ℕ) (t : Table) (x : «xew_table») → p ≡ centreIn a → q ≡ centreIn b → r ≡ centreIn c → s ≡ centreIn d → t ≡ prefactorsOf kind p q r s → x ≡ hostTable t → x ≡ prefactorsAnswer kind a b c d
+  pub prefactors-answered : (kind : ℕ) (t : Table) (x : «xew_table») → p ≡ centreIn a → q ≡ centreIn b → r ≡ centreIn c → s ≡ centreIn d → t ≡ prefactorTableOf kind p q r s → x ≡ hostTable t → x ≡ prefactorsAnswer kind a b c d
   unfolding prefactorsAnswer
   prefactors-answered kind t x pa qb rc sd told is =
-      let same : t ≡ prefactorsOf kind (centreIn a) (centreIn b) (centreIn c) (centreIn d) = cc (told, pa, qb, rc, sd) in
+      let same : t ≡ prefactorTableOf kind (centreIn a) (centreIn b) (centreIn c) (centreIn d) = cc (told, pa, qb, rc, sd) in
       is ∙ ap hostTable same
 
   pub evaluate-answered : (roll : List ℕ) (aux : Float) (boys : List Float) (v : Value) (x : «xew_value») → p ≡ centreIn a → q ≡ centreIn b → r ≡ centreIn c → s ≡ centreIn d → v ≡ evaluateOf roll p q r s aux boys → x ≡ hostValue v → x ≡ evaluateAnswer roll a b c d aux boys
@@ -132,6 +133,6 @@ module _ (a b c d : «xew_centre») (p q r s : Centre) where
       let same : v ≡ evaluateOf roll (centreIn a) (centreIn b) (centreIn c) (centreIn d) aux boys = cc (told, pa, qb, rc, sd) in
       is ∙ ap hostValue same
 
-pub jk-answered : (n : ℕ) (i d beforeJ beforeK : List Float) (a : Answer) (afterJ afterK : List Float) (x : ℕ) → outcome a afterJ afterK ≡ jkOf n i d beforeJ beforeK → x ≡ jkNumber a → JkCallTold n i d beforeJ beforeK x afterJ afterK
+pub jk-answered : (n : ℕ) (i d beforeJ beforeK : List Float) (a : Answer) (afterJ afterK : List Float) (x : ℕ) → outcome a afterJ afterK ≡ jkOf n i d beforeJ beforeK → x ≡ jkRefusal a → JkCallTold n i d beforeJ beforeK x afterJ afterK
 jk-answered n i d beforeJ beforeK a afterJ afterK x told is =
-    record { answer = is ∙ ap (λ (o : Outcome). jkNumber (o .answer)) told; j = ap (λ (o : Outcome). o .j) told; k = ap (λ (o : Outcome). o .k) told }
+    record { answer = is ∙ ap (λ (o : Outcome). jkRefusal (o .answer)) told; j = ap (λ (o : Outcome). o .j) told; k = ap (λ (o : Outcome). o .k) told }

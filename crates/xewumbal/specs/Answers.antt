@@ -6,27 +6,24 @@ use mathlib.Core.List.{List}
 use lib.Ieee.{Float}
 use Rattle.kind.specs.Kinds.{kindOf}
 use Rattle.expansion.specs.declared.Expanded.{Expanded}
-use Rattle.expansion.specs.Expanding.{namedTold, namedOut, lengthIn, countIn, refusalIn}
+use Rattle.expansion.specs.Expanding.{namedTold, namedOut, lengthIn, countIn, refusalOf as expandedRefusal}
 use Rattle.shell.specs.declared.Listed.{Listed}
 use Rattle.shell.specs.declared.Listed.the-variants as listed
-use Rattle.shell.specs.declared.Sought.{Sought}
-use Rattle.shell.specs.declared.Sought.the-variants as sought
 use Rattle.shell.specs.declared.Component.{Component}
-use Rattle.shell.specs.Shells.{listedAt, listedOut, shell2Of, shell4Of}
-use Rattle.roll.specs.declared.Cursor.{Cursor}
-use Rattle.roll.specs.declared.Found.{Found}
-use Rattle.roll.specs.declared.Found.the-variants as found
-use Rattle.roll.specs.declared.Step.{Step}
-use Rattle.roll.specs.declared.Opening.{Opening}
-use Rattle.roll.specs.declared.Opening.the-variants as opening
-use Rattle.roll.specs.declared.Opened.{Opened}
-use Rattle.roll.specs.Answers.{openOf, checkOf, stepOf}
+use Rattle.shell.specs.Shells.{listedAt, listedOut, shell2Of, shell4Of, refusalOf as soughtRefusal}
+use Rattle.roll.specs.declared.cursor.Cursor.{Cursor}
+use Rattle.roll.specs.declared.cursor.Found.{Found}
+use Rattle.roll.specs.declared.cursor.Found.the-variants as found
+use Rattle.roll.specs.declared.cursor.Step.{Step}
+use Rattle.roll.specs.declared.header.Opened.{Opened}
+use Rattle.roll.specs.Header.{openOf, checkOf, refusalOf as openedRefusal, placeOf as openedPlace}
+use Rattle.roll.specs.Cursor.{stepOf, refusalOf as foundRefusal, placeOf as foundPlace}
 use Rattle.geometry.specs.declared.Centre.{Centre}
 use Rattle.geometry.specs.declared.Table.{Table}
-use Rattle.geometry.specs.Checks.{prefactorsOf, numberOf as tableNumber}
+use Rattle.geometry.specs.Checks.{prefactorTableOf, refusalOf as tableRefusal}
 use Rattle.integrals.specs.declared.Value.{Value}
-use Rattle.integrals.specs.Evaluation.{evaluateOf, floatOf, placeOf, numberOf as valueNumber}
-use Rattle.jk.specs.Outcome.{jkOf, numberOf as jkNumber}
+use Rattle.integrals.specs.Evaluation.{evaluateOf, floatOf, placeOf, refusalOf as valueRefusal}
+use Rattle.jk.specs.Outcome.{jkOf, refusalOf as jkRefusal}
 use Rattle.xewumbal.specs.declared.xew_centre.{«xew_centre»}
 use Rattle.xewumbal.specs.declared.xew_written.{«xew_written»}
 use Rattle.xewumbal.specs.declared.xew_value.{«xew_value»}
@@ -47,7 +44,7 @@ cursorIn c = record { place = c .place; left = c .left; kind = c .kind; l = c .l
 -- ---- xew_expand: the length, the term count and the refusal of the answer
 
 abbrev pub hostExpanded : Expanded → «xew_written»
-hostExpanded e = record { length = lengthIn e; terms = countIn e; refusal = refusalIn e }
+hostExpanded e = record { length = lengthIn e; terms = countIn e; refusal = expandedRefusal e }
 
 pub record ExpandCallTold (kind : ℕ) (orders before : List ℕ) (start : ℕ) (r : «xew_written») (after : List ℕ) : Type 0 where
   pub answer : r ≡ hostExpanded (namedTold (kindOf kind) orders before start)
@@ -65,12 +62,8 @@ pub record ListCallTold (order : ℕ) (before : List ℕ) (start : ℕ) (r : «x
 
 -- ---- xew_shell2 and xew_shell4: the orders and the refusal
 
-abbrev pub soughtNumber : Sought → ℕ
-soughtNumber sought.Component = 0
-soughtNumber (sought.Refused n) = n
-
 abbrev pub hostComponent : Component → «xew_component»
-hostComponent c = record { orders = c .orders; refusal = soughtNumber (c .found) }
+hostComponent c = record { orders = c .orders; refusal = soughtRefusal (c .found) }
 
 unfoldable pub shell2Answer : ℕ → ℕ → ℕ → «xew_component»
 shell2Answer a b number = hostComponent (shell2Of a b number)
@@ -83,16 +76,8 @@ shell4Answer a b c d number = hostComponent (shell4Of a b c d number)
 abbrev pub hostCursor : Cursor → «xew_cursor»
 hostCursor c = record { place = c .place; left = c .left; kind = c .kind; l = c .l }
 
-abbrev pub openingNumber : Opening → ℕ
-openingNumber opening.Roll = 0
-openingNumber (opening.Refused n place) = n
-
-abbrev pub openingPlace : Opening → ℕ
-openingPlace opening.Roll = 0
-openingPlace (opening.Refused n place) = place
-
 abbrev pub hostOpened : Opened → «xew_opened»
-hostOpened o = record { cursor = hostCursor (o .cursor); place = openingPlace (o .found); orders = o .orders; refusal = openingNumber (o .found) }
+hostOpened o = record { cursor = hostCursor (o .cursor); place = openedPlace (o .found); orders = o .orders; refusal = openedRefusal (o .found) }
 
 unfoldable pub openAnswer : List ℕ → «xew_opened»
 openAnswer roll = hostOpened (openOf roll)
@@ -108,22 +93,12 @@ foundCode found.Term = 1
 foundCode found.End = 2
 foundCode (found.Refused n place) = 0
 
-abbrev pub foundNumber : Found → ℕ
-foundNumber found.Term = 0
-foundNumber found.End = 0
-foundNumber (found.Refused n place) = n
-
-abbrev pub foundPlace : Found → ℕ
-foundPlace found.Term = 0
-foundPlace found.End = 0
-foundPlace (found.Refused n place) = place
-
 abbrev pub foundStep : Step → ℕ → ℕ → ℕ → «xew_step»
 foundStep s code place number =
     record { next = hostCursor (s .next); place = place; scale = s .term .scale; boys = s .term .boys; count = s .term .count; prefactors = s .term .prefactors; found = code; refusal = number }
 
 abbrev pub hostStep : Step → «xew_step»
-hostStep s = foundStep s (foundCode (s .found)) (foundPlace (s .found)) (foundNumber (s .found))
+hostStep s = foundStep s (foundCode (s .found)) (foundPlace (s .found)) (foundRefusal (s .found))
 
 unfoldable pub nextAnswer : «xew_cursor» → List ℕ → «xew_step»
 nextAnswer c roll = hostStep (stepOf (cursorIn c) roll)
@@ -131,15 +106,15 @@ nextAnswer c roll = hostStep (stepOf (cursorIn c) roll)
 -- ---- xew_prefactors: the table and the refusal
 
 abbrev pub hostTable : Table → «xew_table»
-hostTable t = record { entries = t .entries; refusal = tableNumber (t .found) }
+hostTable t = record { entries = t .entries; refusal = tableRefusal (t .found) }
 
 unfoldable pub prefactorsAnswer : ℕ → «xew_centre» → «xew_centre» → «xew_centre» → «xew_centre» → «xew_table»
-prefactorsAnswer kind a b c d = hostTable (prefactorsOf kind (centreIn a) (centreIn b) (centreIn c) (centreIn d))
+prefactorsAnswer kind a b c d = hostTable (prefactorTableOf kind (centreIn a) (centreIn b) (centreIn c) (centreIn d))
 
 -- ---- xew_evaluate: the integral, and a refusal with its place
 
 abbrev pub hostValue : Value → «xew_value»
-hostValue v = record { value = floatOf v; place = placeOf v; refusal = valueNumber v }
+hostValue v = record { value = floatOf v; place = placeOf v; refusal = valueRefusal v }
 
 unfoldable pub evaluateAnswer : List ℕ → «xew_centre» → «xew_centre» → «xew_centre» → «xew_centre» → Float → List Float → «xew_value»
 evaluateAnswer roll a b c d aux boys = hostValue (evaluateOf roll (centreIn a) (centreIn b) (centreIn c) (centreIn d) aux boys)
@@ -147,6 +122,6 @@ evaluateAnswer roll a b c d aux boys = hostValue (evaluateOf roll (centreIn a) (
 -- ---- xew_jk: the refusal alone
 
 pub record JkCallTold (n : ℕ) (i d beforeJ beforeK : List Float) (r : ℕ) (afterJ afterK : List Float) : Type 0 where
-  pub answer : r ≡ jkNumber (jkOf n i d beforeJ beforeK .answer)
+  pub answer : r ≡ jkRefusal (jkOf n i d beforeJ beforeK .answer)
   pub j : afterJ ≡ jkOf n i d beforeJ beforeK .j
   pub k : afterK ≡ jkOf n i d beforeJ beforeK .k

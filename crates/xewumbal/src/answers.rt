@@ -1,6 +1,6 @@
 // The structs of the exported functions from those of the crates below, and back.
 ghost use mathlib.Core.Path.{_≡_};
-ghost use Rattle.jk.specs.Outcome.{numberOf};
+ghost use Rattle.jk.specs.Outcome.{refusalOf};
 ghost use Rattle.xewumbal.specs.Answers.{centreIn, cursorIn, hostExpanded, hostListed, hostComponent, hostCursor, hostOpened, foundStep, hostStep, hostTable, hostValue};
 use crate::xew_centre;
 use crate::xew_component;
@@ -183,7 +183,7 @@ pub(crate) fn value(answer: Value) -> xew_value
 }
 
 pub(crate) fn matrices(answer: Answer) -> u8
-    ensures { λ r. ⌜ r ≡ numberOf answer ⌝ }
+    ensures { λ r. ⌜ r ≡ refusalOf answer ⌝ }
 {
     match answer {
         Answer::Done => 0,
