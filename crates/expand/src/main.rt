@@ -1,4 +1,4 @@
-// Writes the roll of a request to standard output: `expand KIND ORDERS..`, in decimal.
+// Writes the roll of a request to standard output: `expand KIND ORDERS..`, in decimal (D-77).
 //
 // Orders are as many as the kind uses, or all twelve of a request. A refusal writes nothing there and one line to
 // standard error. Wrong arguments are answered there too, by how to call the program.

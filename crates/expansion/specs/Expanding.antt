@@ -46,7 +46,7 @@ termsOf k orders = expand (start k orders)
 unfoldable pub rollOf : Kind → List ℕ → List ℕ
 rollOf k orders = rollBytes k (take (ordersOf k) orders) (termsOf k orders)
 
--- of a kind: 2, 3, 5, 4, 6 in this order, or the roll's length and its term count
+-- of a kind: 2, 3, 5, 4, 6 in this order, or the roll's length and its term count (D-3, D-4, D-5, D-68)
 unfoldable pub kindTold : Kind → List ℕ → List ℕ → ℕ → Expanded
 kindTold k orders out begin =
     cond (tooHigh k orders) (Refused 2)

@@ -13,7 +13,7 @@ use steps::Axis;
 use steps::CentreName;
 
 // A term on its way: its prefactors stand in two words, five bits each, the last lowest; the first twelve move to `high`
-// when there are more.
+// when there are more (D-64).
 struct Path {
     scale: u64,
     boys: u64,
@@ -53,7 +53,7 @@ pub enum Expanded {
     Refused(u8),
 }
 
-// Writes the roll of a request that was measured, where it fits.
+// Writes the roll of a request that was measured, where it fits (D-44).
 fn write_sized(
     kind: Kind,
     orders: [u8; Kind::ORDERS],
@@ -75,7 +75,7 @@ fn write_sized(
     Expanded::Roll(long, count)
 }
 
-// Expands a request that keeps the limits.
+// Expands a request that keeps the limits (D-66).
 fn expand_within(kind: Kind, orders: [u8; Kind::ORDERS], out: &mut [u8], start: usize) -> Expanded
     requires { ⌜ RequestMay kind orders start (now out) ⌝ }
     ensures { λ r. ⌜ KnownTold kind orders (now (out .entry)) start r (now (out .exit)) ⌝ }
@@ -106,7 +106,7 @@ fn expand_kind(kind: Kind, orders: [u8; Kind::ORDERS], out: &mut [u8], start: us
     expand_within(kind, orders, out, start)
 }
 
-// Expands a request into a roll that begins at `start`.
+// Expands a request into a roll that begins at `start` (D-1, D-65).
 pub fn expand(kind: u8, orders: [u8; Kind::ORDERS], out: &mut [u8], start: usize) -> Expanded
     ensures { λ r. ⌜ ExpandTold kind orders (now (out .entry)) start r (now (out .exit)) ⌝ }
 {

@@ -1,5 +1,5 @@
 // How many terms a state has below it and how many bytes they take, or that they are more than a list may hold.
-// Branches that differ in the Boys order alone have children of one size, so one of the two is measured and counted twice.
+// Branches that differ in the Boys order alone have children of one size, so one of the two is measured and counted twice (D-67, D-83).
 ghost use mathlib.Core.Path.{_≡_};
 ghost use Prim.Native.Nat.{_+_, _^_, _<_};
 ghost use Rattle.number.specs.Numbers.{lengthOf};

@@ -1,4 +1,4 @@
-// The walk over all complete histories. A term's children are written in turn before its next sibling.
+// The walk over all complete histories. A term's children are written in turn before its next sibling (D-71).
 ghost use mathlib.Core.Path.{_≡_};
 ghost use Prim.Native.Nat.{_+_, _%_};
 ghost use Rattle.steps.specs.inner.Packed.{orders};

@@ -23,7 +23,7 @@ use Rattle.geometry.specs.Tables.{prefac}
 unfoldable pub whole : Centre → List Float
 whole c = c .x ∷ c .y ∷ c .z ∷ c .exponent ∷ []
 
--- kinds 0, 1 use A, B; 2, 3 also C's coordinates; 4 uses A to D
+-- kinds 0, 1 use A, B; 2, 3 also C's coordinates; 4 uses A to D (D-18)
 unfoldable pub used : Kind → Centre → Centre → Centre → Centre → List Float
 used Overlap a b c d = whole a ++ whole b
 used Kinetic a b c d = whole a ++ whole b
@@ -47,7 +47,7 @@ usedFinite k a b c d = allFinite (used k a b c d)
 unfoldable pub exponentsAboveZero : Kind → Centre → Centre → Centre → Centre → Bool
 exponentsAboveZero k a b c d = allAboveZero (exponents k a b c d)
 
--- 11 unless every geometry number and every table entry is finite
+-- 11 unless every geometry number and every table entry is finite (D-19, D-20)
 unfoldable pub finiteWith : Kind → Centre → Centre → Centre → Centre → List Float → Bool
 finiteWith k a b c d entries = allFinite (geometryNumbers k a b c d ++ entries)
 

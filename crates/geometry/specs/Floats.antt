@@ -40,7 +40,7 @@ three = ofBits binary64 0x4008_0000_0000_0000
 abbrev pub square : Float → Float
 square x = x ⊗ x
 
--- neither −0.0 nor a NaN is above 0
+-- neither −0.0 nor a NaN is above 0 (D-26)
 abbrev pub aboveZero : Float → Bool
 aboveZero x = lt zero x
 
@@ -52,6 +52,6 @@ unfoldable pub allAboveZero : List Float → Bool
 allAboveZero [] = true
 allAboveZero (x ∷ xs) = aboveZero x && allAboveZero xs
 
--- a list by value in n places, the rest 0.0
+-- a list by value in n places, the rest 0.0 (D-61)
 abbrev pub inPlaces : ℕ → List Float → List Float
 inPlaces n xs = xs ++ replicate (n - length xs) zero

@@ -8,7 +8,7 @@ use Rattle.geometry.specs.declared.Centre.{Centre}
 use Rattle.geometry.specs.declared.Point.{Point}
 use Rattle.geometry.specs.Floats.{_⊕_, _⊖_, _⊗_, _⊘_, square}
 
--- a centre's coordinates
+-- a centre's coordinates (D-60)
 abbrev pub pointOf : Centre → Point
 pointOf c = record { x = c .x; y = c .y; z = c .z }
 

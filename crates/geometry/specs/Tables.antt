@@ -84,7 +84,7 @@ momentTable rp z a b c =
     ∷ (11 ⇒ half ⊘ z)
     ∷ []
 
--- kind 4
+-- kind 4 (D-24)
 abbrev pub coulombTable : Point → Point → Point → Float → Float → Float → Centre → Centre → Centre → Centre → List Entry
 coulombTable rp rq rw z n rho a b c d =
     (0 ⇒ rp .x ⊖ a .x)

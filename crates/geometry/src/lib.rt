@@ -13,7 +13,7 @@ use kind::Named;
 mod numbers;
 mod tables;
 
-// Three coordinates and an exponent, kept together.
+// Three coordinates and an exponent, kept together (D-43).
 #[repr(C)]
 pub struct Centre {
     pub x: f64,
@@ -211,7 +211,7 @@ pub fn exponents_above_zero(kind: Kind, a: Centre, b: Centre, c: Centre, d: Cent
     }
 }
 
-// Check 11, as far as it goes without a sum: every geometry number and every entry of the table is finite.
+// Check 11, as far as it goes without a sum: every geometry number and every entry of the table is finite (D-82).
 pub fn geometry_finite(
     kind: Kind,
     a: Centre,

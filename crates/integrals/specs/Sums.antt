@@ -33,7 +33,7 @@ unfoldable pub staysKinetic : List ℕ → Bool
 staysKinetic [] = true
 staysKinetic (p ∷ ps) = leb p 7 && staysKinetic ps
 
--- e·(3.0−2.0·e·ab)
+-- e·(3.0−2.0·e·ab) (D-22)
 unfoldable pub kineticStart : Centre → Centre → Float
 kineticStart a b = eOf a b ⊗ (three ⊖ two ⊗ eOf a b ⊗ abOf a b)
 
@@ -44,7 +44,7 @@ gOf table ps = productOf table ps one
 unfoldable pub kineticG : Float → List Float → List ℕ → Float
 kineticG kinetic table ps = productOf table ps (cond (staysKinetic ps) kinetic one)
 
--- what one term adds: scale·aux·g; nuclear scale·aux·g·F(order); Coulomb scale·b·g, with b = F(i)·s
+-- what one term adds: scale·aux·g; nuclear scale·aux·g·F(order); Coulomb scale·b·g, with b = F(i)·s (D-23)
 unfoldable pub plainOf : List Float → Float → Term → Float
 plainOf table aux t = scaleOf (t .scale) ⊗ aux ⊗ gOf table (t .prefactors)
 
@@ -73,7 +73,7 @@ runOrders table s boys ts zero i sum = sum
 runOrders table s boys ts (suc left) i sum =
     runOrders table s boys ts left (suc i) (sumFrom (coulombOf table (boysNumber boys i ⊗ s)) (ofOrder i ts) sum)
 
--- the sum starts at 0.0; Coulomb runs i from 0 to L
+-- the sum starts at 0.0; Coulomb runs i from 0 to L (D-25)
 unfoldable pub totalOf : Kind → ℕ → Float → List Float → Float → List Float → List Term → Float
 totalOf Overlap l kinetic table aux boys ts = sumFrom (plainOf table aux) ts 0·0
 totalOf Kinetic l kinetic table aux boys ts = sumFrom (kineticOf kinetic table aux) ts 0·0

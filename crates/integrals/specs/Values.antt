@@ -20,11 +20,11 @@ use Rattle.integrals.specs.Sums.{integralOf}
 unfoldable pub inputsFinite : Kind → Centre → Centre → Centre → Centre → Float → List Float → Bool
 inputsFinite k a b c d aux boys = usedFinite k a b c d && (finite aux && allFinite boys)
 
--- 10 unless the Boys numbers are exactly L+1 (kinds 2, 4) or 0 (others)
+-- 10 unless the Boys numbers are exactly L+1 (kinds 2, 4) or 0 (others) (D-21)
 unfoldable pub boysCounted : Kind → ℕ → ℕ → Bool
 boysCounted k l count = eqb count (cond (usesBoys k) (l + 1) 0)
 
--- beside a refusal other than 7 the place is 0
+-- beside a refusal other than 7 the place is 0 (D-2)
 unfoldable pub unless : Bool → ℕ → Value → Value
 unless true number v = v
 unless false number v = Refused number 0

@@ -14,7 +14,7 @@ use sums::Terms;
 
 mod sums;
 
-// The integral, or a refusal's number and place.
+// The integral, or a refusal's number and place (D-72).
 pub enum Value {
     Is(f64),
     Refused(u8, usize),
@@ -136,7 +136,7 @@ fn from_cursor(
     }
 }
 
-// The integral of a roll with the host's numbers, or 7 with its place, 8, 9, 10 or 11.
+// The integral of a roll with the host's numbers, or 7 with its place, 8, 9, 10 or 11 (D-62).
 pub fn evaluate(
     roll: &[u8],
     a: Centre,

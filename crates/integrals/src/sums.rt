@@ -36,7 +36,7 @@ fn float_at(floats: &[f64], at: usize) -> f64
     0.0
 }
 
-// g, multiplied by the table's entries in listed order.
+// g, multiplied by the table's entries in listed order (D-73).
 fn product(table: &[f64], roll: &[u8], from: usize, end: usize, start: f64) -> f64
     requires { ⌜ end ≤ length (now roll) ⌝ }
     ensures { λ r. ⌜ r ≡ productOf (now (table .entry)) (between (now (roll .entry)) from end) start ⌝ }

@@ -27,7 +27,7 @@ abbrev pub refusalOf : Answer → ℕ
 refusalOf Done = 0
 refusalOf (Refused n) = n
 
--- n is from 1 to 16; I has n⁴ floats, D, J and K have n²
+-- n is from 1 to 16; I has n⁴ floats, D, J and K have n² (D-7)
 unfoldable pub longOf : ℕ → ℕ → ℕ → ℕ → ℕ → Bool
 longOf n i d j k = eqb i (n ^ 4) && (eqb d (n ^ 2) && (eqb j (n ^ 2) && eqb k (n ^ 2)))
 

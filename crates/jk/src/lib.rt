@@ -126,7 +126,7 @@ fn value(m: Matrix, n: usize, i: &[f64], d: &[f64], done: &[f64], p: usize) -> f
     done[place(n, nu, mu)]
 }
 
-// The whole matrix in the first places, from its end on, so that each sum is made once.
+// The whole matrix in the first places, from its end on, so that each sum is made once (D-28).
 fn entries(m: Matrix, n: usize, i: &[f64], d: &[f64]) -> [f64; ROOM]
     requires { ⌜ ShapedMay n (now i) (now d) ⌝ }
     ensures { λ r. ⌜ take (n * n) r ≡ matrixOf m n (now (i .entry)) (now (d .entry)) ⌝ }
@@ -151,7 +151,7 @@ fn put(out: &mut [f64], from: &[f64])
     }
 }
 
-// Both matrices, or 11 before anything is written.
+// Both matrices, or 11 before anything is written (D-27).
 fn write(n: usize, i: &[f64], d: &[f64], j: &mut [f64], k: &mut [f64]) -> Answer
     requires { ⌜ ShapedMay n (now i) (now d) × (length (now j) ≡ n * n) × (length (now k) ≡ n * n) ⌝ }
     ensures { λ r. ⌜ outcome r (now (j .exit)) (now (k .exit)) ≡ summedOf n (now (i .entry)) (now (d .entry)) (now (j .entry)) (now (k .entry)) ⌝ }

@@ -1,4 +1,4 @@
--- 01, "Limits and refusal numbers": each limit once.
+-- 01, "Limits and refusal numbers": each limit once (D-39).
 use Prim.Native.Nat.{ℕ, _*_, _^_}
 use Rattle.kind.specs.declared.Limits.{Limits}
 

@@ -1,4 +1,4 @@
-// The five kinds of integral, and every limit of document 01 under one name.
+// The five kinds of integral, and every limit of document 01 under one name (D-42).
 ghost use mathlib.Core.Path.{_≡_};
 ghost use Rattle.kind.specs.Limits.{limits};
 ghost use Rattle.kind.specs.Kinds.{kindOf, numberOf, ordersOf, tableOf, branchesOf, mostL, mostPrefactors, usesBoys};

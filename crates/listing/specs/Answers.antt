@@ -38,7 +38,7 @@ abbrev pub readOut : Reading Roll → List ℕ → ℕ → List ℕ
 readOut (got r end) out start = textOut (listingText r) out start
 readOut (refused n place) out start = out
 
--- 6 a roll over the listing's limit, before anything of it is read
+-- 6 a roll over the listing's limit, before anything of it is read (D-17)
 unfoldable pub listingAt : List ℕ → List ℕ → ℕ → Listed
 listingAt roll out start = cond (ltb mostListed (length roll)) (listed.Refused 6 0) (readAnswer (rollAt roll) out start)
 

@@ -57,7 +57,7 @@ headLine k orders terms = kindText k orders ++ ((termsWord ++ decimalOf terms) +
 unfoldable pub termNumbers : ℕ → ℕ → ℕ → List ℕ
 termNumbers number scale boys = decimalOf number ++ ((blank ++ decimalOf scale) ++ ((blank ++ decimalOf boys) ++ colon))
 
--- then prefactors each after a blank: 1 1 0: 0 1
+-- then prefactors each after a blank: 1 1 0: 0 1 (D-15)
 unfoldable pub termLine : ℕ → Term → List ℕ
 termLine number t = termNumbers number (t .scale) (t .boys) ++ (afterBlanks (t .prefactors) ++ feed)
 
@@ -70,7 +70,7 @@ termLines number (t ∷ ts) = termLine number t ++ termLines (number + 1) ts
 unfoldable pub listingText : Roll → List ℕ
 listingText r = headLine (r .kind) (r .orders) (length (r .terms)) ++ termLines 1 (r .terms)
 
--- refusal 7 carries the place
+-- refusal 7 carries the place (D-75)
 abbrev pub placeText : ℕ → ℕ → List ℕ
 placeText refusal place = cond (eqb refusal 7) (atWord ++ decimalOf place) []
 

@@ -1,6 +1,6 @@
 // A roll's listing and the line of a refusal, as text in a lent buffer.
 //
-// The same functions measure a text and write it: lent no bytes, they only find out whether it has room.
+// The same functions measure a text and write it: lent no bytes, they only find out whether it has room (D-74).
 ghost use mathlib.Core.Path.{_≡_};
 ghost use mathlib.Core.List.{_++_};
 ghost use Prim.Native.Nat.{_≤_};
@@ -185,7 +185,7 @@ fn written(roll: &[u8], opened: Opened, out: &mut [u8], start: usize) -> Listed
     }
 }
 
-// The listing of a roll: nothing is written before the whole roll has been judged.
+// The listing of a roll: nothing is written before the whole roll has been judged (D-16).
 pub fn listing(roll: &[u8], out: &mut [u8], start: usize) -> Listed
     ensures { λ r. ⌜ ListingTold (now (roll .entry)) (now (out .entry)) start r (now (out .exit)) ⌝ }
 {

@@ -53,15 +53,15 @@ unfoldable pub readFrom : List ℕ → ℕ → Number
 readFrom [] at = Ended
 readFrom (b ∷ s) at = cond (oneByte b) (Is b (at + 1)) (above (b % group) (higher s (at + 1) 3))
 
--- what a slice of bytes holds
+-- what a slice of bytes holds (D-56)
 abbrev pub Bytes : List ℕ → Type 0
 Bytes s = (i : ℕ) → getD s i 0 < 256
 
--- the number at a place of a roll, with the place after it
+-- the number at a place of a roll, with the place after it (D-14)
 unfoldable pub readAt : List ℕ → ℕ → Number
 readAt s at = readFrom (drop at s) at
 
--- 01's refusal number for each case: 0 is none, and the roll breaks a rule (7) whatever the reason
+-- 01's refusal number for each case: 0 is none, and the roll breaks a rule (7) whatever the reason (D-13, D-37)
 abbrev pub refusalOf : Number → ℕ
 refusalOf (Is n next) = 0
 refusalOf Ended = 7
@@ -72,7 +72,7 @@ refusalOf TooLarge = 7
 unfoldable pub writtenAt : List ℕ → ℕ → List ℕ → Written
 writtenAt out at bytes = cond (leb (at + length bytes) (length out)) (Next (at + length bytes)) NoRoom
 
--- where they fit they are stored from `at` on; otherwise nothing changes
+-- where they fit they are stored from `at` on; otherwise nothing changes (D-14)
 unfoldable pub outAfter : List ℕ → ℕ → List ℕ → List ℕ
 outAfter out at bytes = cond (leb (at + length bytes) (length out)) (sets out at bytes) out
 

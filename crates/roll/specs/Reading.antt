@@ -1,4 +1,4 @@
--- 01, "The roll": what a roll says from a place on, and the first rule that it breaks, with the place.
+-- 01, "The roll": what a roll says from a place on, and the first rule that it breaks, with the place (D-9).
 use Prim.Native.Nat.{ℕ, zero, suc, _+_, _-_, _%_}
 use mathlib.Core.Bool.{cond, _||_}
 use mathlib.Core.List.{List, [], _∷_, _++_}
@@ -29,7 +29,7 @@ pub data Reading (A : Type 0) : Type 0 where
 abbrev pub limited : ℕ → ℕ → ℕ → ℕ → ℕ → Field
 limited n next at low high = cond (ltb n low || ltb high n) (field.Refused 7 at) (field.Is n next)
 
--- a number that cannot be read ends the reading at once, with the refusal of its reason where it begins
+-- a number that cannot be read ends the reading at once, with the refusal of its reason where it begins (D-8)
 abbrev pub opened : Number → ℕ → ℕ → ℕ → Field
 opened (number.Is n next) at low high = limited n next at low high
 opened number.Ended at low high = field.Refused (refusalOf number.Ended) at
@@ -60,7 +60,7 @@ unfoldable pub prefactorsAt : List ℕ → ℕ → ℕ → ℕ → Reading (List
 prefactorsAt s at zero table = got [] at
 prefactorsAt s at (suc count) table = onward (withinAt s at 0 (table - 1)) (λ p next. before (p ∷ []) (prefactorsAt s next count table))
 
--- Boys order at most L; 0 for kinds 0, 1, 3
+-- Boys order at most L; 0 for kinds 0, 1, 3 (D-59)
 abbrev pub mostBoys : Kind → ℕ → ℕ
 mostBoys k l = cond (usesBoys k) l 0
 
@@ -108,7 +108,7 @@ abbrev pub ofKind : List ℕ → ℕ → Named → Reading Header
 ofKind s at (named.Is k) = andThen (ordersAt s at (ordersOf k) 0 0) (λ orders next. countedAt s next k orders)
 ofKind s at named.Unknown = refused 7 0
 
--- order: kind; orders; term count
+-- order: kind; orders; term count (D-10, D-57)
 unfoldable pub headerAt : List ℕ → Reading Header
 headerAt s = onward (withinAt s 0 0 (numberOf Coulomb)) (λ n next. ofKind s next (kindOf n))
 

@@ -62,7 +62,7 @@ pub fn head_at(roll: &[u8], at: usize) -> Head
     }
 }
 
-// Whether the scale, the Boys order and the count here are one byte each, and the prefactors end inside the roll.
+// Whether the scale, the Boys order and the count here are one byte each, and the prefactors end inside the roll (D-81).
 fn is_short(roll: &[u8], at: usize) -> bool
     ensures { λ r. ⌜ (r ≡ true → Short (now (roll .entry)) at) ⌝ }
 {

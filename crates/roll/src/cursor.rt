@@ -93,7 +93,7 @@ fn term_step(c: Cursor, read: ReadTerm) -> Step
 }
 
 impl Cursor {
-    // The next term and the cursor one term further on.
+    // The next term and the cursor one term further on (D-70).
     pub fn next(self, roll: &[u8]) -> Step
         ensures { λ r. ⌜ r ≡ stepOf self (now (roll .entry)) ⌝ }
     {

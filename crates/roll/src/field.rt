@@ -9,7 +9,7 @@ pub(crate) enum Field {
     Refused(u8, usize),
 }
 
-// The number at a place, from `low` to `high`.
+// The number at a place, from `low` to `high` (D-69).
 pub(crate) fn within(roll: &[u8], at: usize, low: u32, high: u32) -> Field
     ensures { λ r. ⌜ r ≡ withinAt (now (roll .entry)) at low high ⌝ }
 {

@@ -114,7 +114,7 @@ fn open_count(roll: &[u8], kind: Kind, read: ReadOrders) -> Opened
     }
 }
 
-// A roll's kind, orders and term count; the terms are not looked at.
+// A roll's kind, orders and term count; the terms are not looked at (D-12).
 pub fn open(roll: &[u8]) -> Opened
     ensures { λ r. ⌜ r ≡ openOf (now (roll .entry)) ⌝ }
 {

@@ -1,4 +1,4 @@
-// Terms that are gone over and not kept: a number after the other, each within its limits.
+// Terms that are gone over and not kept: a number after the other, each within its limits (D-80).
 ghost use mathlib.Core.Path.{_≡_};
 ghost use Prim.Native.Nat.{_+_, _≤_};
 ghost use mathlib.Core.Bool.{true};

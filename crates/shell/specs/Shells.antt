@@ -79,7 +79,7 @@ shell4Of a b c d number =
     cond ((ltb mostOrder a || ltb mostOrder b) || (ltb mostOrder c || ltb mostOrder d)) (refused 2)
     (component (quadruples a b c d) number)
 
--- of two shells, six orders of 0 after a pair's
+-- of two shells, six orders of 0 after a pair's (D-6)
 unfoldable pub shell2Of : ℕ → ℕ → ℕ → Component
 shell2Of a b number =
     cond (ltb mostOrder a || ltb mostOrder b) (refused 2)

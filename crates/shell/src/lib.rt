@@ -10,7 +10,7 @@ ghost use Rattle.shell.specs.Shells.{triples, shellBytes, ListTold, refu
 ghost use Rattle.shell.specs.inner.Walk.{orderSum, tripleOrders, Follows, FollowsPair, FollowsQuadruple, Small, SmallPair, First, FirstPair, FirstQuadruple, quadrupleOrders};
 use kind::Kind;
 
-// The list's length in bytes and its triples.
+// The list's length in bytes and its triples (D-31).
 pub enum Listed {
     Bytes(usize, u32),
     Refused(u8),
@@ -21,7 +21,7 @@ pub enum Sought {
     Refused(u8),
 }
 
-// The orders of a component stand by shell, zeros after them and beside a refusal.
+// The orders of a component stand by shell, zeros after them and beside a refusal (D-36).
 pub struct Component {
     pub found: Sought,
     pub orders: [u8; Kind::ORDERS],
@@ -187,7 +187,7 @@ fn first_quadruple(a: u8, b: u8, c: u8, d: u8) -> Quadruple
     }
 }
 
-// Goes through the list until the number is used up.
+// Goes through the list until the number is used up (D-29).
 fn walk(a: u8, b: u8, c: u8, d: u8, number: u32) -> Component
     requires { ⌜ (a ≤ mostOrder) × (b ≤ mostOrder) × (c ≤ mostOrder) × (d ≤ mostOrder) ⌝ }
     ensures { λ r. ⌜ r ≡ component (quadruples a b c d) number ⌝ }
@@ -216,7 +216,7 @@ pub fn get_shell4(a: u8, b: u8, c: u8, d: u8, number: u32) -> Component
     walk(a, b, c, d, number)
 }
 
-// A pair is a quadruple whose last two shells have one triple each, 0 0 0.
+// A pair is a quadruple whose last two shells have one triple each, 0 0 0 (D-30).
 pub fn get_shell2(a: u8, b: u8, number: u32) -> Component
     ensures { λ r. ⌜ r ≡ shell2Of a b number ⌝ }
 {

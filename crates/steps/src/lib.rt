@@ -101,7 +101,7 @@ impl Axis {
     }
 }
 
-// What find_fun_to_lower finds.
+// What find_fun_to_lower finds (D-35).
 pub enum Fun {
     Lower(CentreName),
     Nothing,

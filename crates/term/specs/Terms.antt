@@ -10,7 +10,7 @@ pub record Term : Type 0 where
   pub boys : ℕ
   pub prefactors : List ℕ
 
--- a term as the code holds it: its prefactors beside their count, zeros after them
+-- a term as the code holds it: its prefactors beside their count, zeros after them (D-40)
 abbrev pub held : Term → Held
 held t = record { scale = t .scale; boys = t .boys; count = length (t .prefactors); prefactors = t .prefactors ++ replicate (mostL·any - length (t .prefactors)) 0 }
 

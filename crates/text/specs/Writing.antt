@@ -8,7 +8,7 @@ use Rattle.laws.specs.Placed.{roomFor, placedWhereFits}
 use Rattle.text.specs.declared.Written.{Written}
 use Rattle.text.specs.declared.Written.the-variants.{To, NoRoom}
 
--- the place after the text, or no room
+-- the place after the text, or no room (D-41)
 abbrev pub answered : List ℕ → ℕ → List ℕ → Written
 answered out at text = cond (roomFor out at (length text)) (To (at + length text)) NoRoom
 

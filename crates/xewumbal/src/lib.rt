@@ -1,5 +1,5 @@
 // The exported functions, under their C names. Each lends what it gets to the function below it, and turns the answer
-// into a plain struct: refusal 0 is success, and zeros stand beside a refusal. include/xewumbal.h is for the host.
+// into a plain struct: refusal 0 is success, and zeros stand beside a refusal. include/xewumbal.h is for the host (D-76).
 mod answers;
 
 ghost use mathlib.Core.Path.{_≡_};
@@ -8,7 +8,7 @@ ghost use Rattle.xewumbal.specs.Answers.{shell2Answer, shell4Answer, ope
 ghost use Rattle.xewumbal.specs.Answers.{prefactorsAnswer, evaluateAnswer};
 use kind::Kind;
 
-// Raised when a struct, a meaning or an answer changes. The header and the binding have the same.
+// Raised when a struct, a meaning or an answer changes. The header and the binding have the same (D-85).
 pub const VERSION: u32 = 1;
 
 #[repr(C)]
@@ -61,7 +61,7 @@ pub struct xew_opened {
     pub refusal: u8,
 }
 
-// `found` is 0 for a refusal, 1 for a term, 2 for the end.
+// `found` is 0 for a refusal, 1 for a term, 2 for the end (D-78).
 #[repr(C)]
 pub struct xew_step {
     pub next: xew_cursor,

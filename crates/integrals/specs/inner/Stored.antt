@@ -38,7 +38,7 @@ addendOf Nuclear kinetic table aux boys t = nuclearOf table aux boys t
 abbrev pub againFrom : List ℕ → Cursor → List Term
 againFrom s cursor = termsAgain s (cursor .place) (cursor .left)
 
--- the value of the terms from a cursor on; a cursor that the judge gives has a kind
+-- the value of the terms from a cursor on; a cursor that the judge gives has a kind (D-63)
 unfoldable pub ofCursor : Named → Cursor → Centre → Centre → Centre → Centre → Float → List Float → List ℕ → Value
 ofCursor (named.Is k) cursor a b c d aux boys roll = valueOf k (cursor .l) a b c d aux boys (againFrom roll cursor)
 ofCursor named.Unknown cursor a b c d aux boys roll = Refused 7 0

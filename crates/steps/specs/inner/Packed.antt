@@ -1,4 +1,4 @@
--- Steps on a word: the orders of a term packed four bits each, the first lowest.
+-- Steps on a word: the orders of a term packed four bits each, the first lowest (D-33).
 use Prim.Native.Nat.{ℕ, zero, suc, _+_, _*_, _/_, _%_, _^_}
 use mathlib.Core.List.{List, [], _∷_}
 use lib.ListN.{getD}
@@ -37,7 +37,7 @@ fallWord nothing c x = 0
 abbrev pub moved : Kind → CentreName → Axis → Branch → Move
 moved k c x b = record { falls = fallWord (b .falls) c x; adds = b .adds; raises = b .raises; kind = pick (b .as-overlap) Overlap k }
 
--- no branch has such a number
+-- no branch has such a number (D-34)
 abbrev pub noBranch : Branch
 noBranch = nothing adds 0
 
