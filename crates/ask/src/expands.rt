@@ -1,101 +1,42 @@
-// `expand KIND o1 .. o12` and `expand KIND o1 .. o12 BUFFER START`: the roll of a request.
+// `expand KIND o1 .. o12 ..`: the roll of a request.
+use crate::answers;
 use crate::lent;
-use crate::output;
-use crate::words;
+use crate::questions;
+use answer::Told;
 use expansion::Expanded;
 use kind::Kind;
-use words::Byte;
-use words::Filled;
-use words::Place;
+use questions::byte;
 
-pub(crate) fn answer(
-    line: &[u8],
-    at: usize,
-    space: &mut [u8],
-    out: &mut [u8],
-    used: usize,
-) -> usize {
-    let Byte::Is(kind, next) = words::read_byte(line, at) else {
-        return output::unknown(out, used);
-    };
+// The most numbers of a question.
+const NUMBERS: usize = 16;
+
+// The orders of a request, which follow its kind.
+fn orders(n: [u64; NUMBERS]) -> [u8; Kind::ORDERS] {
     let mut orders = [0; Kind::ORDERS];
-    let Filled::Till(end) = words::read_bytes(line, next, &mut orders) else {
-        return output::unknown(out, used);
-    };
-    if end == line.len() {
-        return expanded(kind, orders, space, 0, out, used);
+    let mut i = 0;
+    while i < Kind::ORDERS {
+        orders[i] = byte(n[i + 1]);
+        i += 1;
     }
-    with_buffer(kind, orders, line, end, space, out, used)
+    orders
 }
 
-fn with_buffer(
-    kind: u8,
-    orders: [u8; Kind::ORDERS],
-    line: &[u8],
-    at: usize,
-    space: &mut [u8],
-    out: &mut [u8],
-    used: usize,
-) -> usize {
-    let Place::Is(size, next) = words::read_place(line, at) else {
-        return output::unknown(out, used);
-    };
-    let Place::Is(start, end) = words::read_place(line, next) else {
-        return output::unknown(out, used);
-    };
-    if end != line.len() {
-        return output::unknown(out, used);
+// The roll in a lent buffer of `size` bytes.
+pub(crate) fn roll(n: [u64; NUMBERS], size: usize, start: usize, lent: &mut [u8]) -> Told {
+    if lent.len() < size {
+        return answers::unknown();
     }
-    sized(kind, orders, size, start, space, out, used)
-}
-
-// The roll in a lent buffer of `size` bytes, where there are so many to lend.
-fn sized(
-    kind: u8,
-    orders: [u8; Kind::ORDERS],
-    size: usize,
-    start: usize,
-    space: &mut [u8],
-    out: &mut [u8],
-    used: usize,
-) -> usize {
-    if space.len() < size {
-        return output::unknown(out, used);
-    }
-    expanded(kind, orders, &mut space[0..size], start, out, used)
-}
-
-fn expanded(
-    kind: u8,
-    orders: [u8; Kind::ORDERS],
-    lent: &mut [u8],
-    start: usize,
-    out: &mut [u8],
-    used: usize,
-) -> usize {
-    lent::fill(lent);
-    let answer = expansion::expand(kind, orders, lent, start);
+    let room = &mut lent[0..size];
+    lent::fill(room);
+    let answer = expansion::expand(byte(n[0]), orders(n), room, start);
     match answer {
-        Expanded::Roll(n, terms) => shown(lent, start, n, terms, out, used),
-        Expanded::Refused(refusal) => lent::refused(lent, refusal, out, used),
+        Expanded::Roll(long, terms) => lent::owned(
+            room,
+            start,
+            long,
+            answers::ROLL,
+            [long as u64, terms as u64, 0, 0],
+        ),
+        Expanded::Refused(refusal) => lent::refused(room, refusal, 0),
     }
-}
-
-// A roll of `n` bytes from `start` on.
-fn shown(lent: &[u8], start: usize, n: usize, terms: u32, out: &mut [u8], used: usize) -> usize {
-    let roll = lent::own(lent, start, n);
-    if roll.len() == 0 {
-        return output::spoiled(out, used);
-    }
-    let counted = counts(n, terms, out, used);
-    let listed = output::hex(out, counted, roll);
-    output::say(out, listed, b"\n")
-}
-
-fn counts(n: usize, terms: u32, out: &mut [u8], used: usize) -> usize {
-    let named = output::say(out, used, b"roll");
-    let long = output::number(out, named, n as u64);
-    let parted = output::say(out, long, b" terms");
-    let counted = output::number(out, parted, terms as u64);
-    output::say(out, counted, b" ")
 }

@@ -1,10 +1,12 @@
 // The buffer that a question lends to the library: every byte is filled before, and looked at afterwards.
-use crate::floats;
-use crate::output;
+use crate::answers;
+use answer::Told;
 
 const FILL: u8 = 0xa5;
 // The bits of a float that is filled.
 const FILL_BITS: u64 = 0xa5a5_a5a5_a5a5_a5a5;
+// The most numbers of an answer.
+const NUMBERS: usize = 4;
 
 pub(crate) fn fill(space: &mut [u8]) {
     let mut i = 0;
@@ -15,7 +17,7 @@ pub(crate) fn fill(space: &mut [u8]) {
 }
 
 // Whether each byte is as it was filled.
-pub(crate) fn is_kept(space: &[u8]) -> bool {
+fn is_kept(space: &[u8]) -> bool {
     let mut changed: u8 = 0;
     let mut i = 0;
     while i < space.len() {
@@ -25,33 +27,42 @@ pub(crate) fn is_kept(space: &[u8]) -> bool {
     changed == 0
 }
 
-// The `n` bytes from `start` on, where they lie in the buffer and every other byte is as it was filled; else no bytes.
-pub(crate) fn own(lent: &[u8], start: usize, n: usize) -> &[u8] {
+// The answer that has the `n` bytes from `start` on, where they lie in the buffer and every other byte is as it was filled.
+pub(crate) fn owned(
+    lent: &[u8],
+    start: usize,
+    n: usize,
+    form: usize,
+    numbers: [u64; NUMBERS],
+) -> Told {
+    if n == 0 {
+        return answers::spoiled();
+    }
     if lent.len() < start {
-        return &lent[0..0];
+        return answers::spoiled();
     }
     if lent.len() - start < n {
-        return &lent[0..0];
+        return answers::spoiled();
     }
     let end = start + n;
     if is_kept(&lent[0..start]) {
         if is_kept(&lent[end..]) {
-            return &lent[start..end];
+            return answers::bytes(form, numbers, start, end);
         }
     }
-    &lent[0..0]
+    answers::spoiled()
 }
 
 // The answer to a refusal, which changes no byte.
-pub(crate) fn refused(lent: &[u8], refusal: u8, out: &mut [u8], used: usize) -> usize {
+pub(crate) fn refused(lent: &[u8], refusal: u8, place: usize) -> Told {
     if is_kept(lent) {
-        return output::refused(out, used, refusal);
+        return answers::refused(refusal, place);
     }
-    output::spoiled(out, used)
+    answers::spoiled()
 }
 
 pub(crate) fn fill_floats(lent: &mut [f64]) {
-    let fill = floats::of_bits(FILL_BITS);
+    let fill = question::of_bits(FILL_BITS);
     let mut i = 0;
     while i < lent.len() {
         lent[i] = fill;
@@ -64,8 +75,23 @@ pub(crate) fn are_kept(lent: &[f64]) -> bool {
     let mut changed: u64 = 0;
     let mut i = 0;
     while i < lent.len() {
-        changed = changed | (floats::bits(lent[i]) ^ FILL_BITS);
+        changed = changed | (answer::bits(lent[i]) ^ FILL_BITS);
         i += 1;
     }
     changed == 0
+}
+
+// Lays floats down from a place on, where they have room.
+pub(crate) fn lay(room: &mut [f64], at: usize, floats: &[f64]) {
+    if room.len() < at {
+        return;
+    }
+    if room.len() - at < floats.len() {
+        return;
+    }
+    let mut i = 0;
+    while i < floats.len() {
+        room[at + i] = floats[i];
+        i += 1;
+    }
 }

@@ -1,102 +1,95 @@
 // Answers the question language of docs/QUESTIONS.md: one line asks, one line answers.
 //
-// Questions come from standard input until it ends. A question's own module reads its words, calls the library and
-// writes the answer; this file knows the questions' names alone.
-mod components;
-mod evals;
+// Questions come from standard input until it ends. `questions` has their shapes and calls the library; `answers` has the
+// forms of what is said.
+ghost use Prim.Native.Nat.{_<_};
+
+mod answers;
 mod expands;
-mod floats;
-mod input;
 mod lent;
 mod lists;
 mod matrices;
-mod output;
+mod questions;
 mod rolls;
 mod shells;
-mod tables;
-mod words;
+mod values;
 
-use input::MOST_LINE;
+use question::Found;
+use question::State;
 
 // The input's buffer: a longest line, and room to read on.
-const INPUT: usize = MOST_LINE + 65536;
-// The most bytes that a question can have lent to the library.
+const INPUT: usize = 2162688;
+// The most bytes of a roll that is given, and the most that a question can have lent to the library.
 const LENT: usize = 1048576;
+// The most floats that a question can have.
+const FLOATS: usize = 66561;
+// Room for J and K.
+const SUMS: usize = 2048;
 
 const OUTPUT: usize = 65536;
 
-// A line with its answer's line feed. A line that begins with `#` and an empty line answer themselves.
-pub(crate) fn answered(line: &[u8], space: &mut [u8], out: &mut [u8], used: usize) -> usize {
-    if MOST_LINE < line.len() {
-        return output::unknown(out, used);
+// Reads and answers until the input ends. A proved loop has to end, so it counts down from a number that no run uses up.
+fn serve(
+    input: &mut [u8],
+    given: &mut [u8],
+    floats: &mut [f64],
+    lent: &mut [u8],
+    sums: &mut [f64],
+    out: &mut [u8],
+) {
+    let mut s = question::begin();
+    let mut used = 0;
+    let mut turns = u64::MAX;
+    while turns > 0 {
+        s = question::next(input, s);
+        used = turn(input, s, given, floats, lent, sums, out, used);
+        turns = left(s, turns);
     }
-    if line.len() == 0 {
-        return output::say(out, used, b"\n");
-    }
-    if line[0] == b'#' {
-        let said = output::say(out, used, line);
-        return output::say(out, said, b"\n");
-    }
-    question(line, space, out, used)
 }
 
-fn question(line: &[u8], space: &mut [u8], out: &mut [u8], used: usize) -> usize {
-    let at = words::name_end(line);
-    let name = &line[0..at];
-    if words::is(name, b"shell") {
-        return shells::answer(line, at, space, out, used);
-    }
-    if words::is(name, b"component") {
-        return components::answer(line, at, out, used);
-    }
-    if words::is(name, b"expand") {
-        return expands::answer(line, at, space, out, used);
-    }
-    if words::is(name, b"list") {
-        return lists::answer(line, at, space, out, used);
-    }
-    of_rolls(name, line, at, space, out, used)
-}
-
-fn of_rolls(
-    name: &[u8],
-    line: &[u8],
-    at: usize,
-    space: &mut [u8],
+// A line is read, answered, and its answer is printed.
+fn turn(
+    input: &[u8],
+    s: State,
+    given: &mut [u8],
+    floats: &mut [f64],
+    lent: &mut [u8],
+    sums: &mut [f64],
     out: &mut [u8],
     used: usize,
 ) -> usize {
-    if words::is(name, b"open") {
-        return rolls::open(line, at, space, out, used);
-    }
-    if words::is(name, b"check") {
-        return rolls::check(line, at, space, out, used);
-    }
-    if words::is(name, b"next") {
-        return rolls::next(line, at, space, out, used);
-    }
-    if words::is(name, b"eval") {
-        return evals::answer(line, at, space, out, used);
-    }
-    of_floats(name, line, at, out, used)
+    let line = question::line(input, s);
+    let asked = questions::read(line, given, floats);
+    let told = questions::answer(s, asked, given, floats, lent, sums);
+    answers::print(told, line, lent, sums, out, used)
 }
 
-fn of_floats(name: &[u8], line: &[u8], at: usize, out: &mut [u8], used: usize) -> usize {
-    if words::is(name, b"table") {
-        return tables::answer(line, at, out, used);
+fn left(s: State, turns: u64) -> u64
+    requires { ⌜ 0 < turns ⌝ }
+    ensures { λ r. ⌜ r < turns ⌝ }
+{
+    let found = s.found;
+    match found {
+        Found::Line => turns - 1,
+        Found::Lost => turns - 1,
+        Found::More => turns - 1,
+        Found::End => 0,
     }
-    if words::is(name, b"jk") {
-        return matrices::plain(line, at, out, used);
-    }
-    if words::is(name, b"jkl") {
-        return matrices::sized(line, at, out, used);
-    }
-    output::unknown(out, used)
 }
 
 fn main() {
-    let mut bytes = [0u8; INPUT];
-    let mut space = [0u8; LENT];
+    let mut input = [0u8; INPUT];
+    let mut given = [0u8; LENT];
+    let mut floats = [0.0; FLOATS];
+    let mut lent = [0u8; LENT];
+    let mut sums = [0.0; SUMS];
     let mut out = [0u8; OUTPUT];
-    input::serve(&mut bytes, &mut space, &mut out);
+    serve(
+        &mut input,
+        &mut given,
+        &mut floats,
+        &mut lent,
+        &mut sums,
+        &mut out,
+    );
 }

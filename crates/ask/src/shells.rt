@@ -1,76 +1,60 @@
-// `shell M` and `shell M BUFFER START`: a shell's list.
+// `shell M ..` and `component M1 M2 ..`: a shell's list, and one component of a pair or of four shells.
+use crate::answers;
 use crate::lent;
-use crate::output;
-use crate::words;
+use crate::questions;
+use answer::Told;
+use kind::Kind;
+use questions::byte;
+use questions::word;
+use shell::Component;
 use shell::Listed;
-use words::Byte;
-use words::Place;
+use shell::Sought;
 
-// What the first form lends, from place 0 on: more than any list needs.
-const PLAIN: usize = 256;
+// The most numbers of a question.
+const NUMBERS: usize = 16;
+// The orders of a pair of shells.
+const PAIR: usize = 6;
 
-pub(crate) fn answer(
-    line: &[u8],
-    at: usize,
-    space: &mut [u8],
-    out: &mut [u8],
-    used: usize,
-) -> usize {
-    let Byte::Is(m, next) = words::read_byte(line, at) else {
-        return output::unknown(out, used);
-    };
-    if next == line.len() {
-        return sized(m, PLAIN, 0, space, out, used);
+// The list in a lent buffer of `size` bytes.
+pub(crate) fn list(n: [u64; NUMBERS], size: usize, start: usize, lent: &mut [u8]) -> Told {
+    if lent.len() < size {
+        return answers::unknown();
     }
-    with_buffer(m, line, next, space, out, used)
-}
-
-fn with_buffer(
-    m: u8,
-    line: &[u8],
-    at: usize,
-    space: &mut [u8],
-    out: &mut [u8],
-    used: usize,
-) -> usize {
-    let Place::Is(size, next) = words::read_place(line, at) else {
-        return output::unknown(out, used);
-    };
-    let Place::Is(start, end) = words::read_place(line, next) else {
-        return output::unknown(out, used);
-    };
-    if end == line.len() {
-        return sized(m, size, start, space, out, used);
-    }
-    output::unknown(out, used)
-}
-
-// The list in a lent buffer of `size` bytes, where there are so many to lend.
-fn sized(m: u8, size: usize, start: usize, space: &mut [u8], out: &mut [u8], used: usize) -> usize {
-    if space.len() < size {
-        return output::unknown(out, used);
-    }
-    listed(m, &mut space[0..size], start, out, used)
-}
-
-fn listed(m: u8, lent: &mut [u8], start: usize, out: &mut [u8], used: usize) -> usize {
-    lent::fill(lent);
-    let answer = shell::get_ijk_list(m, lent, start);
+    let room = &mut lent[0..size];
+    lent::fill(room);
+    let answer = shell::get_ijk_list(byte(n[0]), room, start);
     match answer {
-        Listed::Bytes(n, _) => shown(lent, start, n, out, used),
-        Listed::Refused(refusal) => lent::refused(lent, refusal, out, used),
+        Listed::Bytes(long, _) => {
+            lent::owned(room, start, long, answers::SHELL, [long as u64, 0, 0, 0])
+        }
+        Listed::Refused(refusal) => lent::refused(room, refusal, 0),
     }
 }
 
-// A list of `n` bytes from `start` on.
-fn shown(lent: &[u8], start: usize, n: usize, out: &mut [u8], used: usize) -> usize {
-    let list = lent::own(lent, start, n);
-    if list.len() == 0 {
-        return output::spoiled(out, used);
+pub(crate) fn pair(n: [u64; NUMBERS], lent: &mut [u8]) -> Told {
+    component(
+        shell::get_shell2(byte(n[0]), byte(n[1]), word(n[2])),
+        PAIR,
+        lent,
+    )
+}
+
+pub(crate) fn four(n: [u64; NUMBERS], lent: &mut [u8]) -> Told {
+    let c = shell::get_shell4(byte(n[0]), byte(n[1]), byte(n[2]), byte(n[3]), word(n[4]));
+    component(c, Kind::ORDERS, lent)
+}
+
+// The component's first `n` orders, or the refusal.
+fn component(c: Component, n: usize, lent: &mut [u8]) -> Told {
+    let found = c.found;
+    let orders = c.orders;
+    match found {
+        Sought::Component => orders_told(orders, n, lent),
+        Sought::Refused(refusal) => answers::refused(refusal, 0),
     }
-    let named = output::say(out, used, b"shell ");
-    let counted = output::decimal(out, named, n as u64);
-    let parted = output::say(out, counted, b" ");
-    let listed = output::hex(out, parted, list);
-    output::say(out, listed, b"\n")
+}
+
+fn orders_told(orders: [u8; Kind::ORDERS], n: usize, lent: &mut [u8]) -> Told {
+    text::put(lent, 0, &orders);
+    answers::bytes(answers::COMPONENT, [0; 4], 0, n)
 }

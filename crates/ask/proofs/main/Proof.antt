@@ -1,6 +1,7 @@
 -- `main` is safe: each buffer has the length that its array is made with. Assumes nothing.
-use borrow.Author.Needs.{needs}
 use Rattle.laws.proofs.Lists.{array-length}
+use borrow.Author.Needs.{needs}
+use borrow.Author.Needs.{needs}
 use Rattle.ask.proofs.main.Statement.{statement}
 use Rattle.ask.proofs.main.Tie as tie
 
@@ -12,6 +13,15 @@ slice-aggregate-serve-2 c = array-length 1048576
 
 slice-aggregate-serve-3 : tie.Need-slice-aggregate-serve-3
 slice-aggregate-serve-3 c = search needs
+
+slice-aggregate-serve-4 : tie.Need-slice-aggregate-serve-4
+slice-aggregate-serve-4 c = array-length 1048576
+
+slice-aggregate-serve-5 : tie.Need-slice-aggregate-serve-5
+slice-aggregate-serve-5 c = search needs
+
+slice-aggregate-serve-6 : tie.Need-slice-aggregate-serve-6
+slice-aggregate-serve-6 c = search needs
 
 serve-requires : tie.Need-serve-requires
 serve-requires c κs = search needs
@@ -26,5 +36,8 @@ main-spec =
     slice-aggregate-serve
     slice-aggregate-serve-2
     slice-aggregate-serve-3
+    slice-aggregate-serve-4
+    slice-aggregate-serve-5
+    slice-aggregate-serve-6
     serve-requires
     returns)

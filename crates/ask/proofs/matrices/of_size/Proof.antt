@@ -7,11 +7,11 @@ use Rattle.ask.proofs.matrices.of_size.Tie as tie
 mul-square : tie.Need-mul-square
 mul-square c = search square-fits
 
-mul-t3 : tie.Need-mul-t3
-mul-t3 c = search fourth-fits
+mul-tensor : tie.Need-mul-tensor
+mul-tensor c = search fourth-fits
 
 returns : tie.Need-returns
 returns c = search needs
 
 pub of-size-spec : {M : Type 1} → statement M
-of-size-spec = tie.close (tie.spec mul-square mul-t3 returns)
+of-size-spec = tie.close (tie.spec mul-square mul-tensor returns)

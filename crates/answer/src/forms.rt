@@ -1,0 +1,144 @@
+// The forms of answers: a table with a line for each. A letter stands for itself; a mark, for what the answer tells.
+ghost use Prim.Native.Nat.{_<_};
+use crate::output;
+
+// The most numbers of an answer.
+const NUMBERS: usize = 4;
+
+// What an answer tells: its form's number, the numbers for the form's marks, the part of the bytes that are its own, how
+// many floats it has, and how many of them stand before the rest.
+pub struct Told {
+    pub form: usize,
+    pub numbers: [u64; NUMBERS],
+    pub start: usize,
+    pub end: usize,
+    pub floats: usize,
+    pub first: usize,
+}
+
+// Prints an answer after the `used` bytes that wait in `out`. `line` is what it answers.
+pub fn print(
+    table: &[u8],
+    t: Told,
+    line: &[u8],
+    bytes: &[u8],
+    floats: &[f64],
+    out: &mut [u8],
+    used: usize,
+) -> usize {
+    let own = part(bytes, t.start, t.end);
+    let first = floats_of(floats, 0, t.first);
+    let others = floats_of(floats, t.first, t.floats);
+    let numbers = t.numbers;
+    let mut next = used;
+    let mut k = 0;
+    let mut i = form_start(table, t.form);
+    while i < table.len() {
+        let n = number_at(numbers, k);
+        next = piece(table[i], n, line, own, first, others, out, next);
+        k = counted(table[i], k);
+        i = on(table[i], i, table.len());
+    }
+    next
+}
+
+// Where the form with this number begins; the table's end where there is none.
+fn form_start(table: &[u8], form: usize) -> usize {
+    let mut left = form;
+    let mut i = 0;
+    while i < table.len() {
+        if left == 0 {
+            return i;
+        }
+        left = less(table[i], left);
+        i += 1;
+    }
+    i
+}
+
+// A form ends in a line feed.
+fn less(letter: u8, left: usize) -> usize {
+    if letter == b'\n' {
+        if 0 < left {
+            return left - 1;
+        }
+    }
+    left
+}
+
+// The next letter; the table's end after a line feed.
+fn on(letter: u8, i: usize, all: usize) -> usize
+    requires { ⌜ i < all ⌝ }
+    ensures { λ r. ⌜ i < r ⌝ }
+{
+    if letter == b'\n' {
+        return all;
+    }
+    i + 1
+}
+
+fn number_at(numbers: [u64; NUMBERS], k: usize) -> u64 {
+    if k < NUMBERS {
+        return numbers[k];
+    }
+    0
+}
+
+// How many numbers are told after a letter.
+fn counted(letter: u8, k: usize) -> usize {
+    if NUMBERS <= k {
+        return k;
+    }
+    match letter {
+        b'#' => k + 1,
+        b'$' => k + 1,
+        _ => k,
+    }
+}
+
+// # is a number, $ one in sixteen hexadecimal digits; % the bytes in hexadecimal, ~ in decimal, each after a blank, | as a
+// text; < the floats that stand first, > the others, each after a blank; ^ the line. At ! what waits goes out.
+fn piece(
+    letter: u8,
+    n: u64,
+    line: &[u8],
+    bytes: &[u8],
+    first: &[f64],
+    others: &[f64],
+    out: &mut [u8],
+    used: usize,
+) -> usize {
+    match letter {
+        b'#' => output::decimal(out, used, n),
+        b'$' => output::hex_word(out, used, n),
+        b'%' => output::hex(out, used, bytes),
+        b'~' => output::numbers(out, used, bytes),
+        b'|' => output::barred(out, used, bytes),
+        b'<' => output::floats(out, used, first),
+        b'>' => output::floats(out, used, others),
+        b'^' => output::barred(out, used, line),
+        b'!' => output::flush(out, used),
+        _ => output::letter(out, used, letter),
+    }
+}
+
+// The bytes from a place to another; none where they don't lie there.
+fn part(bytes: &[u8], start: usize, end: usize) -> &[u8] {
+    if end < start {
+        return &bytes[0..0];
+    }
+    if bytes.len() < end {
+        return &bytes[0..0];
+    }
+    &bytes[start..end]
+}
+
+fn floats_of(floats: &[f64], start: usize, end: usize) -> &[f64] {
+    if end < start {
+        return &floats[0..0];
+    }
+    if floats.len() < end {
+        return &floats[0..0];
+    }
+    &floats[start..end]
+}

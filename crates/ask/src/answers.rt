@@ -1,0 +1,138 @@
+// The answers: the form of each, and what a question's module tells.
+use answer::Told;
+use question::Found;
+use question::State;
+
+// The lines of the table below, in its order.
+pub(crate) const ECHO: usize = 0;
+
+pub(crate) const UNKNOWN: usize = 1;
+
+pub(crate) const SPOILED: usize = 2;
+
+pub(crate) const REFUSED: usize = 3;
+
+pub(crate) const REFUSED_AT: usize = 4;
+
+pub(crate) const ROLL: usize = 5;
+
+pub(crate) const SHELL: usize = 6;
+
+pub(crate) const COMPONENT: usize = 7;
+
+pub(crate) const LISTING: usize = 8;
+
+pub(crate) const OPENED: usize = 9;
+
+pub(crate) const TERM: usize = 10;
+
+pub(crate) const END: usize = 11;
+
+pub(crate) const VALUE: usize = 12;
+
+pub(crate) const TABLE: usize = 13;
+
+pub(crate) const MATRICES: usize = 14;
+
+pub(crate) const WAIT: usize = 15;
+
+// The most numbers of an answer.
+const NUMBERS: usize = 4;
+// The refusal that tells a place of a roll.
+const BROKEN: u8 = 7;
+
+// # is a number, $ a float's bits, % bytes in hexadecimal, ~ bytes in decimal, | a text, < and > floats, ^ the line itself;
+// at ! what waits goes out.
+pub(crate) fn print(
+    t: Told,
+    line: &[u8],
+    bytes: &[u8],
+    floats: &[f64],
+    out: &mut [u8],
+    used: usize,
+) -> usize {
+    answer::print(
+        b"^
+?
+spoiled
+refused #
+refused # at #
+roll # terms # %
+shell # %
+component %
+listing |
+opened # # #~ place #
+term # #~ next # #
+end
+value $
+table<
+J< K>
+!",
+        t,
+        line,
+        bytes,
+        floats,
+        out,
+        used,
+    )
+}
+
+// The answer to what was heard: a line that is too long is no question. Where no line has come, what waits goes out, since
+// nothing says when more will come.
+pub(crate) fn heard(s: State, t: Told) -> Told {
+    let found = s.found;
+    match found {
+        Found::Line => t,
+        Found::Lost => unknown(),
+        Found::More => plain(WAIT),
+        Found::End => plain(WAIT),
+    }
+}
+
+// The words of a form alone.
+pub(crate) fn plain(form: usize) -> Told {
+    bytes(form, [0; NUMBERS], 0, 0)
+}
+
+// The answer to a line that is no question.
+pub(crate) fn unknown() -> Told {
+    plain(UNKNOWN)
+}
+
+// The answer where the library changed a byte that was not its own.
+pub(crate) fn spoiled() -> Told {
+    plain(SPOILED)
+}
+
+// A refusal, with its place where a roll breaks a rule.
+pub(crate) fn refused(refusal: u8, place: usize) -> Told {
+    let numbers = [refusal as u64, place as u64, 0, 0];
+    if refusal == BROKEN {
+        return bytes(REFUSED_AT, numbers, 0, 0);
+    }
+    bytes(REFUSED, numbers, 0, 0)
+}
+
+// Numbers, and the bytes that were lent from a place to another.
+pub(crate) fn bytes(form: usize, numbers: [u64; NUMBERS], start: usize, end: usize) -> Told {
+    Told {
+        form,
+        numbers,
+        start,
+        end,
+        first: 0,
+        floats: 0,
+    }
+}
+
+// The first floats of those that were lent, and the others of so many.
+pub(crate) fn floats(form: usize, first: usize, floats: usize) -> Told {
+    Told {
+        form,
+        numbers: [0; NUMBERS],
+        start: 0,
+        end: 0,
+        first,
+        floats,
+    }
+}

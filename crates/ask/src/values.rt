@@ -1,0 +1,84 @@
+// `eval ROLL A B C D AUX F0 F1 ..` and `table KIND A B C D`: the integral of a roll, and the prefactor table of a kind.
+ghost use Prim.Native.Nat.{_+_, _≤_};
+ghost use lib.ListN.{length};
+use crate::answers;
+use crate::lent;
+use crate::questions;
+use answer::Told;
+use geometry::Centre;
+use geometry::Tabled;
+use integrals::Value;
+use kind::Kind;
+use questions::byte;
+
+// The most numbers of a question.
+const NUMBERS: usize = 16;
+// The floats of four centres.
+const CENTRES: usize = 16;
+// The most Boys numbers that a question can have.
+const MOST_BOYS: usize = 65536;
+
+// The centre whose four floats stand from a place on.
+fn centre(floats: &[f64], at: usize) -> Centre
+    requires { ⌜ at + 4 ≤ length (now floats) ⌝ }
+{
+    Centre {
+        x: floats[at],
+        y: floats[at + 1],
+        z: floats[at + 2],
+        exponent: floats[at + 3],
+    }
+}
+
+pub(crate) fn value(roll: &[u8], floats: &[f64]) -> Told {
+    if floats.len() <= CENTRES {
+        return answers::unknown();
+    }
+    let boys = &floats[CENTRES + 1..];
+    if MOST_BOYS < boys.len() {
+        return answers::unknown();
+    }
+    let a = centre(floats, 0);
+    let b = centre(floats, 4);
+    let c = centre(floats, 8);
+    let d = centre(floats, 12);
+    let value = integrals::evaluate(roll, a, b, c, d, floats[CENTRES], boys);
+    match value {
+        Value::Is(x) => value_told(x),
+        Value::Refused(refusal, place) => answers::refused(refusal, place),
+    }
+}
+
+// A value is finite where it comes back.
+fn value_told(x: f64) -> Told {
+    if geometry::finite(x) {
+        return answers::bytes(answers::VALUE, [answer::bits(x), 0, 0, 0], 0, 0);
+    }
+    answers::spoiled()
+}
+
+pub(crate) fn table(n: [u64; NUMBERS], floats: &[f64], sums: &mut [f64]) -> Told {
+    if floats.len() != CENTRES {
+        return answers::unknown();
+    }
+    let a = centre(floats, 0);
+    let b = centre(floats, 4);
+    let c = centre(floats, 8);
+    let d = centre(floats, 12);
+    let table = geometry::prefactors(byte(n[0]), a, b, c, d);
+    let found = table.found;
+    let entries = table.entries;
+    match found {
+        Tabled::Given => table_told(entries, sums),
+        Tabled::Refused(refusal) => answers::refused(refusal, 0),
+    }
+}
+
+// The entries are finite where they come back.
+fn table_told(entries: [f64; Kind::TABLE], sums: &mut [f64]) -> Told {
+    if geometry::all_finite(&entries) {
+        lent::lay(sums, 0, &entries);
+        return answers::floats(answers::TABLE, Kind::TABLE, Kind::TABLE);
+    }
+    answers::spoiled()
+}
