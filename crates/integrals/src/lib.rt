@@ -31,6 +31,7 @@ fn kinetic_of(a: Centre, b: Centre) -> f64
     e * (3.0 - 2.0 * e * ab)
 }
 
+// The sum of the terms, with the start that the centres give.
 fn integral(
     terms: Terms,
     a: Centre,

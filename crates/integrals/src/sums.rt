@@ -27,6 +27,7 @@ enum Adds {
     Nuclear,
 }
 
+// A float of a lent slice, 0.0 past its end.
 fn float_at(floats: &[f64], at: usize) -> f64
     ensures { λ r. ⌜ r ≡ getD (now (floats .entry)) at zero ⌝ }
 {
@@ -77,6 +78,7 @@ fn kinetic_start(roll: &[u8], from: usize, end: usize, kinetic: f64) -> f64
     1.0
 }
 
+// Where g starts.
 fn start_of(adds: Adds, roll: &[u8], from: usize, end: usize, kinetic: f64) -> f64
     requires { ⌜ end ≤ length (now roll) ⌝ }
     ensures { λ r. ⌜ r ≡ startOf adds kinetic (between (now (roll .entry)) from end) ⌝ }
@@ -234,6 +236,7 @@ fn get_coulomb(
     sum
 }
 
+// The sum of the terms' kind.
 pub(crate) fn total(
     terms: Terms,
     kinetic: f64,

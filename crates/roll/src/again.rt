@@ -21,6 +21,7 @@ pub struct Head {
     pub end: usize,
 }
 
+// The number at a place; where none reads, 0 and the same place.
 fn number_at(roll: &[u8], at: usize) -> Seen
     ensures { λ r. ⌜ r ≡ seenAt (now (roll .entry)) at ⌝ }
 {
@@ -84,6 +85,7 @@ fn is_short(roll: &[u8], at: usize) -> bool
     false
 }
 
+// The Boys order of such a term.
 fn short_boys(roll: &[u8], at: usize) -> usize
     requires { ⌜ Short (now roll) at ⌝ }
     ensures { λ r. ⌜ r ≡ headAt (now (roll .entry)) at .boys ⌝ }
@@ -91,6 +93,7 @@ fn short_boys(roll: &[u8], at: usize) -> usize
     wide(roll[at + 1]) as usize
 }
 
+// The place after such a term.
 fn short_end(roll: &[u8], at: usize) -> usize
     requires { ⌜ Short (now roll) at ⌝ }
     ensures { λ r. ⌜ r ≡ headAt (now (roll .entry)) at .end ⌝ }

@@ -32,6 +32,7 @@ pub struct Step {
     pub next: Cursor,
 }
 
+// What stands beside a refusal and beside the end.
 pub(crate) fn no_cursor() -> Cursor
     ensures { λ r. ⌜ r ≡ noCursor ⌝ }
 {
@@ -43,6 +44,7 @@ pub(crate) fn no_cursor() -> Cursor
     }
 }
 
+// A refusal, with zeros beside it.
 fn refused_step(refusal: u8, place: usize) -> Step
     ensures { λ r. ⌜ r ≡ refusedStep refusal place ⌝ }
 {
@@ -71,6 +73,7 @@ fn end_step(roll: &[u8], place: usize) -> Step
     }
 }
 
+// The term that was read, and the cursor behind it.
 fn term_step(c: Cursor, read: ReadTerm) -> Step
     requires { ⌜ 1 ≤ c .left ⌝ }
     ensures { λ r. ⌜ r ≡ steppedOver c read ⌝ }
@@ -103,6 +106,7 @@ impl Cursor {
         }
     }
 
+    // The same, of a kind that has a name.
     fn next_of(self, roll: &[u8], kind: Kind) -> Step
         ensures { λ r. ⌜ r ≡ stepAs (Named.Is kind) self (now (roll .entry)) ⌝ }
     {

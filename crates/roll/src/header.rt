@@ -12,6 +12,7 @@ use crate::field::within;
 use kind::Kind;
 use kind::Named;
 
+// Whether a roll opens; a refusal has its number and place.
 pub enum Opening {
     Roll,
     Refused(u8, usize),
@@ -30,6 +31,7 @@ struct ReadOrders {
     values: [u8; Kind::ORDERS],
 }
 
+// What stands beside a refusal.
 fn no_orders(refusal: u8, place: usize) -> ReadOrders
     ensures { λ r. ⌜ r ≡ heldOrders (refused refusal place) ⌝ }
 {
@@ -78,6 +80,7 @@ fn orders(roll: &[u8], at: usize, n: usize) -> ReadOrders
     }
 }
 
+// A refusal, with zeros beside it.
 pub(crate) fn refused_roll(refusal: u8, place: usize) -> Opened
     ensures { λ r. ⌜ r ≡ refusedOpened refusal place ⌝ }
 {

@@ -37,6 +37,7 @@ fn judge_kind(roll: &[u8], opened: Opened, kind: Kind) -> Opened
     }
 }
 
+// The terms of an opened roll, by the kind that its cursor names.
 fn judge(roll: &[u8], opened: Opened) -> Opened
     requires { ⌜ Honest (opened .cursor) (now roll) ⌝ }
     ensures { λ r. ⌜ r ≡ judgedAs (kindOf (opened .cursor .kind)) opened (opened .cursor) (now (roll .entry)) ⌝ }

@@ -79,6 +79,7 @@ fn each_over(roll: &[u8], at: usize, count: u32, table: u32) -> Field
     Field::Is(0, place)
 }
 
+// Goes over a term from its prefactor count on.
 fn count_over(roll: &[u8], at: usize, most: u32, table: u32) -> Field
     requires { ⌜ 1 ≤ table ⌝ }
     ensures { λ r. ⌜ r ≡ countOver (now (roll .entry)) at most table ⌝ }
@@ -89,6 +90,7 @@ fn count_over(roll: &[u8], at: usize, most: u32, table: u32) -> Field
     }
 }
 
+// Goes over a term from its Boys order on.
 fn boys_over(roll: &[u8], at: usize, boys: u32, most: u32, table: u32) -> Field
     requires { ⌜ 1 ≤ table ⌝ }
     ensures { λ r. ⌜ r ≡ boysOver (now (roll .entry)) at boys most table ⌝ }

@@ -16,6 +16,7 @@ struct ReadPrefactors {
     values: [u8; Kind::PREFACTORS],
 }
 
+// A term, zeros beside a refusal.
 pub(crate) struct ReadTerm {
     pub(crate) found: Field,
     pub(crate) term: Term,
@@ -31,6 +32,7 @@ fn no_prefactors(refusal: u8, place: usize) -> ReadPrefactors
     }
 }
 
+// So many prefactors, each below the table size.
 fn prefactors(roll: &[u8], at: usize, count: usize, table: usize) -> ReadPrefactors
     requires { ⌜ (count ≤ mostL·any) × (1 ≤ table) × (table ≤ tablePlaces) ⌝ }
     ensures { λ r. ⌜ r ≡ heldPrefactors (prefactorsAt (now (roll .entry)) at count table) ⌝ }
@@ -54,6 +56,7 @@ fn prefactors(roll: &[u8], at: usize, count: usize, table: usize) -> ReadPrefact
     }
 }
 
+// What stands beside a refusal.
 fn no_term(refusal: u8, place: usize) -> ReadTerm
     ensures { λ r. ⌜ r ≡ heldTerm (refused refusal place) ⌝ }
 {
@@ -85,6 +88,7 @@ fn with_prefactors(read: ReadPrefactors, scale: u32, boys: u8) -> ReadTerm
     }
 }
 
+// A term from its prefactor count on.
 fn term_count(roll: &[u8], at: usize, kind: Kind, l: u8, scale: u32, boys: u8) -> ReadTerm
     requires { ⌜ l ≤ mostL kind ⌝ }
     ensures { λ r. ⌜ r ≡ heldTerm (countAt (now (roll .entry)) at kind l scale boys) ⌝ }
@@ -109,6 +113,7 @@ pub(crate) fn most_boys(kind: Kind, l: u8) -> u8
     0
 }
 
+// A term from its Boys order on.
 fn term_boys(roll: &[u8], at: usize, kind: Kind, l: u8, scale: u32) -> ReadTerm
     requires { ⌜ l ≤ mostL kind ⌝ }
     ensures { λ r. ⌜ r ≡ heldTerm (boysAt (now (roll .entry)) at kind l scale) ⌝ }
