@@ -12,10 +12,11 @@ ghost use Rattle.expansion.specs.inner.Requests.{PackMay, Packed};
 use kind::Kind;
 use steps::CentreName;
 
-fn wide(byte: u8) -> u64
-    ensures { λ r. ⌜ (r ≡ byte) × (r < 256) ⌝ }
+// An order as a part of the word.
+fn in_word(order: u8) -> u64
+    ensures { λ r. ⌜ (r ≡ order) × (r < 256) ⌝ }
 {
-    byte as u64
+    order as u64
 }
 
 // The sum of three orders.
@@ -23,7 +24,7 @@ fn three(orders: [u8; Kind::ORDERS], first: usize) -> u64
     requires { ⌜ first ≤ 9 ⌝ }
     ensures { λ r. ⌜ (r ≡ getD orders first 0 + getD orders (first + 1) 0 + getD orders (first + 2) 0) × (r < 768) ⌝ }
 {
-    wide(orders[first]) + wide(orders[first + 1]) + wide(orders[first + 2])
+    in_word(orders[first]) + in_word(orders[first + 1]) + in_word(orders[first + 2])
 }
 
 // The order sum of a centre.
@@ -113,7 +114,7 @@ pub(crate) fn packed(orders: [u8; Kind::ORDERS]) -> u64
     let mut i = Kind::ORDERS;
     while 0 < i {
         i -= 1;
-        word = word * 16 + wide(orders[i]);
+        word = word * 16 + in_word(orders[i]);
     }
     word
 }

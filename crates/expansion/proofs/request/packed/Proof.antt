@@ -21,11 +21,11 @@ sub-i c = omega arith
 mul-word : tie.Need-mul-word Inv-loop μ-loop
 mul-word c = record { fits = search packed-mul }
 
-array-read-wide : tie.Need-array-read-wide Inv-loop μ-loop
-array-read-wide c = omega arith
+array-read-in-word : tie.Need-array-read-in-word Inv-loop μ-loop
+array-read-in-word c = omega arith
 
-wide-requires : tie.Need-wide-requires Inv-loop μ-loop
-wide-requires c κs = search needs
+in-word-requires : tie.Need-in-word-requires Inv-loop μ-loop
+in-word-requires c κs = search needs
 
 add-word : tie.Need-add-word Inv-loop μ-loop
 add-word c = record { fits = search packed-add }
@@ -48,8 +48,8 @@ packed-spec =
     loop-holds
     sub-i
     mul-word
-    array-read-wide
-    wide-requires
+    array-read-in-word
+    in-word-requires
     add-word
     loop-less
     loop-again
