@@ -5,13 +5,13 @@ use crate::output;
 // The most numbers of an answer.
 const NUMBERS: usize = 4;
 
-// What an answer tells: its form's number, the numbers for the form's marks, the part of the bytes that are its own, how
-// many floats it has, and how many of them stand before the rest.
+// What an answer tells: its form's number, the numbers for the form's marks, where its bytes start and how many they are, how
+// many floats stand first, and how many there are.
 pub struct Told {
     pub form: usize,
     pub numbers: [u64; NUMBERS],
     pub start: usize,
-    pub end: usize,
+    pub long: usize,
     pub floats: usize,
     pub first: usize,
 }
@@ -26,7 +26,7 @@ pub fn print(
     out: &mut [u8],
     used: usize,
 ) -> usize {
-    let own = part(bytes, t.start, t.end);
+    let own = part(bytes, t.start, t.long);
     let first = floats_of(floats, 0, t.first);
     let others = floats_of(floats, t.first, t.floats);
     let numbers = t.numbers;
@@ -122,14 +122,15 @@ fn piece(
     }
 }
 
-// The bytes from a place to another; none where they don't lie there.
-fn part(bytes: &[u8], start: usize, end: usize) -> &[u8] {
-    if end < start {
+// So many bytes from a place on; none where they don't lie there.
+fn part(bytes: &[u8], start: usize, long: usize) -> &[u8] {
+    if bytes.len() < start {
         return &bytes[0..0];
     }
-    if bytes.len() < end {
+    if bytes.len() - start < long {
         return &bytes[0..0];
     }
+    let end = start + long;
     &bytes[start..end]
 }
 

@@ -113,13 +113,13 @@ pub(crate) fn refused(refusal: u8, place: usize) -> Told {
     bytes(REFUSED, numbers, 0, 0)
 }
 
-// Numbers, and the bytes that were lent from a place to another.
-pub(crate) fn bytes(form: usize, numbers: [u64; NUMBERS], start: usize, end: usize) -> Told {
+// Numbers, and so many of the bytes that were lent from a place on.
+pub(crate) fn bytes(form: usize, numbers: [u64; NUMBERS], start: usize, long: usize) -> Told {
     Told {
         form,
         numbers,
         start,
-        end,
+        long,
         first: 0,
         floats: 0,
     }
@@ -131,7 +131,7 @@ pub(crate) fn floats(form: usize, first: usize, floats: usize) -> Told {
         form,
         numbers: [0; NUMBERS],
         start: 0,
-        end: 0,
+        long: 0,
         first,
         floats,
     }

@@ -1,6 +1,5 @@
 // `expand KIND o1 .. o12 ..`: the roll of a request.
 use crate::answers;
-use crate::lent;
 use crate::questions;
 use answer::Told;
 use expansion::Expanded;
@@ -21,22 +20,18 @@ fn orders(n: [u64; NUMBERS]) -> [u8; Kind::ORDERS] {
     orders
 }
 
-// The roll in a lent buffer of `size` bytes.
-pub(crate) fn roll(n: [u64; NUMBERS], size: usize, start: usize, lent: &mut [u8]) -> Told {
-    if lent.len() < size {
-        return answers::unknown();
-    }
-    let room = &mut lent[0..size];
-    lent::fill(room);
-    let answer = expansion::expand(byte(n[0]), orders(n), room, start);
+// The roll in a lent buffer.
+pub(crate) fn roll(n: [u64; NUMBERS], start: usize, lent: &mut [u8]) -> Told {
+    let answer = expansion::expand(byte(n[0]), orders(n), lent, start);
     match answer {
-        Expanded::Roll(long, terms) => lent::owned(
-            room,
-            start,
-            long,
-            answers::ROLL,
-            [long as u64, terms as u64, 0, 0],
-        ),
-        Expanded::Refused(refusal) => lent::refused(room, refusal, 0),
+        Expanded::Roll(long, terms) => {
+            answers::bytes(
+                answers::ROLL,
+                [long as u64, terms as u64, 0, 0],
+                start,
+                long,
+            )
+        }
+        Expanded::Refused(refusal) => answers::refused(refusal, 0),
     }
 }

@@ -5,8 +5,6 @@ use answer::Told;
 const FILL: u8 = 0xa5;
 // The bits of a float that is filled.
 const FILL_BITS: u64 = 0xa5a5_a5a5_a5a5_a5a5;
-// The most numbers of an answer.
-const NUMBERS: usize = 4;
 
 pub(crate) fn fill(space: &mut [u8]) {
     let mut i = 0;
@@ -27,38 +25,30 @@ fn is_kept(space: &[u8]) -> bool {
     changed == 0
 }
 
-// The answer that has the `n` bytes from `start` on, where they lie in the buffer and every other byte is as it was filled.
-pub(crate) fn owned(
-    lent: &[u8],
-    start: usize,
-    n: usize,
-    form: usize,
-    numbers: [u64; NUMBERS],
-) -> Told {
-    if n == 0 {
-        return answers::spoiled();
-    }
+// The answer, where its bytes lie in the buffer and every other byte is as it was filled.
+pub(crate) fn looked(lent: &[u8], t: Told) -> Told {
+    let start = t.start;
+    let long = t.long;
     if lent.len() < start {
         return answers::spoiled();
     }
-    if lent.len() - start < n {
+    if lent.len() - start < long {
         return answers::spoiled();
     }
-    let end = start + n;
+    let end = start + long;
     if is_kept(&lent[0..start]) {
         if is_kept(&lent[end..]) {
-            return answers::bytes(form, numbers, start, end);
+            return t;
         }
     }
     answers::spoiled()
 }
 
-// The answer to a refusal, which changes no byte.
-pub(crate) fn refused(lent: &[u8], refusal: u8, place: usize) -> Told {
-    if is_kept(lent) {
-        return answers::refused(refusal, place);
+// Lays the first `n` bytes down at the front, where there are so many.
+pub(crate) fn lay_bytes(lent: &mut [u8], bytes: &[u8], n: usize) {
+    if n <= bytes.len() {
+        text::put(lent, 0, &bytes[0..n]);
     }
-    answers::spoiled()
 }
 
 pub(crate) fn fill_floats(lent: &mut [f64]) {

@@ -1,6 +1,8 @@
-// The questions: the shape of each, and the call that answers it.
+// The questions: the shape of each, what it has lent, and the call that answers it.
+ghost use Prim.Native.Nat.{_≤_};
 use crate::answers;
 use crate::expands;
+use crate::lent;
 use crate::lists;
 use crate::matrices;
 use crate::rolls;
@@ -18,17 +20,15 @@ const SHELL_LENT: usize = 256;
 const LISTING_LENT: usize = 327680;
 // What `expand` without a buffer lends.
 const ROLL_LENT: usize = 1048576;
+// Room for the orders of a roll or the prefactors of a term.
+const OWN_LENT: usize = 64;
 
-// The lines of the table below, in its order.
 enum Question {
-    Blank,
-    Comment,
+    Echo,
     Shell,
-    ShellLent,
     Pair,
     Four,
     Expand,
-    ExpandLent,
     List,
     Open,
     Check,
@@ -38,6 +38,12 @@ enum Question {
     Jk,
     Jkl,
     Unknown,
+}
+
+// The length of a lent buffer, and the place from which on it is filled.
+struct Lent {
+    size: usize,
+    start: usize,
 }
 
 // B, W and P are numbers below 2^8, 2^32 and 2^64, L a buffer's length, R a roll, * floats, ^ any bytes. The first line of
@@ -67,20 +73,18 @@ jkl P P P P P*
     )
 }
 
+// The question of each line of the table, from 0 on.
 fn of(asked: Asked) -> Question {
     if asked.misfit {
         return Question::Unknown;
     }
-    let question = asked.question;
-    match question {
-        0 => Question::Blank,
-        1 => Question::Comment,
-        2 => Question::Shell,
-        3 => Question::ShellLent,
+    let line = asked.question;
+    match line {
+        0 | 1 => Question::Echo,
+        2 | 3 => Question::Shell,
         4 => Question::Pair,
         5 => Question::Four,
-        6 => Question::Expand,
-        7 => Question::ExpandLent,
+        6 | 7 => Question::Expand,
         8 => Question::List,
         9 => Question::Open,
         10 => Question::Check,
@@ -93,6 +97,27 @@ fn of(asked: Asked) -> Question {
     }
 }
 
+// What a question has lent; `count` numbers are read.
+fn lends(q: Question, count: usize, n: [u64; NUMBERS]) -> Lent {
+    match q {
+        Question::Shell => buffer(count == 1, SHELL_LENT, n[1], n[2]),
+        Question::Expand => buffer(count == 13, ROLL_LENT, n[13], n[14]),
+        Question::List => buffer(true, LISTING_LENT, 0, 0),
+        _ => buffer(true, OWN_LENT, 0, 0),
+    }
+}
+
+// The buffer that is said; where none is, one of the usual size from its front on.
+fn buffer(usual: bool, size: usize, said: u64, start: u64) -> Lent {
+    if usual {
+        return Lent { size, start: 0 };
+    }
+    Lent {
+        size: said as usize,
+        start: start as usize,
+    }
+}
+
 // The answer to what is read; the roll and the floats are the first of those that are given.
 pub(crate) fn answer(
     s: State,
@@ -102,52 +127,71 @@ pub(crate) fn answer(
     lent: &mut [u8],
     sums: &mut [f64],
 ) -> Told {
-    let numbers = asked.numbers;
-    let bytes = asked.bytes;
-    let count = asked.floats;
-    if given.len() < bytes {
-        return answers::unknown();
-    }
-    if floats.len() < count {
-        return answers::unknown();
-    }
-    let told = called(
-        of(asked),
-        numbers,
-        &given[0..bytes],
-        &floats[0..count],
-        lent,
-        sums,
-    );
-    answers::heard(s, told)
+    let n = asked.numbers;
+    let q = of(asked);
+    let l = lends(q, asked.count, n);
+    let bytes = least(asked.bytes, given.len());
+    let count = least(asked.floats, floats.len());
+    let size = least(l.size, lent.len());
+    let all = &floats[0..count];
+    let told = looked_at(q, n, l.start, &given[0..bytes], all, &mut lent[0..size]);
+    answers::heard(s, in_floats(q, n, all, sums, told))
 }
 
-fn called(
+fn least(a: usize, b: usize) -> usize
+    ensures { λ r. ⌜ r ≤ b ⌝ }
+{
+    if a <= b {
+        return a;
+    }
+    b
+}
+
+// The lent buffer is filled before the call, and looked at afterwards.
+fn looked_at(
     q: Question,
     n: [u64; NUMBERS],
+    start: usize,
     roll: &[u8],
     floats: &[f64],
     lent: &mut [u8],
-    sums: &mut [f64],
+) -> Told {
+    lent::fill(lent);
+    let told = in_bytes(q, n, start, roll, floats, lent);
+    lent::looked(lent, told)
+}
+
+// The questions whose answer is numbers and bytes.
+fn in_bytes(
+    q: Question,
+    n: [u64; NUMBERS],
+    start: usize,
+    roll: &[u8],
+    floats: &[f64],
+    lent: &mut [u8],
 ) -> Told {
     match q {
-        Question::Blank => answers::plain(answers::ECHO),
-        Question::Comment => answers::plain(answers::ECHO),
-        Question::Shell => shells::list(n, SHELL_LENT, 0, lent),
-        Question::ShellLent => shells::list(n, n[1] as usize, n[2] as usize, lent),
+        Question::Echo => answers::plain(answers::ECHO),
+        Question::Shell => shells::list(n, start, lent),
         Question::Pair => shells::pair(n, lent),
         Question::Four => shells::four(n, lent),
-        Question::Expand => expands::roll(n, ROLL_LENT, 0, lent),
-        Question::ExpandLent => expands::roll(n, n[13] as usize, n[14] as usize, lent),
-        Question::List => lists::listing(roll, LISTING_LENT, lent),
+        Question::Expand => expands::roll(n, start, lent),
+        Question::List => lists::listing(roll, lent),
         Question::Open => rolls::opened(roll::open(roll), lent),
         Question::Check => rolls::opened(roll::check(roll), lent),
         Question::Next => rolls::next(n, roll, lent),
         Question::Eval => values::value(roll, floats),
+        _ => answers::unknown(),
+    }
+}
+
+// The questions whose answer is floats; any other has been told.
+fn in_floats(q: Question, n: [u64; NUMBERS], floats: &[f64], sums: &mut [f64], told: Told) -> Told {
+    match q {
         Question::Table => values::table(n, floats, sums),
         Question::Jk => matrices::plain(n, floats, sums),
         Question::Jkl => matrices::sized(n, floats, sums),
-        Question::Unknown => answers::unknown(),
+        _ => told,
     }
 }
 

@@ -1,5 +1,6 @@
 // `open ROLL`, `check ROLL` and `next KIND L LEFT PLACE ROLL`: a roll's header, the whole roll judged, a cursor's step.
 use crate::answers;
+use crate::lent;
 use crate::questions;
 use answer::Told;
 use kind::Kind;
@@ -24,14 +25,19 @@ pub(crate) fn opened(o: Opened, lent: &mut [u8]) -> Told {
     }
 }
 
-// A roll's cursor has a kind that there is.
-fn header(c: Cursor, orders: [u8; Kind::ORDERS], lent: &mut [u8]) -> Told {
-    text::put(lent, 0, &orders);
-    let numbers = [c.kind as u64, c.l as u64, c.left as u64, c.place as u64];
-    match Kind::of(c.kind) {
-        Named::Is(kind) => answers::bytes(answers::OPENED, numbers, 0, kind.orders()),
-        Named::Unknown => answers::spoiled(),
+// How many orders a kind uses. More than there are where there is no such kind, so that the answer is spoiled.
+fn used_orders(kind: u8) -> usize {
+    match Kind::of(kind) {
+        Named::Is(known) => known.orders(),
+        Named::Unknown => usize::MAX,
     }
+}
+
+fn header(c: Cursor, orders: [u8; Kind::ORDERS], lent: &mut [u8]) -> Told {
+    let numbers = [c.kind as u64, c.l as u64, c.left as u64, c.place as u64];
+    let n = used_orders(c.kind);
+    lent::lay_bytes(lent, &orders, n);
+    answers::bytes(answers::OPENED, numbers, 0, n)
 }
 
 pub(crate) fn next(n: [u64; NUMBERS], roll: &[u8], lent: &mut [u8]) -> Told {
@@ -58,7 +64,7 @@ fn term_told(t: Term, prefactors: [u8; Kind::PREFACTORS], next: Cursor, lent: &m
     if Kind::PREFACTORS < count {
         return answers::spoiled();
     }
-    text::put(lent, 0, &prefactors);
+    lent::lay_bytes(lent, &prefactors, count);
     let numbers = [
         t.scale as u64,
         t.boys as u64,

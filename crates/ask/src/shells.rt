@@ -15,19 +15,17 @@ const NUMBERS: usize = 16;
 // The orders of a pair of shells.
 const PAIR: usize = 6;
 
-// The list in a lent buffer of `size` bytes.
-pub(crate) fn list(n: [u64; NUMBERS], size: usize, start: usize, lent: &mut [u8]) -> Told {
-    if lent.len() < size {
-        return answers::unknown();
-    }
-    let room = &mut lent[0..size];
-    lent::fill(room);
-    let answer = shell::get_ijk_list(byte(n[0]), room, start);
+// The list in a lent buffer.
+pub(crate) fn list(n: [u64; NUMBERS], start: usize, lent: &mut [u8]) -> Told {
+    let answer = shell::get_ijk_list(byte(n[0]), lent, start);
     match answer {
-        Listed::Bytes(long, _) => {
-            lent::owned(room, start, long, answers::SHELL, [long as u64, 0, 0, 0])
-        }
-        Listed::Refused(refusal) => lent::refused(room, refusal, 0),
+        Listed::Bytes(long, _) => answers::bytes(
+            answers::SHELL,
+            [long as u64, 0, 0, 0],
+            start,
+            long,
+        ),
+        Listed::Refused(refusal) => answers::refused(refusal, 0),
     }
 }
 
@@ -55,6 +53,6 @@ fn component(c: Component, n: usize, lent: &mut [u8]) -> Told {
 }
 
 fn orders_told(orders: [u8; Kind::ORDERS], n: usize, lent: &mut [u8]) -> Told {
-    text::put(lent, 0, &orders);
+    lent::lay_bytes(lent, &orders, n);
     answers::bytes(answers::COMPONENT, [0; 4], 0, n)
 }

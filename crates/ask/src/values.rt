@@ -18,6 +18,13 @@ const CENTRES: usize = 16;
 // The most Boys numbers that a question can have.
 const MOST_BOYS: usize = 65536;
 
+struct Four {
+    a: Centre,
+    b: Centre,
+    c: Centre,
+    d: Centre,
+}
+
 // The centre whose four floats stand from a place on.
 fn centre(floats: &[f64], at: usize) -> Centre
     requires { ⌜ at + 4 ≤ length (now floats) ⌝ }
@@ -30,6 +37,17 @@ fn centre(floats: &[f64], at: usize) -> Centre
     }
 }
 
+fn four_of(floats: &[f64]) -> Four
+    requires { ⌜ 16 ≤ length (now floats) ⌝ }
+{
+    Four {
+        a: centre(floats, 0),
+        b: centre(floats, 4),
+        c: centre(floats, 8),
+        d: centre(floats, 12),
+    }
+}
+
 pub(crate) fn value(roll: &[u8], floats: &[f64]) -> Told {
     if floats.len() <= CENTRES {
         return answers::unknown();
@@ -38,11 +56,8 @@ pub(crate) fn value(roll: &[u8], floats: &[f64]) -> Told {
     if MOST_BOYS < boys.len() {
         return answers::unknown();
     }
-    let a = centre(floats, 0);
-    let b = centre(floats, 4);
-    let c = centre(floats, 8);
-    let d = centre(floats, 12);
-    let value = integrals::evaluate(roll, a, b, c, d, floats[CENTRES], boys);
+    let four = four_of(floats);
+    let value = integrals::evaluate(roll, four.a, four.b, four.c, four.d, floats[CENTRES], boys);
     match value {
         Value::Is(x) => value_told(x),
         Value::Refused(refusal, place) => answers::refused(refusal, place),
@@ -61,11 +76,8 @@ pub(crate) fn table(n: [u64; NUMBERS], floats: &[f64], sums: &mut [f64]) -> Told
     if floats.len() != CENTRES {
         return answers::unknown();
     }
-    let a = centre(floats, 0);
-    let b = centre(floats, 4);
-    let c = centre(floats, 8);
-    let d = centre(floats, 12);
-    let table = geometry::prefactors(byte(n[0]), a, b, c, d);
+    let four = four_of(floats);
+    let table = geometry::prefactors(byte(n[0]), four.a, four.b, four.c, four.d);
     let found = table.found;
     let entries = table.entries;
     match found {
