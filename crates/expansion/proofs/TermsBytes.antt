@@ -9,7 +9,7 @@ use lib.ListN.{length, set, length-append, length-set}
 use lib.Seq.{sets, length-sets}
 use Rattle.laws.proofs.Cases.{clash}
 use Rattle.laws.proofs.Lists.{sets-append}
-use Rattle.number.specs.Numbers.{bytesOf, lengthOf, Wrote, writtenAt, outAfter}
+use Rattle.number.specs.Numbers.{bytesOf, lengthOf, WriteTold, writtenAt, outAfter}
 use Rattle.number.specs.declared.Written.{Written}
 use Rattle.number.specs.declared.Written.the-variants.{Next, NoRoom}
 use Rattle.number.proofs.Writing.{bytes-last, store-last}
@@ -65,7 +65,7 @@ module _ (out : List ℕ) (at n : ℕ) (fits : NumberMay n at out) where
   room-test : lib.Dec.leb (at + length (bytesOf n)) (length out) ≡ true
   room-test = borrow.Author.Tests.le-leb (at + length (bytesOf n)) (length out) (fits .room)
 
-  module _ (r : Written) (after : List ℕ) (wrote : Wrote out at (bytesOf n) r after) where
+  module _ (r : Written) (after : List ℕ) (wrote : WriteTold out at (bytesOf n) r after) where
     there : r ≡ Next (at + length (bytesOf n))
     unfolding writtenAt
     there = wrote .answer ∙ rw room-test

@@ -6,7 +6,7 @@ use mathlib.Core.List.{List}
 use Rattle.laws.proofs.Unique.{only}
 use Rattle.number.specs.declared.Number.{Number}
 use Rattle.number.specs.declared.Written.{Written}
-use Rattle.number.specs.Numbers.{oneByte, readAt, refusalOf, lengthOf, Wrote}
+use Rattle.number.specs.Numbers.{oneByte, readAt, refusalOf, lengthOf, WriteTold}
 
 pub wide-only : (x : ℕ) {a b : ℕ} → a ≡ x → b ≡ x → a ≡ b
 wide-only x = only
@@ -23,5 +23,5 @@ refusal-only n = only
 pub length-only : (n : ℕ) {a b : ℕ} → a ≡ lengthOf n → b ≡ lengthOf n → a ≡ b
 length-only n = only
 
-pub write-only : (before : List ℕ) (at : ℕ) (bytes : List ℕ) {a b : Written} {x y : List ℕ} → Wrote before at bytes a x → Wrote before at bytes b y → (a ≡ b) × (x ≡ y)
+pub write-only : (before : List ℕ) (at : ℕ) (bytes : List ℕ) {a b : Written} {x y : List ℕ} → WriteTold before at bytes a x → WriteTold before at bytes b y → (a ≡ b) × (x ≡ y)
 write-only before at bytes p q = (only (p .answer) (q .answer), only (p .out) (q .out))

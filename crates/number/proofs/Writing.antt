@@ -11,7 +11,7 @@ use lib.Dec.{ltb, lit<, lit≤}
 use lib.ListN.{length, set, length-set}
 use lib.Seq.{sets}
 use Rattle.number.specs.declared.Written.the-variants.{Next, NoRoom}
-use Rattle.number.specs.Numbers.{oneByte, groups, bytesOf, lengthOf, writtenAt, outAfter, Wrote}
+use Rattle.number.specs.Numbers.{oneByte, groups, bytesOf, lengthOf, writtenAt, outAfter, WriteTold}
 
 pub groups-last : (more n : ℕ) → n < 128 → groups more n ≡ n ∷ []
 unfolding groups
@@ -140,10 +140,10 @@ put-end before start n out left at p small = omega (arith, length-last left smal
 pub put-all : (before : List ℕ) (start n : ℕ) (out : List ℕ) (left at : ℕ) → Put before start n out left at → left < 128 → set out at left ≡ sets before start (bytesOf n)
 put-all before start n out left at p small = store-last out at left small ∙ p .stores
 
-pub wrote-none : (out : List ℕ) (at : ℕ) (bytes : List ℕ) → length out < at + length bytes → Wrote out at bytes NoRoom out
+pub wrote-none : (out : List ℕ) (at : ℕ) (bytes : List ℕ) → length out < at + length bytes → WriteTold out at bytes NoRoom out
 unfolding writtenAt outAfter
 wrote-none out at bytes over = record { answer = simp (lt-leb (at + length bytes) (length out) over); out = simp (lt-leb (at + length bytes) (length out) over) }
 
-pub wrote-all : (out after : List ℕ) (at : ℕ) (bytes : List ℕ) (next : ℕ) → at + length bytes ≤ length out → next ≡ at + length bytes → after ≡ sets out at bytes → Wrote out at bytes (Next next) after
+pub wrote-all : (out after : List ℕ) (at : ℕ) (bytes : List ℕ) (next : ℕ) → at + length bytes ≤ length out → next ≡ at + length bytes → after ≡ sets out at bytes → WriteTold out at bytes (Next next) after
 unfolding writtenAt outAfter
 wrote-all out after at bytes next room is stored = record { answer = simp (le-leb (at + length bytes) (length out) room, is); out = simp (le-leb (at + length bytes) (length out) room, stored) }

@@ -76,6 +76,6 @@ writtenAt out at bytes = cond (leb (at + length bytes) (length out)) (Next (at +
 unfoldable pub outAfter : List ℕ → ℕ → List ℕ → List ℕ
 outAfter out at bytes = cond (leb (at + length bytes) (length out)) (sets out at bytes) out
 
-pub record Wrote (before : List ℕ) (at : ℕ) (bytes : List ℕ) (r : Written) (after : List ℕ) : Type 0 where
+pub record WriteTold (before : List ℕ) (at : ℕ) (bytes : List ℕ) (r : Written) (after : List ℕ) : Type 0 where
   pub answer : r ≡ writtenAt before at bytes
   pub out : after ≡ outAfter before at bytes

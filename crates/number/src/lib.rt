@@ -3,7 +3,7 @@ ghost use Prim.Native.Nat.{ℕ, _+_, _<_, _≤_, _^_};
 ghost use mathlib.Core.Path.{_≡_};
 ghost use lib.ListN.{length, drop};
 ghost use lib.Seq.{sets};
-ghost use Rattle.number.specs.Numbers.{group, oneByte, bytesOf, lengthOf, above, higher, readAt, refusalOf, Wrote};
+ghost use Rattle.number.specs.Numbers.{group, oneByte, bytesOf, lengthOf, above, higher, readAt, refusalOf, WriteTold};
 
 // A group of seven bits is below this, and this is what the high bit adds.
 const GROUP: u32 = 128;
@@ -137,7 +137,7 @@ fn put(out: &mut [u8], start: usize, n: u32) -> usize
 
 // Writes a number's bytes from `at` on, or nothing where they don't fit.
 pub fn write(out: &mut [u8], at: usize, n: u32) -> Written
-    ensures { λ r. ⌜ Wrote (now (out .entry)) at (bytesOf n) r (now (out .exit)) ⌝ }
+    ensures { λ r. ⌜ WriteTold (now (out .entry)) at (bytesOf n) r (now (out .exit)) ⌝ }
 {
     if out.len() < at {
         return Written::NoRoom;
