@@ -3,7 +3,7 @@ ghost use Prim.Native.Nat.{_<_};
 use crate::output;
 
 // The most numbers of an answer.
-const NUMBERS: usize = 4;
+pub const NUMBERS: usize = 4;
 
 // What an answer tells: its form's number, the numbers for the form's marks, where its bytes start and how many they are, how
 // many floats stand first, and how many there are.

@@ -4,5 +4,6 @@ mod forms;
 mod output;
 
 pub use floats::bits;
+pub use forms::NUMBERS;
 pub use forms::Told;
 pub use forms::print;

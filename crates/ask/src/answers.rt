@@ -1,4 +1,5 @@
 // The answers: the form of each, and what a question's module tells.
+use answer::NUMBERS;
 use answer::Told;
 use question::Found;
 use question::State;
@@ -36,8 +37,6 @@ pub(crate) const MATRICES: usize = 14;
 
 pub(crate) const WAIT: usize = 15;
 
-// The most numbers of an answer.
-const NUMBERS: usize = 4;
 // The refusal that tells a place of a roll.
 const BROKEN: u8 = 7;
 

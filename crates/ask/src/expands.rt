@@ -4,10 +4,8 @@ use crate::questions;
 use answer::Told;
 use expansion::Expanded;
 use kind::Kind;
+use question::NUMBERS;
 use questions::byte;
-
-// The most numbers of a question.
-const NUMBERS: usize = 16;
 
 // The orders of a request, which follow its kind.
 fn orders(n: [u64; NUMBERS]) -> [u8; Kind::ORDERS] {

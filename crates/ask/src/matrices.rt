@@ -6,9 +6,8 @@ use crate::lent;
 use answer::Told;
 use jk::Answer;
 use kind::Kind;
+use question::NUMBERS;
 
-// The most numbers of a question.
-const NUMBERS: usize = 16;
 // The most floats of I, and of each other slice, that a question can have lent.
 const MOST_TENSOR: usize = 65537;
 

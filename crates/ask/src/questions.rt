@@ -10,10 +10,9 @@ use crate::shells;
 use crate::values;
 use answer::Told;
 use question::Asked;
+use question::NUMBERS;
 use question::State;
 
-// The most numbers of a question.
-const NUMBERS: usize = 16;
 // What `shell M` lends, from place 0 on: more than any list needs.
 const SHELL_LENT: usize = 256;
 // Room for the longest listing: a term of three bytes takes at most fourteen letters, and each byte more at most three.

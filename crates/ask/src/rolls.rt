@@ -5,6 +5,7 @@ use crate::questions;
 use answer::Told;
 use kind::Kind;
 use kind::Named;
+use question::NUMBERS;
 use questions::byte;
 use questions::word;
 use roll::Cursor;
@@ -12,9 +13,6 @@ use roll::Found;
 use roll::Opened;
 use roll::Opening;
 use term::Term;
-
-// The most numbers of a question.
-const NUMBERS: usize = 16;
 
 pub(crate) fn opened(o: Opened, lent: &mut [u8]) -> Told {
     let found = o.found;

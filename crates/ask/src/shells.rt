@@ -4,14 +4,13 @@ use crate::lent;
 use crate::questions;
 use answer::Told;
 use kind::Kind;
+use question::NUMBERS;
 use questions::byte;
 use questions::word;
 use shell::Component;
 use shell::Listed;
 use shell::Sought;
 
-// The most numbers of a question.
-const NUMBERS: usize = 16;
 // The orders of a pair of shells.
 const PAIR: usize = 6;
 
@@ -54,5 +53,5 @@ fn component(c: Component, n: usize, lent: &mut [u8]) -> Told {
 
 fn orders_told(orders: [u8; Kind::ORDERS], n: usize, lent: &mut [u8]) -> Told {
     lent::lay_bytes(lent, &orders, n);
-    answers::bytes(answers::COMPONENT, [0; 4], 0, n)
+    answers::bytes(answers::COMPONENT, [0; answer::NUMBERS], 0, n)
 }

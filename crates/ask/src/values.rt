@@ -9,10 +9,9 @@ use geometry::Centre;
 use geometry::Tabled;
 use integrals::Value;
 use kind::Kind;
+use question::NUMBERS;
 use questions::byte;
 
-// The most numbers of a question.
-const NUMBERS: usize = 16;
 // The floats of four centres.
 const CENTRES: usize = 16;
 // The most Boys numbers that a question can have.

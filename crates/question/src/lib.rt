@@ -13,3 +13,4 @@ pub use lines::next;
 pub use shapes::none;
 pub use shapes::read;
 pub use words::Asked;
+pub use words::NUMBERS;
