@@ -2,7 +2,7 @@
 //!
 //! Every call answers every input, by an enum: what was asked for, or a [`Refusal`]. No call allocates, keeps anything
 //! or has state of its own. include/xewumbal.h says more of each call, and docs/01-scope.md defines terms and rolls.
-//! Kinds and orders are plain bytes: a wrong one is refused, as every wrong input is.
+//! Kinds and orders are plain bytes: a wrong one is refused, as every wrong input is (D-87).
 //!
 //! To build, `XEWUMBAL_ARCHIVE` names the folder of libxewumbal.a, which `./run archive` makes.
 //!

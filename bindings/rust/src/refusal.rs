@@ -1,4 +1,4 @@
-//! The thirteen refusals, by document 01's numbers and words.
+//! The thirteen refusals, by document 01's numbers and words (D-86).
 use core::fmt;
 
 /// Why a call refused. Nothing that was lent has changed then.

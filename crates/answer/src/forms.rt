@@ -56,7 +56,7 @@ fn form_start(table: &[u8], form: usize) -> usize {
     i
 }
 
-// A form ends in a line feed.
+// A form ends in a line feed (D-49).
 fn less(letter: u8, left: usize) -> usize {
     if letter == b'\n' {
         if 0 < left {

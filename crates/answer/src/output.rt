@@ -100,7 +100,7 @@ fn float(out: &mut [u8], used: usize, x: f64) -> usize {
     hex_word(out, parted, floats::bits(x))
 }
 
-// A text with a vertical bar for each line feed.
+// A text with a vertical bar for each line feed (D-52).
 pub(crate) fn barred(out: &mut [u8], used: usize, bytes: &[u8]) -> usize {
     let mut next = used;
     let mut i = 0;

@@ -98,7 +98,7 @@ pub(crate) fn unknown() -> Told {
     plain(UNKNOWN)
 }
 
-// The answer where the library changed a byte that was not its own.
+// The answer where the library changed a byte that was not its own (D-79).
 pub(crate) fn spoiled() -> Told {
     plain(SPOILED)
 }

@@ -25,7 +25,7 @@ fn is_kept(space: &[u8]) -> bool {
     changed == 0
 }
 
-// The answer, where its bytes lie in the buffer and every other byte is as it was filled.
+// The answer, where its bytes lie in the buffer and every other byte is as it was filled (D-48).
 pub(crate) fn looked(lent: &[u8], t: Told) -> Told {
     let start = t.start;
     let long = t.long;

@@ -28,7 +28,7 @@ const SUMS: usize = 2048;
 
 const OUTPUT: usize = 65536;
 
-// Reads and answers until the input ends. A proved loop has to end, so it counts down from a number that no run uses up.
+// Reads and answers until the input ends. A proved loop has to end, so it counts down from a number that no run uses up (D-55).
 fn serve(
     input: &mut [u8],
     given: &mut [u8],

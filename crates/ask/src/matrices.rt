@@ -22,7 +22,7 @@ struct Sizes {
     k: usize,
 }
 
-// The lengths are those that the size asks. With a size out of range nothing is lent.
+// The lengths are those that the size asks. With a size out of range nothing is lent (D-53).
 pub(crate) fn plain(n: [u64; NUMBERS], floats: &[f64], sums: &mut [f64]) -> Told {
     let size = n[0] as usize;
     asked(of_size(size, in_range(size)), floats, sums)

@@ -13,7 +13,7 @@ use question::Asked;
 use question::NUMBERS;
 use question::State;
 
-// What `shell M` lends, from place 0 on: more than any list needs.
+// What `shell M` lends, from place 0 on: more than any list needs (D-45).
 const SHELL_LENT: usize = 256;
 // Room for the longest listing: a term of three bytes takes at most fourteen letters, and each byte more at most three.
 const LISTING_LENT: usize = 327680;
@@ -72,7 +72,7 @@ jkl P P P P P*
     )
 }
 
-// The question of each line of the table, from 0 on.
+// The question of each line of the table, from 0 on (D-54).
 fn of(asked: Asked) -> Question {
     if asked.misfit {
         return Question::Unknown;

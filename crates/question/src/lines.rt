@@ -101,7 +101,7 @@ fn look(input: &[u8], s: State) -> State {
     }
 }
 
-// A line is lost where it is too long.
+// A line is lost where it is too long (D-51).
 fn kept(lost: bool, start: usize, stop: usize) -> Found {
     if lost {
         return Found::Lost;
@@ -152,7 +152,7 @@ fn more(input: &mut [u8], s: State) -> State {
     )
 }
 
-// Reads once after the first `end` bytes, and answers how many there are then; nought where none came.
+// Reads once after the first `end` bytes, and answers how many there are then; nought where none came (D-50).
 fn fill(input: &mut [u8], end: usize) -> usize {
     if input.len() < end {
         return 0;

@@ -101,7 +101,7 @@ pub(crate) fn number(line: &[u8], a: Asked, most: u64) -> Asked {
     }
 }
 
-// A float by its bits in hexadecimal, after a blank.
+// A float by its bits in hexadecimal, after a blank (D-46).
 fn read_float(line: &[u8], at: usize) -> Float {
     if line.len() <= at {
         return Float::Not;
@@ -182,7 +182,7 @@ fn read_pairs(line: &[u8], at: usize, room: &mut [u8]) -> Run {
     Run { count, end }
 }
 
-// A roll's bytes, two digits each; a dash where there are none.
+// A roll's bytes, two digits each; a dash where there are none (D-47).
 pub(crate) fn roll(line: &[u8], a: Asked, room: &mut [u8]) -> Asked {
     let from = a.bytes;
     let at = a.at;
