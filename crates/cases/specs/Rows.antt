@@ -30,7 +30,7 @@ pub data Row : Type 0 where
   request : Kind → List ℕ → List Term → Printed → Row
   get-ijk-list : ℕ → List (List ℕ) → Row
 
--- A B C D (or A B and the operator), x y z each
+-- the orders of one centre, x y z
 abbrev pub s : List ℕ
 s = 0 ∷ 0 ∷ 0 ∷ []
 

@@ -25,7 +25,7 @@ biCenter z1 z2 r1 r2 =
 unfoldable pub r12Squared : Point → Point → Float
 r12Squared r1 r2 = square (r1 .x ⊖ r2 .x) ⊕ square (r1 .y ⊖ r2 .y) ⊕ square (r1 .z ⊖ r2 .z)
 
--- of A and B; of C and D the same z is called n, the same rp rq
+-- of A and B; given C and D, zOf is n and rpOf is rq
 abbrev pub zOf : Centre → Centre → Float
 zOf a b = a .exponent ⊕ b .exponent
 

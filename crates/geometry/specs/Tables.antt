@@ -35,7 +35,7 @@ overlapTable rp z a b =
     ∷ (7 ⇒ half ⊘ z)
     ∷ []
 
--- kind 1
+-- kind 1 (D-24)
 abbrev pub kineticTable : Point → Float → Float → Centre → Centre → List Entry
 kineticTable rp z e a b =
     (0 ⇒ rp .x ⊖ a .x)

@@ -5,7 +5,7 @@ use mathlib.Core.List.{List, [], _∷_, List·Memᴰ, Memᴰ·append-left, Mem�
 use mathlib.Core.List.List·Memᴰ.{List·Memᴰ·head, List·Memᴰ·tail}
 use Rattle.laws.specs.Total.{total}
 use Rattle.steps.specs.States.{State, Next, nexts}
-use Rattle.histories.specs.History.{Complete, finished, lowered-by, inTurn, after, histories}
+use Rattle.histories.specs.History.{Complete, finished, goes-on-by, inTurn, after, histories}
 use Rattle.histories.proofs.Choices.{none-legal}
 use Rattle.histories.proofs.Walk.{histories-done, histories-more}
 use Rattle.histories.proofs.Demand.{by-depth}
@@ -29,7 +29,7 @@ listed-is-complete =
     (h : List ℕ) (m : List·Memᴰ h (histories s)).
     let u = under (λ (n : Next). after n (histories (n .state))) (nexts s) h (subst (List·Memᴰ h) (histories-more s e) m) in
     let b = behind (u .next) (histories (u .next .state)) h (u .inside) in
-    subst (Complete s) (sym (b .is)) (lowered-by (u .next) (u .in-row) (ih (u .next) (u .in-row) (b .rest) (b .in-rest))))
+    subst (Complete s) (sym (b .is)) (goes-on-by (u .next) (u .in-row) (ih (u .next) (u .in-row) (b .rest) (b .in-rest))))
 
 -- a state with a legal step has an order left
 not-done : (s : State) (n : Next) → List·Memᴰ n (nexts s) → total (s .left) ≡ 0 → ⊥
@@ -40,6 +40,6 @@ not-done s n m e = nothing-in (subst (List·Memᴰ n) (none-legal s e) m)
 
 pub complete-is-listed : (s : State) (h : List ℕ) → Complete s h → List·Memᴰ h (histories s)
 complete-is-listed s h (finished e) = subst (List·Memᴰ []) (sym (histories-done s e)) (List·Memᴰ·head refl)
-complete-is-listed s h (lowered-by {h = g} n m c) =
+complete-is-listed s h (goes-on-by {h = g} n m c) =
     subst (List·Memᴰ (n .number ∷ g)) (sym (histories-more s (not-done s n m)))
     (into-turn (λ (p : Next). after p (histories (p .state))) (nexts s) n (n .number ∷ g) m (into-after n (histories (n .state)) g (complete-is-listed (n .state) g c)))

@@ -14,9 +14,9 @@ use Rattle.steps.specs.States.{State, Next, nexts}
 -- A history is a list of branch numbers, each legal where it stands, complete when all orders are 0.
 pub data Complete : State → List ℕ → Type 0 where
   finished : {s : State} → total (s .left) ≡ 0 → Complete s []
-  lowered-by : {s : State} {h : List ℕ} (n : Next) → List·Memᴰ n (nexts s) → Complete (n .state) h → Complete s (n .number ∷ h)
+  goes-on-by : {s : State} {h : List ℕ} (n : Next) → List·Memᴰ n (nexts s) → Complete (n .state) h → Complete s (n .number ∷ h)
 
--- the state that a branch number leads to
+-- the state that a branch number leads to; a number that is not legal leads nowhere
 abbrev pub led : ℕ → State → List Next → State
 led k s [] = s
 led k s (n ∷ ns) = pick (eqb k (n .number)) (n .state) (led k s ns)

@@ -22,18 +22,18 @@ use Rattle.geometry.proofs.Checks.{finite-table}
 use Rattle.integrals.specs.declared.Value.{Value}
 use Rattle.integrals.specs.declared.Value.the-variants.{Is, Refused}
 use Rattle.integrals.specs.Sums.{kineticStart, totalOf, integralOf}
-use Rattle.integrals.specs.Values.{inputsFinite, boysCounted, unless, resultOf, valueOf}
+use Rattle.integrals.specs.Values.{inputsFinite, boysCounted, refusedUnless, resultOf, valueOf}
 
 pub kinetic-made : (a b : Centre) (p q : Point) (ab : Float) → p ≡ pointOf a → q ≡ pointOf b → ab ≡ r12Squared p q → eOf a b ⊗ (three ⊖ two ⊗ eOf a b ⊗ ab) ≡ kineticStart a b
 unfolding kineticStart
 kinetic-made a b p q ab e f g = rw (g, e, f)
 
 pub result-is : (x : Float) (t : Bool) → t ≡ finite x → t ≡ true → Is x ≡ resultOf x
-unfolding resultOf unless
+unfolding resultOf refusedUnless
 result-is x t e p = rw (← e, p)
 
 pub result-not : (x : Float) (t : Bool) → t ≡ finite x → t ≡ false → Refused 11 0 ≡ resultOf x
-unfolding resultOf unless
+unfolding resultOf refusedUnless
 result-not x t e p = rw (← e, p)
 
 pub counted-boys : (k : Kind) (l count : ℕ) (t : Bool) → t ≡ usesBoys k → t ≡ true → eqb count (l + 1) ≡ boysCounted k l count
@@ -67,17 +67,17 @@ module _ (k : Kind) (a b c d : Centre) (aux : Float) (boys : List Float) where
 
     module _ (s : Bool) (e : s ≡ inputsFinite k a b c d aux boys) where
       pub refused-float : not s ≡ true → Refused 8 0 ≡ valueOf k l a b c d aux boys ts
-      unfolding valueOf unless
+      unfolding valueOf refusedUnless
       refused-float p = rw (← e, not-true s p)
 
       module _ (t : Bool) (p : not s ≡ false) (f : t ≡ exponentsAboveZero k a b c d) where
         pub refused-exponent : not t ≡ true → Refused 9 0 ≡ valueOf k l a b c d aux boys ts
-        unfolding valueOf unless
+        unfolding valueOf refusedUnless
         refused-exponent q = rw (← e, not-false s p, ← f, not-true t q)
 
         module _ (u : Bool) (q : not t ≡ false) (g : u ≡ boysCounted k l (length boys)) where
           pub refused-count : not u ≡ true → Refused 10 0 ≡ valueOf k l a b c d aux boys ts
-          unfolding valueOf unless
+          unfolding valueOf refusedUnless
           refused-count o = rw (← e, not-false s p, ← f, not-false t q, ← g, not-true u o)
 
           module _ (v : Bool) (table : List Float) (o : not u ≡ false) (is : table ≡ inPlaces tablePlaces (prefac k a b c d)) (all : v ≡ finiteWith k a b c d table) where
@@ -85,9 +85,9 @@ module _ (k : Kind) (a b c d : Centre) (aux : Float) (boys : List Float) where
             h = finite-table k a b c d table v is all
 
             pub refused-geometry : not v ≡ true → Refused 11 0 ≡ valueOf k l a b c d aux boys ts
-            unfolding valueOf unless
+            unfolding valueOf refusedUnless
             refused-geometry w = rw (← e, not-false s p, ← f, not-false t q, ← g, not-false u o, ← h, not-true v w)
 
             pub passed : (x : Float) (r : Value) → not v ≡ false → x ≡ totalOf k l (kineticStart a b) table aux boys ts → r ≡ resultOf x → r ≡ valueOf k l a b c d aux boys ts
-            unfolding valueOf unless
+            unfolding valueOf refusedUnless
             passed x r w y z = rw (← e, not-false s p, ← f, not-false t q, ← g, not-false u o, ← h, not-false v w, ← integral-is table x is y) z

@@ -16,7 +16,7 @@ use Rattle.integrals.specs.declared.Value.{Value}
 use Rattle.integrals.specs.declared.Value.the-variants.{Is, Refused}
 use Rattle.integrals.specs.Sums.{integralOf}
 
--- 8 unless every used float is finite: the kind's, aux, and every lent Boys number
+-- 8 unless every used float is finite: the kind's, aux, and every lent Boys number (D-18)
 unfoldable pub inputsFinite : Kind → Centre → Centre → Centre → Centre → Float → List Float → Bool
 inputsFinite k a b c d aux boys = usedFinite k a b c d && (finite aux && allFinite boys)
 
@@ -25,19 +25,19 @@ unfoldable pub boysCounted : Kind → ℕ → ℕ → Bool
 boysCounted k l count = eqb count (cond (usesBoys k) (l + 1) 0)
 
 -- beside a refusal other than 7 the place is 0 (D-2)
-unfoldable pub unless : Bool → ℕ → Value → Value
-unless true number v = v
-unless false number v = Refused number 0
+unfoldable pub refusedUnless : Bool → ℕ → Value → Value
+refusedUnless true number v = v
+refusedUnless false number v = Refused number 0
 
 -- 11 also where the result is not finite
 unfoldable pub resultOf : Float → Value
-resultOf x = unless (finite x) 11 (Is x)
+resultOf x = refusedUnless (finite x) 11 (Is x)
 
 -- 8, 9, 10, 11
 unfoldable pub valueOf : Kind → ℕ → Centre → Centre → Centre → Centre → Float → List Float → List Term → Value
 valueOf k l a b c d aux boys ts =
-    unless (inputsFinite k a b c d aux boys) 8
-    (unless (exponentsAboveZero k a b c d) 9
-    (unless (boysCounted k l (length boys)) 10
-    (unless (geometryFinite k a b c d) 11
+    refusedUnless (inputsFinite k a b c d aux boys) 8
+    (refusedUnless (exponentsAboveZero k a b c d) 9
+    (refusedUnless (boysCounted k l (length boys)) 10
+    (refusedUnless (geometryFinite k a b c d) 11
     (resultOf (integralOf k l a b c d aux boys ts)))))

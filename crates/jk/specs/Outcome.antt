@@ -27,10 +27,11 @@ abbrev pub refusalOf : Answer → ℕ
 refusalOf Done = 0
 refusalOf (Refused n) = n
 
--- n is from 1 to 16; I has n⁴ floats, D, J and K have n² (D-7)
+-- I has n⁴ floats, D, J and K have n² (D-7)
 unfoldable pub longOf : ℕ → ℕ → ℕ → ℕ → ℕ → Bool
 longOf n i d j k = eqb i (n ^ 4) && (eqb d (n ^ 2) && (eqb j (n ^ 2) && eqb k (n ^ 2)))
 
+-- and n is from 1 to 16
 unfoldable pub sizedOf : ℕ → ℕ → ℕ → ℕ → ℕ → Bool
 sizedOf n i d j k = leb 1 n && (leb n mostSize && longOf n i d j k)
 

@@ -45,6 +45,7 @@ tableOf Nuclear = 11
 tableOf Moment = 12
 tableOf Coulomb = 23
 
+-- the branches that Steps has for a centre; the operator of a moment has two
 abbrev pub branchesOf : Kind → ℕ
 branchesOf Overlap = 3
 branchesOf Kinetic = 5

@@ -10,7 +10,7 @@ mostOrder = 4
 abbrev pub mostTerms : ℕ
 mostTerms = 65535
 
--- functions of a matrix
+-- matrix size, from 1 to this
 abbrev pub mostSize : ℕ
 mostSize = 16
 
@@ -30,11 +30,11 @@ requestOrders = 3 * mostCentres
 abbrev pub mostL·any : ℕ
 mostL·any = mostCentres * mostOrder
 
--- 4^8: each step with a multiplier above 1 lowers two orders
+-- 4^8: each step with a multiplier above 1 lowers two orders, so there are at most half of L of any kind, each at most the largest order
 abbrev pub mostScale : ℕ
 mostScale = mostOrder ^ (2 * mostOrder)
 
--- the places in which a prefactor table is handed out
+-- the places in which a prefactor table is handed out: as many as the largest table has, Coulomb's
 abbrev pub tablePlaces : ℕ
 tablePlaces = 23
 

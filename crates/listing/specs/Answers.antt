@@ -1,4 +1,4 @@
--- The answers of the listing and of a refusal's line, with 01's refusals in their order.
+-- The answers of the listing and of a refusal's line, with 01's refusals in the order of D-17.
 use Prim.Native.Nat.{ℕ, _+_}
 use mathlib.Core.Path.{_≡_}
 use mathlib.Core.Bool.{cond}
@@ -12,7 +12,7 @@ use Rattle.listing.specs.declared.Listed.{Listed}
 use Rattle.listing.specs.declared.Listed.the-variants as listed
 use Rattle.listing.specs.Text.{listingText}
 
--- a text from a start place on: 5 a start beyond the end, 6 no room, or the text's length
+-- a text from a start place on: 5 a start beyond the end, 6 no room, or the text's length; their place is 0 (D-2)
 unfoldable pub textAt : List ℕ → List ℕ → ℕ → Listed
 textAt text out start =
     cond (ltb (length out) start) (listed.Refused 5 0)

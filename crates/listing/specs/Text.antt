@@ -49,7 +49,7 @@ afterBlanks (n ∷ ns) = (blank ++ decimalOf n) ++ afterBlanks ns
 unfoldable pub kindText : Kind → List ℕ → List ℕ
 kindText k orders = (kindWord ++ decimalOf (numberOf k)) ++ (ordersWord ++ afterBlanks orders)
 
--- the first line: kind 0 orders 1 0 0 1 0 0 terms 2
+-- the first line: kind 0 orders 1 0 0 1 0 0 terms 2; every line ends in a line feed (D-16)
 unfoldable pub headLine : Kind → List ℕ → ℕ → List ℕ
 headLine k orders terms = kindText k orders ++ ((termsWord ++ decimalOf terms) ++ feed)
 

@@ -1,4 +1,4 @@
--- 01, "The roll": the limits that a roll's kind, orders and terms keep.
+-- 01, "The roll": the limits that a roll's kind, orders and terms keep: what Reading's limits come to, for the laws of reading back.
 use Prim.Native.Nat.{ℕ, _+_, _≤_, _<_}
 use mathlib.Core.Path.{_≡_}
 use mathlib.Core.List.{List, [], _∷_}

@@ -19,7 +19,7 @@ refusedOpened r place = record { found = opening.Refused r place; cursor = noCur
 abbrev pub cursorAt : Header → ℕ → Cursor
 cursorAt h next = record { place = next; left = h .terms; kind = numberOf (h .kind); l = total (h .orders) }
 
--- a header's cursor stands at the first term
+-- a header's cursor stands at the first term; it says nothing of the terms (D-12)
 abbrev pub heldHeader : Reading Header → Opened
 heldHeader (got h next) = record { found = opening.Roll; cursor = cursorAt h next; orders = h .orders ++ replicate (requestOrders - length (h .orders)) 0 }
 heldHeader (refused r place) = refusedOpened r place

@@ -23,7 +23,7 @@ pub data Reading (A : Type 0) : Type 0 where
   got : A → ℕ → Reading A
   refused : ℕ → ℕ → Reading A
 
--- ---- a number and its limits
+-- ---- a number and its limits: a `Field` is the number with the place after it, or a refusal
 
 -- a number that breaks its limits is 7 where it begins
 abbrev pub limited : ℕ → ℕ → ℕ → ℕ → ℕ → Field

@@ -37,16 +37,24 @@ pairs a b = beside (triples a) (triples b)
 abbrev pub quadruples : ℕ → ℕ → ℕ → ℕ → List (List ℕ)
 quadruples a b c d = beside (pairs a b) (pairs c d)
 
--- the number that 01 gives each case; 0 is success
+-- the number, the length and the triples that 01 gives each case; 0 is success
 abbrev pub listedRefusalOf : Listed → ℕ
 listedRefusalOf (listed.Bytes long triples) = 0
 listedRefusalOf (listed.Refused n) = n
+
+abbrev pub lengthIn : Listed → ℕ
+lengthIn (listed.Bytes long triples) = long
+lengthIn (listed.Refused n) = 0
+
+abbrev pub triplesIn : Listed → ℕ
+triplesIn (listed.Bytes long triples) = triples
+triplesIn (listed.Refused n) = 0
 
 abbrev pub refusalOf : Sought → ℕ
 refusalOf sought.Component = 0
 refusalOf (sought.Refused n) = n
 
--- a shell list's refusals: 2 a shell's order above the limit, 5 a start beyond the end, 6 no room
+-- a shell list's refusals: 2 a shell's order above the limit, 5 a start beyond the end, 6 no room; or its bytes and its triples (D-31)
 unfoldable pub listedAt : ℕ → List ℕ → ℕ → Listed
 listedAt m out start =
     cond (ltb mostOrder m) (listed.Refused 2)

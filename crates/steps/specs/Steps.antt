@@ -20,7 +20,7 @@ pub data Falls : Type 0 where
   a-and-o : Falls
   nothing : Falls
 
--- what falls, the prefactor added, what is added to the Boys order, whether the term goes on as overlap
+-- what falls, the prefactor added, what is added to the Boys order, whether the term goes on as overlap; the multiplier follows from what falls (`times` below)
 pub record Branch : Type 0 where
   pub falls : Falls
   pub adds : ℕ
@@ -78,7 +78,7 @@ moment c x =
     ∷ a-and-o adds 11
     ∷ []
 
--- on the operator
+-- on the operator, which is then the chosen centre a
 abbrev pub moment-on-operator : Axis → List Branch
 moment-on-operator x =
     a adds (6 + axisNumber x)
@@ -92,9 +92,11 @@ side B = 0
 side C = 1
 side D = 1
 
+-- R = 6·axis + centre number
 abbrev pub R : CentreName → Axis → ℕ
 R c x = 6 * axisNumber x + centreNumber c
 
+-- Q = 6·axis + 4 for A, B, + 5 for C, D
 abbrev pub Q : CentreName → Axis → ℕ
 Q c x = 6 * axisNumber x + (4 + side c)
 
@@ -110,6 +112,7 @@ coulomb c x =
     ∷ a-and-d adds-and-raises 22
     ∷ []
 
+-- by what is chosen: A, B, or the operator in C's place; D never is
 abbrev pub moments : CentreName → Axis → List Branch
 moments A x = moment A x
 moments B x = moment B x

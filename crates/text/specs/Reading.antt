@@ -1,4 +1,4 @@
--- What a reader of numbers promises.
+-- What a reader of numbers promises: programs read by it, and 01 says nothing of it.
 use Prim.Native.Nat.{ℕ, _+_, _^_}
 use mathlib.Core.Bool.{Bool, true, false, cond, _&&_}
 use mathlib.Core.List.{List, [], _∷_}

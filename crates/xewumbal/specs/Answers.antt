@@ -1,16 +1,15 @@
 -- What each exported function answers, field by field, by what the function below it answers. Refusal 0 is success; the
--- arrays and cursors beside a refusal are the zeros of the answer below.
+-- arrays and cursors beside a refusal are the zeros of the answer below (D-76).
 use Prim.Native.Nat.{ℕ}
 use mathlib.Core.Path.{_≡_}
 use mathlib.Core.List.{List}
 use lib.Ieee.{Float}
 use Rattle.kind.specs.Kinds.{kindOf}
 use Rattle.expansion.specs.declared.Expanded.{Expanded}
-use Rattle.expansion.specs.Expanding.{namedTold, namedOut, lengthIn, countIn, refusalOf as expandedRefusal}
+use Rattle.expansion.specs.Expanding.{namedTold, namedOut, lengthIn as rollLength, countIn, refusalOf as expandedRefusal}
 use Rattle.shell.specs.declared.Listed.{Listed}
-use Rattle.shell.specs.declared.Listed.the-variants as listed
 use Rattle.shell.specs.declared.Component.{Component}
-use Rattle.shell.specs.Shells.{listedAt, listedOut, shell2Of, shell4Of, refusalOf as soughtRefusal}
+use Rattle.shell.specs.Shells.{listedAt, listedOut, lengthIn, triplesIn, listedRefusalOf, shell2Of, shell4Of, refusalOf as soughtRefusal}
 use Rattle.roll.specs.declared.cursor.Cursor.{Cursor}
 use Rattle.roll.specs.declared.cursor.Found.{Found}
 use Rattle.roll.specs.declared.cursor.Found.the-variants as found
@@ -44,7 +43,7 @@ cursorIn c = record { place = c .place; left = c .left; kind = c .kind; l = c .l
 -- ---- xew_expand: the length, the term count and the refusal of the answer
 
 abbrev pub hostExpanded : Expanded → «xew_written»
-hostExpanded e = record { length = lengthIn e; terms = countIn e; refusal = expandedRefusal e }
+hostExpanded e = record { length = rollLength e; terms = countIn e; refusal = expandedRefusal e }
 
 pub record ExpandCallTold (kind : ℕ) (orders before : List ℕ) (start : ℕ) (r : «xew_written») (after : List ℕ) : Type 0 where
   pub answer : r ≡ hostExpanded (namedTold (kindOf kind) orders before start)
@@ -53,8 +52,7 @@ pub record ExpandCallTold (kind : ℕ) (orders before : List ℕ) (start : ℕ) 
 -- ---- xew_shell_list: the length, the triples and the refusal
 
 abbrev pub hostListed : Listed → «xew_written»
-hostListed (listed.Bytes long triples) = record { length = long; terms = triples; refusal = 0 }
-hostListed (listed.Refused n) = record { length = 0; terms = 0; refusal = n }
+hostListed l = record { length = lengthIn l; terms = triplesIn l; refusal = listedRefusalOf l }
 
 pub record ListCallTold (order : ℕ) (before : List ℕ) (start : ℕ) (r : «xew_written») (after : List ℕ) : Type 0 where
   pub answer : r ≡ hostListed (listedAt order before start)
@@ -87,7 +85,7 @@ checkAnswer roll = hostOpened (checkOf roll)
 
 -- ---- xew_next: the term, the cursor one term further on, and a refusal with its place
 
--- 0 refused, 1 term, 2 end
+-- 0 refused, 1 term, 2 end (D-78)
 abbrev pub foundCode : Found → ℕ
 foundCode found.Term = 1
 foundCode found.End = 2

@@ -28,7 +28,7 @@ slice-aggregate-serve-5 : tie.Need-slice-aggregate-serve-5
 slice-aggregate-serve-5 c = floats-made 2048
 
 slice-aggregate-serve-6 : tie.Need-slice-aggregate-serve-6
-slice-aggregate-serve-6 c = made 65536
+slice-aggregate-serve-6 c = array-length 65536
 
 serve-requires : tie.Need-serve-requires
 serve-requires c κs = tt
