@@ -10,7 +10,6 @@ pub use lines::State;
 pub use lines::begin;
 pub use lines::line;
 pub use lines::next;
-pub use shapes::none;
 pub use shapes::read;
 pub use words::Asked;
 pub use words::NUMBERS;

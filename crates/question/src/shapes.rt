@@ -9,7 +9,7 @@ use words::NUMBERS;
 pub const MOST_LENT: u64 = 1048576;
 
 // No question: nothing is read.
-pub fn none() -> Asked {
+fn none() -> Asked {
     words::misfit(begun(0))
 }
 
