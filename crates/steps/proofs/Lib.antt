@@ -3,3 +3,4 @@ pub mod ChoiceLaws
 pub mod Falling
 pub mod Only
 pub mod Packed
+pub mod Rightly
