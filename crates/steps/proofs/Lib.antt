@@ -4,3 +4,4 @@ pub mod Falling
 pub mod Only
 pub mod Packed
 pub mod Rightly
+pub mod Sizes

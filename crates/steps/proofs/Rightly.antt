@@ -1,12 +1,11 @@
 -- What Choice works out is 01's choice: a list of centres in the order of their numbers is gone through from its end.
 use Prim.Native.Nat.{ℕ, zero, suc, _≤_, _<_}
-use mathlib.Core.Path.{_≡_, refl, sym, ap, subst, _∙_}
+use mathlib.Core.Path.{_≡_, refl, ap, subst, _∙_}
 use mathlib.Core.Bool.{Bool, true, false}
 use mathlib.Core.List.{List, [], _∷_, List·Memᴰ, List·Memᴰ·head, List·Memᴰ·tail, List·Memᴰ·not-nil}
 use native.Mathlib.Omega.{arith}
 use lib.Dec.{ltb}
-use borrow.Author.Tests.{ltb-true, ltb-false, lt-ltb, le-ltb}
-use Rattle.laws.proofs.Cases.{clash}
+use borrow.Author.Tests.{ltb-true, ltb-false}
 use Rattle.kind.specs.declared.Kind.{Kind}
 use Rattle.kind.specs.declared.Kind.the-variants.{Overlap, Kinetic, Nuclear, Moment, Coulomb}
 use Rattle.steps.specs.declared.CentreName.{CentreName}
@@ -19,7 +18,7 @@ use Rattle.steps.specs.declared.AxisChoice.{AxisChoice}
 use Rattle.steps.specs.declared.AxisChoice.the-variants as component
 use Rattle.steps.specs.declared.Best.{Best}
 use Rattle.steps.specs.Choice.{operator, centreNumber, axisNumber, orderOf, sumOf, pick, noBest, orBefore, smallest, onceExhausted, chosen, firstAxis}
-use Rattle.steps.specs.Chosen.{centresOf, Smallest, Exhausted, RightCentre, a-centre, the-operator, no-centre, RightAxis, along, no-axis}
+use Rattle.steps.specs.Chosen.{centresOf, operatorOf, Smallest, Exhausted, RightCentre, a-centre, the-operator, no-centre, RightAxis, along, no-axis}
 
 -- what is best of a list of centres
 data BestOf (left : List ℕ) (cs : List CentreName) : Best → Type 0 where
@@ -115,28 +114,26 @@ module _ (left : List ℕ) where
   best-operator : BestOf left (operator ∷ []) (smallest left (operator ∷ []))
   best-operator = best operator [] (one-ahead operator) (best-none left)
 
-  -- a kind other than moment
-  plain : (k : Kind) (b : Best) → (k ≡ Moment → ⊥) → BestOf left (centresOf k) b → RightCentre k left (b .fun)
-  plain k b other (none out) = no-centre out (λ (e : k ≡ Moment). absurd (other e))
-  plain k b other (one c s) = a-centre c s
+  none-there : Exhausted left []
+  none-there d i = absurd (List·Memᴰ·not-nil i)
 
-  with-operator : (b o : Best) → BestOf left (centresOf Moment) b → BestOf left (operator ∷ []) o → RightCentre Moment left (onceExhausted (b .fun) (o .fun))
+  without-operator : (k : Kind) (b : Best) → Exhausted left (operatorOf k) → BestOf left (centresOf k) b → RightCentre k left (b .fun)
+  without-operator k b rest (none out) = no-centre out rest
+  without-operator k b rest (one c s) = a-centre c s
+
+  with-operator : (b o : Best) → BestOf left (centresOf Moment) b → BestOf left (operatorOf Moment) o → RightCentre Moment left (onceExhausted (b .fun) (o .fun))
   with-operator b o (one c s) other = a-centre c s
-  with-operator b o (none out) (none rest) = no-centre out (λ (e : Moment ≡ Moment). rest operator (List·Memᴰ·head refl))
-  with-operator b o (none out) (one c s) = only c s (s .one-of-them)
-    where
-      only : (c : CentreName) → Smallest left (operator ∷ []) c → List·Memᴰ c (operator ∷ []) → RightCentre Moment left (fun.Lower c)
-      only c s (List·Memᴰ·head f) = subst (λ (d : CentreName). RightCentre Moment left (fun.Lower d)) (sym f) (the-operator refl out (subst (λ (d : CentreName). 0 < sumOf left d) f (s .positive)))
-      only c s (List·Memᴰ·tail i) = absurd (List·Memᴰ·not-nil i)
+  with-operator b o (none out) (none rest) = no-centre out rest
+  with-operator b o (none out) (one c s) = the-operator c out s
 
   -- the centre that is chosen is 01's
   pub chosen-rightly : (k : Kind) → RightCentre k left (chosen k left)
   unfolding chosen
-  chosen-rightly Overlap = plain Overlap (smallest left (A ∷ B ∷ [])) (λ (e : Overlap ≡ Moment). clash (cc)) best-of-two
-  chosen-rightly Kinetic = plain Kinetic (smallest left (A ∷ B ∷ [])) (λ (e : Kinetic ≡ Moment). clash (cc)) best-of-two
-  chosen-rightly Nuclear = plain Nuclear (smallest left (A ∷ B ∷ [])) (λ (e : Nuclear ≡ Moment). clash (cc)) best-of-two
+  chosen-rightly Overlap = without-operator Overlap (smallest left (A ∷ B ∷ [])) none-there best-of-two
+  chosen-rightly Kinetic = without-operator Kinetic (smallest left (A ∷ B ∷ [])) none-there best-of-two
+  chosen-rightly Nuclear = without-operator Nuclear (smallest left (A ∷ B ∷ [])) none-there best-of-two
   chosen-rightly Moment = with-operator (smallest left (A ∷ B ∷ [])) (smallest left (operator ∷ [])) best-of-two best-operator
-  chosen-rightly Coulomb = plain Coulomb (smallest left (A ∷ B ∷ C ∷ D ∷ [])) (λ (e : Coulomb ≡ Moment). clash (cc)) best-of-four
+  chosen-rightly Coulomb = without-operator Coulomb (smallest left (A ∷ B ∷ C ∷ D ∷ [])) none-there best-of-four
 
   -- the axis that is chosen is 01's
   pub axis-rightly : (c : CentreName) → RightAxis left c (firstAxis left c)

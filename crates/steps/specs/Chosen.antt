@@ -21,6 +21,14 @@ centresOf Nuclear = A ∷ B ∷ []
 centresOf Moment = A ∷ B ∷ []
 centresOf Coulomb = A ∷ B ∷ C ∷ D ∷ []
 
+-- the operator, where the kind has one
+abbrev pub operatorOf : Kind → List CentreName
+operatorOf Overlap = []
+operatorOf Kinetic = []
+operatorOf Nuclear = []
+operatorOf Moment = operator ∷ []
+operatorOf Coulomb = []
+
 -- the centre with the smallest positive sum left, first on a tie
 pub record Smallest (left : List ℕ) (centres : List CentreName) (c : CentreName) : Type 0 where
   pub one-of-them : List·Memᴰ c centres
@@ -35,8 +43,8 @@ Exhausted left centres = (d : CentreName) → List·Memᴰ d centres → sumOf l
 -- the operator is chosen only once A and B are exhausted; nothing is chosen only where no order is left
 pub data RightCentre (k : Kind) (left : List ℕ) : Fun → Type 0 where
   a-centre : (c : CentreName) → Smallest left (centresOf k) c → RightCentre k left (fun.Lower c)
-  the-operator : k ≡ Moment → Exhausted left (centresOf k) → 0 < sumOf left operator → RightCentre k left (fun.Lower operator)
-  no-centre : Exhausted left (centresOf k) → (k ≡ Moment → sumOf left operator ≡ 0) → RightCentre k left fun.Nothing
+  the-operator : (o : CentreName) → Exhausted left (centresOf k) → Smallest left (operatorOf k) o → RightCentre k left (fun.Lower o)
+  no-centre : Exhausted left (centresOf k) → Exhausted left (operatorOf k) → RightCentre k left fun.Nothing
 
 -- the first axis with a positive order left there
 pub data RightAxis (left : List ℕ) (c : CentreName) : AxisChoice → Type 0 where
