@@ -1,5 +1,5 @@
 -- One order of a centre in a word; an arm for each branch, and none for a number that no branch has; the multipliers of each kind.
-use Prim.Native.Nat.{ℕ, _+_, _*_, _-_, _%_, _^_, _≤_, zero-le}
+use Prim.Native.Nat.{ℕ, _+_, _*_, _-_, _%_, _^_, _≤_, _<_, zero-le}
 use mathlib.Core.Path.{_≡_, sym, ap, ap₂, _∙_, subst}
 use mathlib.Core.List.{List}
 use native.Mathlib.Nat.{one-mul}
@@ -14,7 +14,9 @@ use Rattle.steps.specs.declared.Move.{Move}
 use Rattle.kind.specs.declared.Kind.the-variants.{Overlap, Moment}
 use Rattle.steps.specs.Choice.{pick, orderPlace, operator, orderOf}
 use Rattle.steps.specs.Steps.{Branch, branches, moments, times, partner, other-c, other-d, overlap, kinetic, nuclear, moment, moment-on-operator, coulomb}
+use Rattle.kind.specs.Kinds.{branchesOf}
 use Rattle.steps.proofs.Packed.{sixteen-pow}
+use Rattle.steps.proofs.Sizes.{branches-within}
 use Rattle.steps.specs.inner.Packed.{noBranch, moved, moveIn, fallWord, unit, multiplierWord}
 
 pub no-arm : (k : Kind) (c : CentreName) (x : Axis) (bs : List Branch) (n : ℕ) (m : Move) → length bs ≤ n → m ≡ record { falls = 0; adds = 0; raises = 0; kind = k } → m ≡ moveIn k c x bs n
@@ -40,12 +42,23 @@ pub arm : (k : Kind) (c : CentreName) (x : Axis) (bs : List Branch) (n i f p : �
 unfolding moveIn
 arm k c x bs n i f p m e h u v = h ∙ rw (u, v, e)
 
-past-four : (n m : ℕ) → m ≤ n → (n ≡ m → ⊥) → (n ≡ m + 1 → ⊥) → (n ≡ m + 2 → ⊥) → (n ≡ m + 3 → ⊥) → m + 4 ≤ n
-past-four n m l a b c d = omega arith
+past-three : (n m : ℕ) → m ≤ n → (n ≡ m → ⊥) → (n ≡ m + 1 → ⊥) → (n ≡ m + 2 → ⊥) → m + 3 ≤ n
+past-three n m l a b c = omega arith
 
--- a number that is none of eight is at least eight
-pub past-eight : (n : ℕ) → (n ≡ 0 → ⊥) → (n ≡ 1 → ⊥) → (n ≡ 2 → ⊥) → (n ≡ 3 → ⊥) → (n ≡ 4 → ⊥) → (n ≡ 5 → ⊥) → (n ≡ 6 → ⊥) → (n ≡ 7 → ⊥) → 8 ≤ n
-past-eight n a b c d e f g h = past-four n 4 (past-four n 0 zero-le a b c d) e f g h
+last-from-six : (n : ℕ) → n < 8 → 6 ≤ n → (n ≡ 6 → ⊥) → n ≡ 7
+last-from-six n l h g = omega arith
+
+-- a number below eight that is none of the first seven is the last
+pub last-of-eight : (n : ℕ) → n < 8 → (n ≡ 0 → ⊥) → (n ≡ 1 → ⊥) → (n ≡ 2 → ⊥) → (n ≡ 3 → ⊥) → (n ≡ 4 → ⊥) → (n ≡ 5 → ⊥) → (n ≡ 6 → ⊥) → n ≡ 7
+last-of-eight n l a b c d e f g = last-from-six n l (past-three n 3 (past-three n 0 zero-le a b c) d e f) g
+
+-- a number below the branches of a kind is below those of what the kind is
+pub number-below : (k j : Kind) (b n : ℕ) → k ≡ j → b ≡ branchesOf k → n < b → n < branchesOf j
+number-below k j b n e f h = subst (λ (i : Kind). n < branchesOf i) e (subst (λ (m : ℕ). n < m) f h)
+
+-- a number that is not below them has no branch
+pub no-branch : (k : Kind) (c : CentreName) (x : Axis) (b n : ℕ) (m : Move) → b ≡ branchesOf k → b ≤ n → m ≡ record { falls = 0; adds = 0; raises = 0; kind = k } → m ≡ moveIn k c x (branches k c x) n
+no-branch k c x b n m e h f = let w = branches-within k c x in no-arm k c x (branches k c x) n m (omega arith) f
 
 module _ (c : CentreName) (x : Axis) where
   pub branch-of : (k j : Kind) (n : ℕ) (m : Move) → k ≡ j → m ≡ moveIn j c x (branches j c x) n → m ≡ moveIn k c x (branches k c x) n

@@ -3,3 +3,5 @@ pub mod ChoiceLaws
 pub mod Falling
 pub mod Only
 pub mod Packed
+pub mod Rightly
+pub mod Sizes

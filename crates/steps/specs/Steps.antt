@@ -1,4 +1,4 @@
--- 01, "Steps": each branch of each kind on a line of its own, numbered from 0 by its place.
+-- 01, "Steps": each branch of each kind on a line of its own, with its number, which is its place from 0.
 use Prim.Native.Nat.{ℕ, _+_, _*_, _-_}
 use mathlib.Core.Bool.{Bool, true, false}
 use mathlib.Core.List.{List, [], _∷_}
@@ -45,44 +45,44 @@ P c x = 2 * axisNumber x + centreNumber c
 
 abbrev pub overlap : CentreName → Axis → List Branch
 overlap c x =
-    a adds P c x
-    ∷ a-twice adds 6
-    ∷ a-and-b adds 7
+    a adds P c x  -- 0
+    ∷ a-twice adds 6  -- 1
+    ∷ a-and-b adds 7  -- 2
     ∷ []
 
 -- 9 for A, 10 for B
 abbrev pub kinetic : CentreName → Axis → List Branch
 kinetic c x =
-    a adds P c x
-    ∷ a-twice adds 6
-    ∷ a-and-b adds 7
-    ∷ nothing adds-and-goes-on-as-overlap 8
-    ∷ a-twice adds-and-goes-on-as-overlap (9 + centreNumber c)
+    a adds P c x  -- 0
+    ∷ a-twice adds 6  -- 1
+    ∷ a-and-b adds 7  -- 2
+    ∷ nothing adds-and-goes-on-as-overlap 8  -- 3
+    ∷ a-twice adds-and-goes-on-as-overlap (9 + centreNumber c)  -- 4
     ∷ []
 
 abbrev pub nuclear : CentreName → Axis → List Branch
 nuclear c x =
-    a adds P c x
-    ∷ a adds-and-raises (6 + axisNumber x)
-    ∷ a-twice adds 9
-    ∷ a-twice adds-and-raises 10
-    ∷ a-and-b adds 9
-    ∷ a-and-b adds-and-raises 10
+    a adds P c x  -- 0
+    ∷ a adds-and-raises (6 + axisNumber x)  -- 1
+    ∷ a-twice adds 9  -- 2
+    ∷ a-twice adds-and-raises 10  -- 3
+    ∷ a-and-b adds 9  -- 4
+    ∷ a-and-b adds-and-raises 10  -- 5
     ∷ []
 
 abbrev pub moment : CentreName → Axis → List Branch
 moment c x =
-    a adds P c x
-    ∷ a-twice adds 9
-    ∷ a-and-b adds 10
-    ∷ a-and-o adds 11
+    a adds P c x  -- 0
+    ∷ a-twice adds 9  -- 1
+    ∷ a-and-b adds 10  -- 2
+    ∷ a-and-o adds 11  -- 3
     ∷ []
 
 -- on the operator, which is then the chosen centre a
 abbrev pub moment-on-operator : Axis → List Branch
 moment-on-operator x =
-    a adds (6 + axisNumber x)
-    ∷ a-twice adds 9
+    a adds (6 + axisNumber x)  -- 0
+    ∷ a-twice adds 9  -- 1
     ∷ []
 
 -- one more for C, D than for A, B
@@ -102,14 +102,14 @@ Q c x = 6 * axisNumber x + (4 + side c)
 
 abbrev pub coulomb : CentreName → Axis → List Branch
 coulomb c x =
-    a adds R c x
-    ∷ a adds-and-raises Q c x
-    ∷ a-twice adds (18 + side c)
-    ∷ a-twice adds-and-raises (20 + side c)
-    ∷ a-and-b adds (18 + side c)
-    ∷ a-and-b adds-and-raises (20 + side c)
-    ∷ a-and-c adds-and-raises 22
-    ∷ a-and-d adds-and-raises 22
+    a adds R c x  -- 0
+    ∷ a adds-and-raises Q c x  -- 1
+    ∷ a-twice adds (18 + side c)  -- 2
+    ∷ a-twice adds-and-raises (20 + side c)  -- 3
+    ∷ a-and-b adds (18 + side c)  -- 4
+    ∷ a-and-b adds-and-raises (20 + side c)  -- 5
+    ∷ a-and-c adds-and-raises 22  -- 6
+    ∷ a-and-d adds-and-raises 22  -- 7
     ∷ []
 
 -- by what is chosen: A, B, or the operator in C's place; D never is

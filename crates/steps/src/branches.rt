@@ -1,6 +1,7 @@
 // What each branch of each kind does, on packed orders.
 ghost use mathlib.Core.Path.{_≡_};
 ghost use Prim.Native.Nat.{_+_, _*_, _-_, _^_, _≤_, _<_};
+ghost use Rattle.kind.specs.Kinds.{branchesOf};
 ghost use Rattle.steps.specs.Choice.{centreNumber, axisNumber, operator, orderOf};
 ghost use Rattle.steps.specs.inner.Packed.{orders, unit, moveIn, multiplierWord};
 ghost use Rattle.steps.specs.Steps.{branches, overlap, kinetic, nuclear, moment, moment-on-operator, moments, coulomb, partner, other-c, other-d, side, P, R, Q};
@@ -224,18 +225,20 @@ fn q(centre: CentreName, axis: Axis) -> u64
     6 * axis.number() + (4 + centre.side())
 }
 
+// The last arm of each is the kind's last branch: `branch` asks for none beyond it.
 fn overlap_move(centre: CentreName, axis: Axis, number: u8) -> Move
+    requires { ⌜ number < branchesOf Kind.Overlap ⌝ }
     ensures { λ r. ⌜ r ≡ moveIn Kind.Overlap centre axis (overlap centre axis) number ⌝ }
 {
     match number {
         0 => plain(Kind::Overlap, unit(centre, axis), p(centre, axis)),
         1 => plain(Kind::Overlap, twice(centre, axis), 6),
-        2 => plain(Kind::Overlap, with_b(centre, axis), 7),
-        _ => plain(Kind::Overlap, 0, 0),
+        _ => plain(Kind::Overlap, with_b(centre, axis), 7),
     }
 }
 
 fn kinetic_move(centre: CentreName, axis: Axis, number: u8) -> Move
+    requires { ⌜ number < branchesOf Kind.Kinetic ⌝ }
     ensures { λ r. ⌜ r ≡ moveIn Kind.Kinetic centre axis (kinetic centre axis) number ⌝ }
 {
     match number {
@@ -243,12 +246,12 @@ fn kinetic_move(centre: CentreName, axis: Axis, number: u8) -> Move
         1 => plain(Kind::Kinetic, twice(centre, axis), 6),
         2 => plain(Kind::Kinetic, with_b(centre, axis), 7),
         3 => plain(Kind::Overlap, 0, 8),
-        4 => plain(Kind::Overlap, twice(centre, axis), by_centre(9, centre)),
-        _ => plain(Kind::Kinetic, 0, 0),
+        _ => plain(Kind::Overlap, twice(centre, axis), by_centre(9, centre)),
     }
 }
 
 fn nuclear_move(centre: CentreName, axis: Axis, number: u8) -> Move
+    requires { ⌜ number < branchesOf Kind.Nuclear ⌝ }
     ensures { λ r. ⌜ r ≡ moveIn Kind.Nuclear centre axis (nuclear centre axis) number ⌝ }
 {
     match number {
@@ -257,23 +260,23 @@ fn nuclear_move(centre: CentreName, axis: Axis, number: u8) -> Move
         2 => plain(Kind::Nuclear, twice(centre, axis), 9),
         3 => raised(Kind::Nuclear, twice(centre, axis), 10),
         4 => plain(Kind::Nuclear, with_b(centre, axis), 9),
-        5 => raised(Kind::Nuclear, with_b(centre, axis), 10),
-        _ => plain(Kind::Nuclear, 0, 0),
+        _ => raised(Kind::Nuclear, with_b(centre, axis), 10),
     }
 }
 
 fn moment_on_centre(centre: CentreName, axis: Axis, number: u8) -> Move
+    requires { ⌜ number < branchesOf Kind.Moment ⌝ }
     ensures { λ r. ⌜ r ≡ moveIn Kind.Moment centre axis (moment centre axis) number ⌝ }
 {
     match number {
         0 => plain(Kind::Moment, unit(centre, axis), p(centre, axis)),
         1 => plain(Kind::Moment, twice(centre, axis), 9),
         2 => plain(Kind::Moment, with_b(centre, axis), 10),
-        3 => plain(Kind::Moment, with_o(centre, axis), 11),
-        _ => plain(Kind::Moment, 0, 0),
+        _ => plain(Kind::Moment, with_o(centre, axis), 11),
     }
 }
 
+// The operator has fewer branches than a centre.
 fn moment_on_operator(centre: CentreName, axis: Axis, number: u8) -> Move
     ensures { λ r. ⌜ r ≡ moveIn Kind.Moment centre axis (moment-on-operator axis) number ⌝ }
 {
@@ -285,6 +288,7 @@ fn moment_on_operator(centre: CentreName, axis: Axis, number: u8) -> Move
 }
 
 fn moment_move(centre: CentreName, axis: Axis, number: u8) -> Move
+    requires { ⌜ number < branchesOf Kind.Moment ⌝ }
     ensures { λ r. ⌜ r ≡ moveIn Kind.Moment centre axis (moments centre axis) number ⌝ }
 {
     match centre {
@@ -296,6 +300,7 @@ fn moment_move(centre: CentreName, axis: Axis, number: u8) -> Move
 }
 
 fn coulomb_move(centre: CentreName, axis: Axis, number: u8) -> Move
+    requires { ⌜ number < branchesOf Kind.Coulomb ⌝ }
     ensures { λ r. ⌜ r ≡ moveIn Kind.Coulomb centre axis (coulomb centre axis) number ⌝ }
 {
     match number {
@@ -306,8 +311,7 @@ fn coulomb_move(centre: CentreName, axis: Axis, number: u8) -> Move
         4 => plain(Kind::Coulomb, with_b(centre, axis), by_side(18, centre)),
         5 => raised(Kind::Coulomb, with_b(centre, axis), by_side(20, centre)),
         6 => raised(Kind::Coulomb, with_c(centre, axis), 22),
-        7 => raised(Kind::Coulomb, with_d(centre, axis), 22),
-        _ => plain(Kind::Coulomb, 0, 0),
+        _ => raised(Kind::Coulomb, with_d(centre, axis), 22),
     }
 }
 
@@ -315,6 +319,9 @@ fn coulomb_move(centre: CentreName, axis: Axis, number: u8) -> Move
 pub fn branch(kind: Kind, centre: CentreName, axis: Axis, number: u8) -> Move
     ensures { λ r. ⌜ r ≡ moveIn kind centre axis (branches kind centre axis) number ⌝ }
 {
+    if kind.branches() <= number as usize {
+        return plain(kind, 0, 0);
+    }
     match kind {
         Kind::Overlap => overlap_move(centre, axis, number),
         Kind::Kinetic => kinetic_move(centre, axis, number),

@@ -1,7 +1,7 @@
 -- `coulomb_move` meets its contract.
-use Prim.Native.Nat.{_≤_}
+use mathlib.Core.Path.{_≡_}
 use Rattle.steps.specs.inner.Packed.{moveIn, fallWord}
-use Rattle.steps.proofs.BranchesLaws.{arm, past-eight, no-arm}
+use Rattle.steps.proofs.BranchesLaws.{arm, last-of-eight}
 use borrow.Author.Needs.{needs}
 use Rattle.steps.proofs.branches.coulomb_move.Statement.{statement}
 use Rattle.steps.proofs.branches.coulomb_move.Tie as tie
@@ -72,9 +72,6 @@ with-d-requires c κs = search needs
 raised-requires-5 : tie.Need-raised-requires-5
 raised-requires-5 c κs = search needs
 
-plain-requires-4 : tie.Need-plain-requires-4
-plain-requires-4 c κs = search needs
-
 returns : tie.Need-returns
 unfolding moveIn fallWord
 returns c = search arm
@@ -105,13 +102,9 @@ returns-7 c = search arm
 
 returns-8 : tie.Need-returns-8
 unfolding moveIn fallWord
-returns-8 c = search arm
-
-returns-9 : tie.Need-returns-9
-unfolding moveIn fallWord
-returns-9 c = let r = c .before .match .rest in
-    let h : 8 ≤ c .before .before .args .number = past-eight _ (r .0 .0 .0 .0 .0 .0 .0 .1) (r .0 .0 .0 .0 .0 .0 .1) (r .0 .0 .0 .0 .0 .1) (r .0 .0 .0 .0 .1) (r .0 .0 .0 .1) (r .0 .0 .1) (r .0 .1) (r .1) in
-    search no-arm
+returns-8 c = let r = c .before .before .match .rest in
+    let h : c .before .before .before .args .number ≡ 7 = last-of-eight _ (search needs) (r .0 .0 .0 .0 .0 .0 .1) (r .0 .0 .0 .0 .0 .1) (r .0 .0 .0 .0 .1) (r .0 .0 .0 .1) (r .0 .0 .1) (r .0 .1) (r .1) in
+    search arm
 
 pub coulomb-move-spec : {M : Type 1} → statement M
 coulomb-move-spec =
@@ -139,7 +132,6 @@ coulomb-move-spec =
     raised-requires-4
     with-d-requires
     raised-requires-5
-    plain-requires-4
     returns
     returns-2
     returns-3
@@ -147,5 +139,4 @@ coulomb-move-spec =
     returns-5
     returns-6
     returns-7
-    returns-8
-    returns-9)
+    returns-8)

@@ -1,8 +1,8 @@
 -- `kinetic_move` meets its contract.
 use native.Mathlib.Omega.{arith}
-use Prim.Native.Nat.{_≤_}
+use mathlib.Core.Path.{_≡_}
 use Rattle.steps.specs.inner.Packed.{moveIn, fallWord}
-use Rattle.steps.proofs.BranchesLaws.{arm, no-arm}
+use Rattle.steps.proofs.BranchesLaws.{arm}
 use borrow.Author.Needs.{needs}
 use Rattle.steps.proofs.branches.kinetic_move.Statement.{statement}
 use Rattle.steps.proofs.branches.kinetic_move.Tie as tie
@@ -40,9 +40,6 @@ by-centre-requires c κs = search needs
 plain-requires-5 : tie.Need-plain-requires-5
 plain-requires-5 c κs = search needs
 
-plain-requires-6 : tie.Need-plain-requires-6
-plain-requires-6 c κs = search needs
-
 returns : tie.Need-returns
 unfolding moveIn fallWord
 returns c = search arm
@@ -61,11 +58,7 @@ returns-4 c = search arm
 
 returns-5 : tie.Need-returns-5
 unfolding moveIn fallWord
-returns-5 c = search arm
-
-returns-6 : tie.Need-returns-6
-unfolding moveIn fallWord
-returns-6 c = let h : 5 ≤ c .before .before .args .number = omega arith in search no-arm
+returns-5 c = let h : c .before .before .before .before .args .number ≡ 4 = omega arith in search arm
 
 pub kinetic-move-spec : {M : Type 1} → statement M
 kinetic-move-spec =
@@ -82,10 +75,8 @@ kinetic-move-spec =
     twice-requires-2
     by-centre-requires
     plain-requires-5
-    plain-requires-6
     returns
     returns-2
     returns-3
     returns-4
-    returns-5
-    returns-6)
+    returns-5)

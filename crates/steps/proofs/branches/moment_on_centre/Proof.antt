@@ -1,8 +1,8 @@
 -- `moment_on_centre` meets its contract.
 use native.Mathlib.Omega.{arith}
-use Prim.Native.Nat.{_≤_}
+use mathlib.Core.Path.{_≡_}
 use Rattle.steps.specs.inner.Packed.{moveIn, fallWord}
-use Rattle.steps.proofs.BranchesLaws.{arm, no-arm}
+use Rattle.steps.proofs.BranchesLaws.{arm}
 use borrow.Author.Needs.{needs}
 use Rattle.steps.proofs.branches.moment_on_centre.Statement.{statement}
 use Rattle.steps.proofs.branches.moment_on_centre.Tie as tie
@@ -34,9 +34,6 @@ with-o-requires c κs = search needs
 plain-requires-4 : tie.Need-plain-requires-4
 plain-requires-4 c κs = search needs
 
-plain-requires-5 : tie.Need-plain-requires-5
-plain-requires-5 c κs = search needs
-
 returns : tie.Need-returns
 unfolding moveIn fallWord
 returns c = search arm
@@ -51,11 +48,7 @@ returns-3 c = search arm
 
 returns-4 : tie.Need-returns-4
 unfolding moveIn fallWord
-returns-4 c = search arm
-
-returns-5 : tie.Need-returns-5
-unfolding moveIn fallWord
-returns-5 c = let h : 4 ≤ c .before .before .args .number = omega arith in search no-arm
+returns-4 c = let h : c .before .before .before .args .number ≡ 3 = omega arith in search arm
 
 pub moment-on-centre-spec : {M : Type 1} → statement M
 moment-on-centre-spec =
@@ -70,9 +63,7 @@ moment-on-centre-spec =
     plain-requires-3
     with-o-requires
     plain-requires-4
-    plain-requires-5
     returns
     returns-2
     returns-3
-    returns-4
-    returns-5)
+    returns-4)

@@ -1,8 +1,8 @@
 -- `nuclear_move` meets its contract.
 use native.Mathlib.Omega.{arith}
-use Prim.Native.Nat.{_≤_}
+use mathlib.Core.Path.{_≡_}
 use Rattle.steps.specs.inner.Packed.{moveIn, fallWord}
-use Rattle.steps.proofs.BranchesLaws.{arm, no-arm}
+use Rattle.steps.proofs.BranchesLaws.{arm}
 use borrow.Author.Needs.{needs}
 use Rattle.steps.proofs.branches.nuclear_move.Statement.{statement}
 use Rattle.steps.proofs.branches.nuclear_move.Tie as tie
@@ -49,9 +49,6 @@ with-b-requires-2 c κs = search needs
 raised-requires-3 : tie.Need-raised-requires-3
 raised-requires-3 c κs = search needs
 
-plain-requires-4 : tie.Need-plain-requires-4
-plain-requires-4 c κs = search needs
-
 returns : tie.Need-returns
 unfolding moveIn fallWord
 returns c = search arm
@@ -74,11 +71,7 @@ returns-5 c = search arm
 
 returns-6 : tie.Need-returns-6
 unfolding moveIn fallWord
-returns-6 c = search arm
-
-returns-7 : tie.Need-returns-7
-unfolding moveIn fallWord
-returns-7 c = let h : 6 ≤ c .before .before .args .number = omega arith in search no-arm
+returns-6 c = let h : c .before .before .before .args .number ≡ 5 = omega arith in search arm
 
 pub nuclear-move-spec : {M : Type 1} → statement M
 nuclear-move-spec =
@@ -98,11 +91,9 @@ nuclear-move-spec =
     plain-requires-3
     with-b-requires-2
     raised-requires-3
-    plain-requires-4
     returns
     returns-2
     returns-3
     returns-4
     returns-5
-    returns-6
-    returns-7)
+    returns-6)

@@ -1,8 +1,8 @@
 -- `overlap_move` meets its contract.
 use native.Mathlib.Omega.{arith}
-use Prim.Native.Nat.{_≤_}
+use mathlib.Core.Path.{_≡_}
 use Rattle.steps.specs.inner.Packed.{moveIn, fallWord}
-use Rattle.steps.proofs.BranchesLaws.{arm, no-arm}
+use Rattle.steps.proofs.BranchesLaws.{arm}
 use borrow.Author.Needs.{needs}
 use Rattle.steps.proofs.branches.overlap_move.Statement.{statement}
 use Rattle.steps.proofs.branches.overlap_move.Tie as tie
@@ -28,9 +28,6 @@ with-b-requires c κs = search needs
 plain-requires-3 : tie.Need-plain-requires-3
 plain-requires-3 c κs = search needs
 
-plain-requires-4 : tie.Need-plain-requires-4
-plain-requires-4 c κs = search needs
-
 returns : tie.Need-returns
 unfolding moveIn fallWord
 returns c = search arm
@@ -41,11 +38,7 @@ returns-2 c = search arm
 
 returns-3 : tie.Need-returns-3
 unfolding moveIn fallWord
-returns-3 c = search arm
-
-returns-4 : tie.Need-returns-4
-unfolding moveIn fallWord
-returns-4 c = let h : 3 ≤ c .before .before .args .number = omega arith in search no-arm
+returns-3 c = let h : c .before .before .before .args .number ≡ 2 = omega arith in search arm
 
 pub overlap-move-spec : {M : Type 1} → statement M
 overlap-move-spec =
@@ -58,8 +51,6 @@ overlap-move-spec =
     plain-requires-2
     with-b-requires
     plain-requires-3
-    plain-requires-4
     returns
     returns-2
-    returns-3
-    returns-4)
+    returns-3)
