@@ -9,9 +9,10 @@ use native.Mathlib.Nat.{pow-suc, pow-le-pow-right, mod-lt}
 use mathlib.Core.Logic.{_⊎_, inl, inr, ⊎-elim}
 use borrow.Author.Tests.{lt-ltb, le-ltb, ltb-true, ltb-false, eqb-false, ne-eqb}
 use lib.Dec.{ltb, eqb, lit<}
-use lib.ListN.{length, getD, drop, length-drop, drop-of-length-le}
+use lib.ListN.{length, getD, take, drop, length-drop, drop-of-length-le}
 use lib.Seq.{drop-cons}
 use Rattle.laws.proofs.Cases.{clash}
+use Rattle.laws.proofs.Lists.{drop-take, take-head}
 use Rattle.number.specs.declared.Number.{Number}
 use Rattle.number.specs.declared.Number.the-variants.{Is, Ended, NotShortest, TooLarge}
 use Rattle.number.specs.Numbers.{oneByte, above, last, higher, readFrom, readAt}
@@ -166,3 +167,48 @@ from-inside (b ∷ t) at n next e = by (ltb b 128) refl e
 pub read-inside : (s : List ℕ) (at n next : ℕ) → readAt s at ≡ Is n next → (at < next) × (next ≤ length s)
 unfolding readAt
 read-inside s at n next e = let i = from-inside (drop at s) at n next e in (i .0, omega (arith, i .0, i .1, length-drop at s))
+
+-- ---- what is read is settled by the bytes up to the place after it
+
+fifth-alike : (b : ℕ) (t u : List ℕ) (at : ℕ) → higher (b ∷ u) at 0 ≡ higher (b ∷ t) at 0
+unfolding higher
+fifth-alike b t u at = refl
+
+higher-alike : (more : ℕ) (l m : List ℕ) (at n next : ℕ) → higher l at more ≡ Is n next → take (next - at) m ≡ take (next - at) l → higher m at more ≡ Is n next
+higher-alike more [] m at n next e alike = let none = none-ended more at in absurd (clash (cc))
+higher-alike zero (b ∷ t) m at n next e alike =
+    let some = higher-inside zero (b ∷ t) at n next e in
+    let size : next - at ≡ suc (next - (at + 1)) = omega arith in
+    let h = take-head (next - (at + 1)) b t m (rw size at alike) in
+    rw (h .1) (fifth-alike b t (h .0) at ∙ e)
+higher-alike (suc more) (b ∷ t) m at n next e alike =
+    let some = higher-inside (suc more) (b ∷ t) at n next e in
+    let size : next - at ≡ suc (next - (at + 1)) = omega arith in
+    let h = take-head (next - (at + 1)) b t m (rw size at alike) in
+    ⊎-elim (λ w. let ends = w .1 in rw (h .1) (cons-last (suc more) b (h .0) at (λ z. clash (cc)) (ends .some) (w .0) ∙ cc (ends .says, ends .after)))
+    (λ w. rw (h .1) (cons-more (suc more) more b (h .0) at refl (w .big) ∙ ap (above (b % 128)) (higher-alike more t (h .0) (at + 1) (w .rest) next (w .reads) (h .2)) ∙ cc (w .says)))
+    (higher-is more b t at n next e)
+
+from-alike : (l m : List ℕ) (at n next : ℕ) → readFrom l at ≡ Is n next → take (next - at) m ≡ take (next - at) l → readFrom m at ≡ Is n next
+unfolding readFrom
+from-alike [] m at n next e alike = absurd (clash (cc))
+from-alike (b ∷ t) m at n next e alike =
+    let some = from-inside (b ∷ t) at n next e in
+    let size : next - at ≡ suc (next - (at + 1)) = omega arith in
+    let h = take-head (next - (at + 1)) b t m (rw size at alike) in
+    rw (h .1) (by (ltb b 128) refl (h .0) (h .2) e)
+  where
+    by : (q : Bool) → ltb b 128 ≡ q → (u : List ℕ) → take (next - (at + 1)) u ≡ take (next - (at + 1)) t → cond q (Is b (at + 1)) (above (b % 128) (higher t (at + 1) 3)) ≡ Is n next
+        → cond (ltb b 128) (Is b (at + 1)) (above (b % 128) (higher u (at + 1) 3)) ≡ Is n next
+    by true lt u same e = rw lt e
+    by false ge u same e =
+        let a = above-is (b % 128) n next (higher t (at + 1) 3) e in
+        rw ge (ap (above (b % 128)) (higher-alike 3 t u (at + 1) (a .0) next (a .1) same) ∙ cc (a .2))
+
+pub read-alike : (s t : List ℕ) (at n next : ℕ) → readAt s at ≡ Is n next → take next t ≡ take next s → readAt t at ≡ Is n next
+unfolding readAt
+read-alike s t at n next e alike =
+    let i = from-inside (drop at s) at n next e in
+    let size : at + (next - at) ≡ next = omega (arith, i .0) in
+    let whole : take (at + (next - at)) t ≡ take (at + (next - at)) s = rw size alike in
+    from-alike (drop at s) (drop at t) at n next e (sym (drop-take at (next - at) t) ∙ ap (drop at) whole ∙ drop-take at (next - at) s)

@@ -72,7 +72,7 @@ term-back k l t s rest at small fit is =
     let r = prefactors-back ps (tableOf k) s rest (h .0) (table-within k) (fit .prefactors) (h .2) in
     (r .0, rw (f .1, g .1, h .1, r .1), r .2)
 
-terms-back : (k : Kind) (l : ℕ) (ts : List Term) (s : List ℕ) (at : ℕ) → l ≤ mostL k → at ≤ length s → TermsFit k l ts → drop at s ≡ termsBytes ts → termsAt s at (length ts) k l ≡ got ts (length s)
+pub terms-back : (k : Kind) (l : ℕ) (ts : List Term) (s : List ℕ) (at : ℕ) → l ≤ mostL k → at ≤ length s → TermsFit k l ts → drop at s ≡ termsBytes ts → termsAt s at (length ts) k l ≡ got ts (length s)
 unfolding termsAt termsBytes
 terms-back k l [] s at small inside fit is =
     let end : at ≡ length s = omega (arith, length-drop at s, ap length is) in
