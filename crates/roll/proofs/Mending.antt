@@ -16,7 +16,7 @@ use Rattle.number.specs.Numbers.{bytesOf, readAt, refusalOf}
 use Rattle.number.proofs.Reading.{read-inside, read-alike}
 use Rattle.roll.specs.declared.field.Field.{Field}
 use Rattle.roll.specs.declared.field.Field.the-variants as field
-use Rattle.roll.specs.Reading.{Reading, got, refused, opened, withinAt, onward, andThen}
+use Rattle.roll.specs.Reading.{Reading, got, refused, wrongPlace, opened, withinAt, onward, andThen}
 use Rattle.roll.specs.Places.{Leads, here, over}
 use Rattle.roll.proofs.FieldLaws.{taken}
 use Rattle.roll.proofs.Filling.{onward-is}
@@ -123,7 +123,7 @@ broken-then {A = A} f s at low high n next r p e b =
 pub opened-place : (q : Number) (at low high r p : ℕ) → opened q at low high ≡ field.Refused r p → at ≡ p
 opened-place (number.Is n next) at low high r p e = by (ltb n low || ltb high n) e
   where
-    by : (b : Bool) → cond b (field.Refused 7 at) (field.Is n next) ≡ field.Refused r p → at ≡ p
+    by : (b : Bool) → cond b (field.Refused 7 (wrongPlace at next)) (field.Is n next) ≡ field.Refused r p → at ≡ p
     by true e = cc
     by false e = absurd (clash (cc))
 opened-place number.Ended at low high r p e = cc

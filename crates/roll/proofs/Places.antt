@@ -204,7 +204,7 @@ plain = record { scale = 1; boys = 0; prefactors = [] }
 
 plain-fits : (k : Kind) (l n : ℕ) → TermsFit k l (replicate n plain)
 plain-fits k l zero = tt
-plain-fits k l (suc n) = (record { some = omega arith; scale = omega arith; boys = zero-le; count = zero-le; prefactors = tt }, plain-fits k l n)
+plain-fits k l (suc n) = (record { scale-least = omega arith; scale = omega arith; boys = zero-le; count = zero-le; prefactors = tt }, plain-fits k l n)
 
 plain-terms : (k : Kind) (l n : ℕ) (t : List ℕ) (at : ℕ) → l ≤ mostL k → at ≤ length t → drop at t ≡ termsBytes (replicate n plain) → termsAt t at n k l ≡ got (replicate n plain) (length t)
 plain-terms k l n t at small inside is = rw (length-replicate n plain) at (terms-back k l (replicate n plain) t at small inside (plain-fits k l n) is)
