@@ -116,7 +116,7 @@ module _ (k : Kind) (os : List ℕ) (within : RequestWithin k os) where
       let few = sums .deep in
       subst (λ (l : ℕ). TermFits k l t) (sym used-total)
       (record {
-        some = kept .scale-least;
+        scale-least = kept .scale-least;
         scale = scale-limit k os t kept (omega arith);
         boys = boys-most k (total os) (t .boys) (kept .boys) (kept .boys-none);
         count = count-most k (total os) (length (t .prefactors)) (kept .count);
@@ -130,7 +130,7 @@ module _ (k : Kind) (os : List ℕ) (within : RequestWithin k os) where
         record {
           places = orders-long k os within;
           sums = centres;
-          some = some-term (start k os) unused;
+          terms-least = some-term (start k os) unused;
           most = few;
           terms = terms-all k (total (take (ordersOf k) os)) (termsOf k os) term-fits;
         }

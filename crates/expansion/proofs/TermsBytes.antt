@@ -9,7 +9,8 @@ use lib.ListN.{length, set, length-append, length-set}
 use lib.Seq.{sets, length-sets}
 use Rattle.laws.proofs.Cases.{clash}
 use Rattle.laws.proofs.Lists.{sets-append}
-use Rattle.number.specs.Numbers.{bytesOf, lengthOf, WriteTold, writtenAt, outAfter}
+use Rattle.laws.proofs.Parts.{room-placed}
+use Rattle.number.specs.Numbers.{bytesOf, lengthOf, WriteTold, writtenAt}
 use Rattle.number.specs.declared.Written.{Written}
 use Rattle.number.specs.declared.Written.the-variants.{Next, NoRoom}
 use Rattle.number.proofs.Writing.{bytes-last, store-last}
@@ -71,8 +72,7 @@ module _ (out : List ℕ) (at n : ℕ) (fits : NumberMay n at out) where
     there = wrote .answer ∙ rw room-test
 
     stored : after ≡ sets out at (bytesOf n)
-    unfolding outAfter
-    stored = wrote .out ∙ rw room-test
+    stored = wrote .out ∙ sym (room-placed (bytesOf n) out at room-test)
 
     pub number-next : (next : ℕ) → r ≡ Next next → Emitted (bytesOf n) at out next after
     number-next next e = record { next = let h = there in cc; out = stored }

@@ -2,11 +2,11 @@
 use Prim.Native.Nat.{ℕ, zero, suc, _+_, _-_, _≤_, _<_}
 use mathlib.Core.Path.{_≡_, refl, ap, sym, _∙_}
 use mathlib.Core.List.{List, [], _∷_, _++_, flatten, append-assoc, List·Memᴰ, List·Memᴰ·head, List·Memᴰ·tail}
-use native.Mathlib.Nat.{add-zero, add-suc, suc-add, not-suc-le-zero}
+use native.Mathlib.Nat.{zero-add, add-zero, add-suc, suc-add, not-suc-le-zero}
 use native.Mathlib.Numerals.{add-one, add-two}
 use native.Mathlib.Omega.{arith}
-use lib.ListN.{length, getD, drop, replicate, set, length-replicate}
-use lib.Seq.{sets, set-comm, drop-cons, drop-drop, drop-append-seam}
+use lib.ListN.{length, getD, take, drop, replicate, set, length-replicate}
+use lib.Seq.{sets, set-comm, take-nil, take-take, drop-cons, drop-drop, drop-append-seam}
 
 -- an array that is made of one number has the length asked for: of no array in particular, so that nothing is counted
 pub array-length : (n : ℕ) → n ≡ length {A = ℕ} (replicate n 0)
@@ -41,6 +41,21 @@ drop-after s bytes rest at next is after = rw (after, ← (drop-drop (length byt
 
 pub drop-then : (s xs ys : List ℕ) (at m n : ℕ) → drop at s ≡ xs ++ drop m s → drop m s ≡ ys ++ drop n s → drop at s ≡ (xs ++ ys) ++ drop n s
 drop-then s xs ys at m n p q = p ∙ ap (λ (l : List ℕ). xs ++ l) q ∙ sym (append-assoc xs ys (drop n s))
+
+-- ---- lists that begin alike
+
+pub drop-take : (m n : ℕ) (l : List ℕ) → drop m (take (m + n) l) ≡ take n (drop m l)
+drop-take zero n l = ap (λ (k : ℕ). take k l) (zero-add n)
+drop-take (suc m) n [] = rw (take-nil n, suc-add m n)
+drop-take (suc m) n (x ∷ l) = rw (suc-add m n) (drop-take m n l)
+
+-- what begins as a list does up to a place, begins so up to every place before it
+pub take-less : (s t : List ℕ) (m n : ℕ) → m ≤ n → take n t ≡ take n s → take m t ≡ take m s
+take-less s t m n less alike = sym (take-take m n t less) ∙ ap (take m) alike ∙ take-take m n s less
+
+pub take-head : (k b : ℕ) (l m : List ℕ) → take (suc k) m ≡ b ∷ take k l → (rest : List ℕ) × (m ≡ b ∷ rest) × (take k rest ≡ take k l)
+take-head k b l [] e = absurd (omega (arith, ap length e))
+take-head k b l (c ∷ rest) e = (rest, cc, cc)
 
 -- ---- single places
 

@@ -4,29 +4,30 @@ use native.Mathlib.Omega.{arith}
 use mathlib.Core.Path.{_≡_, refl, sym, _∙_}
 use mathlib.Core.Bool.{Bool, true, false}
 use mathlib.Core.List.{List}
-use borrow.Author.Tests.{le-ltb, ltb-false}
+use borrow.Author.Tests.{le-ltb, le-leb, ltb-false}
 use lib.Dec.{ltb}
 use lib.ListN.{length, drop, length-append}
 use lib.Seq.{take-append-seam}
 use Rattle.kind.specs.Limits.{mostListed}
 use Rattle.laws.proofs.Cases.{clash}
+use Rattle.laws.specs.Placed.{placedWhereFits}
 use Rattle.number.specs.Numbers.{Bytes}
 use Rattle.roll.specs.Reading.{Reading, got, refused, Roll, rollAt}
 use Rattle.listing.specs.declared.Listed.{Listed}
 use Rattle.listing.specs.declared.Listed.the-variants.{Text, Refused}
 use Rattle.listing.specs.Text.{listingText, refusalText}
-use Rattle.listing.specs.Answers.{textAt, textOut, TextTold, readAnswer, readOut, listingAt, listingOut, ListingTold}
+use Rattle.listing.specs.Answers.{textAt, TextTold, readAnswer, readOut, listingAt, listingOut, ListingTold}
 use Rattle.listing.proofs.Room.{listing-short, refusal-short}
 use Rattle.list.specs.Output.{outputOf}
 use Rattle.list.specs.inner.Room.{textRoom, Holds}
 
 -- a text that has room from the front on
-at-front : (text out : List ℕ) → length text ≤ length out → (textAt text out 0 ≡ Text (length text)) × Holds (textOut text out 0) (length text) text
-unfolding textAt textOut
+at-front : (text out : List ℕ) → length text ≤ length out → (textAt text out 0 ≡ Text (length text)) × Holds (placedWhereFits out 0 text) (length text) text
+unfolding textAt
 at-front text out room =
     let fits : ltb (length out) (0 + length text) ≡ false = le-ltb (length out) (0 + length text) (omega arith) in (
       rw (le-ltb (length out) 0 (omega arith), fits),
-      rw fits (record { inside = omega (arith, length-append text (drop (0 + length text) out)); is = take-append-seam text (drop (0 + length text) out) }),
+      rw (le-leb (0 + length text) (length out) (omega arith)) (record { inside = omega (arith, length-append text (drop (0 + length text) out)); is = take-append-seam text (drop (0 + length text) out) }),
     )
 
 pub refused-text : (refusal place n : ℕ) (before after : List ℕ) (x : Listed) → textRoom ≤ length before → refusal < 256 → place < 2 ^ 64 → TextTold (refusalText refusal place) before 0 x after → x ≡ Text n → Holds after n (refusalText refusal place)

@@ -3,45 +3,42 @@ use Prim.Native.Nat.{ℕ, _+_, _-_, _≤_, _<_}
 use native.Mathlib.Omega.{arith}
 use mathlib.Core.Path.{_≡_, refl, sym, _∙_}
 use mathlib.Core.List.{List, [], _∷_, _++_}
-use borrow.Author.Tests.{lt-ltb, le-ltb}
+use borrow.Author.Tests.{lt-ltb, le-ltb, lt-leb, le-leb}
 use borrow.Rule.Slice.PartMut.{putMid}
 use lib.ListN.{length, take, drop, length-drop}
 use lib.Seq.{sets}
-use Rattle.laws.proofs.Parts.{part-all, part-put}
+use Rattle.laws.proofs.Lists.{length-zero}
+use Rattle.laws.proofs.Parts.{no-room-placed, part-all, part-put}
 use Rattle.text.specs.declared.Written.{Written}
 use Rattle.text.specs.declared.Written.the-variants.{To, NoRoom}
 use Rattle.listing.specs.declared.Listed.the-variants.{Text, Refused}
 use Rattle.listing.specs.inner.Saying.{Said}
-use Rattle.listing.specs.Answers.{textAt, textOut, TextTold}
+use Rattle.listing.specs.Answers.{textAt, TextTold}
 use Rattle.listing.proofs.Saying.{advanced-is, advanced-not}
 
-no-bytes : (l : List ℕ) → length l ≡ 0 → l ≡ []
-no-bytes [] e = refl
-no-bytes (x ∷ l) e = absurd (omega arith)
-
 pub told-beyond : (text out : List ℕ) (start : ℕ) → length out < start → TextTold text out start (Refused 5 0) out
-unfolding textAt textOut
+unfolding textAt
 told-beyond text out start past =
     record {
       answer = rw (lt-ltb (length out) start past);
-      out = rw (lt-ltb (length out) (start + length text) (omega arith));
+      out = no-room-placed text out start (lt-leb (start + length text) (length out) (omega arith));
     }
 
 -- a text that is measured into no bytes leaves the buffer as it was
 pub told-full : (text out part : List ℕ) (start : ℕ) (m : Written) → start ≤ length out → Said (length out - start) [] (To 0) text m part → m ≡ NoRoom → TextTold text out start (Refused 6 0) (part ++ out)
-unfolding textAt textOut
+unfolding textAt
 told-full text out part start m inside measured full =
-    let none : part ≡ [] = no-bytes part (measured .long) in
+    let none : part ≡ [] = length-zero part (measured .long) in
     let over : length out - start < 0 + length text = advanced-not (length out - start) (length text) 0 (sym (measured .answer) ∙ full) in
     record {
       answer = rw (le-ltb (length out) start inside, lt-ltb (length out) (start + length text) (omega arith));
-      out = rw (none, lt-ltb (length out) (start + length text) (omega arith));
+      out = rw none (no-room-placed text out start (lt-leb (start + length text) (length out) (omega arith)));
     }
 
 pub told-text : (text out part written : List ℕ) (start n : ℕ) (m r : Written) → start ≤ length out → Said (length out - start) [] (To 0) text m part → m ≡ To n → Said (length out - start) (take (length (part ++ out) - start) (drop start (part ++ out))) (To 0) text r written → TextTold text out start (Text n) (putMid start (length (part ++ out) - start) (part ++ out) written)
-unfolding textAt textOut
+unfolding textAt
 told-text text out part written start n m r inside measured fits said =
-    let none : part ≡ [] = no-bytes part (measured .long) in
+    let none : part ≡ [] = length-zero part (measured .long) in
     let f = advanced-is (length out - start) (length text) (To 0) n (sym (measured .answer) ∙ fits) in
     let zero-at : f .0 ≡ 0 = cc (f .1) in
     let size : n ≡ length text = omega (arith, f .2) in
@@ -53,5 +50,5 @@ told-text text out part written start n m r inside measured fits said =
     let put : putMid start (length out - start) out written ≡ take start out ++ (text ++ drop (start + length text) out) = part-put out written text start room stored in
     record {
       answer = rw (le-ltb (length out) start inside, le-ltb (length out) (start + length text) room, size);
-      out = rw (none, le-ltb (length out) (start + length text) room) put;
+      out = rw (none, le-leb (start + length text) (length out) room) put;
     }

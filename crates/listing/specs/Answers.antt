@@ -5,7 +5,7 @@ use mathlib.Core.Bool.{cond}
 use mathlib.Core.List.{List}
 use lib.Dec.{ltb}
 use lib.ListN.{length}
-use Rattle.laws.specs.Placed.{placed}
+use Rattle.laws.specs.Placed.{placedWhereFits}
 use Rattle.kind.specs.Limits.{mostListed}
 use Rattle.roll.specs.Reading.{Reading, got, refused, Roll, rollAt}
 use Rattle.listing.specs.declared.Listed.{Listed}
@@ -20,14 +20,9 @@ textAt text out start =
     (listed.Text (length text)))
 
 -- only the bytes of the text change, and none where it does not fit
-unfoldable pub textOut : List ℕ → List ℕ → ℕ → List ℕ
-textOut text out start =
-    cond (ltb (length out) (start + length text)) out
-    (placed out start text)
-
 pub record TextTold (text before : List ℕ) (start : ℕ) (r : Listed) (after : List ℕ) : Type 0 where
   pub answer : r ≡ textAt text before start
-  pub out : after ≡ textOut text before start
+  pub out : after ≡ placedWhereFits before start text
 
 -- a roll that breaks a rule is 7 with its place
 abbrev pub readAnswer : Reading Roll → List ℕ → ℕ → Listed
@@ -35,7 +30,7 @@ readAnswer (got r end) out start = textAt (listingText r) out start
 readAnswer (refused n place) out start = listed.Refused n place
 
 abbrev pub readOut : Reading Roll → List ℕ → ℕ → List ℕ
-readOut (got r end) out start = textOut (listingText r) out start
+readOut (got r end) out start = placedWhereFits out start (listingText r)
 readOut (refused n place) out start = out
 
 -- 6 a roll over the listing's limit, before anything of it is read (D-17)

@@ -10,8 +10,9 @@ use native.Mathlib.Nat.{pow-suc, pos-of-ne-zero}
 use borrow.Author.Tests.{lt-ltb, le-ltb, ltb-true, ltb-false, ne-eqb}
 use lib.Dec.{ltb, lit<}
 use lib.ListN.{length, drop, length-append, length-drop}
-use lib.Seq.{drop-append-seam, drop-drop, getD-drop}
+use lib.Seq.{drop-append-seam, getD-drop}
 use Rattle.laws.proofs.Cases.{clash}
+use Rattle.laws.proofs.Lists.{drop-after}
 use Rattle.number.specs.declared.Number.the-variants.{Is}
 use Rattle.number.specs.Numbers.{groups, bytesOf, lengthOf, above, higher, readFrom, readAt, Bytes}
 use Rattle.number.proofs.Reading.{none-ended, cons-last, cons-more, fifth-is, higher-is, higher-below, above-is, Ends}
@@ -133,10 +134,6 @@ from-only (b ∷ t) at n next bytes e = by (ltb b 128) refl e
         let took = took-more 3 b (a .0) t at n next (ltb-false b 128 ge) (bytes 0) (a .2) (higher-only 3 t (at + 1) (a .0) next (λ i. bytes (suc i)) (a .1)) in
         (omega (arith, bytes 0), (took .rest, took .is, took .after))
 
--- what follows the bytes that stand at a place
-pub after-bytes : (s bytes rest : List ℕ) (at next : ℕ) → drop at s ≡ bytes ++ rest → next ≡ at + length bytes → drop next s ≡ rest
-after-bytes s bytes rest at next is after = rw (after, ← (drop-drop (length bytes) at s), is) (drop-append-seam bytes rest)
-
 pub reads-only : (s : List ℕ) (at n next : ℕ) → Bytes s → readAt s at ≡ Is n next → Reads s at n next
 unfolding readAt lengthOf
 reads-only s at n next bytes e =
@@ -144,7 +141,7 @@ reads-only s at n next bytes e =
     let rest = f .1 .0 in
     let is : drop at s ≡ bytesOf n ++ rest = f .1 .1 in
     let after : next ≡ at + length (bytesOf n) = f .1 .2 in
-    let left : drop next s ≡ rest = after-bytes s (bytesOf n) rest at next is after in
+    let left : drop next s ≡ rest = drop-after s (bytesOf n) rest at next is after in
     record {
       below = f .0;
       after = after;

@@ -10,8 +10,9 @@ use borrow.Author.Tests.{lt-ltb, le-ltb, le-leb, lt-leb, ltb-true, ltb-false}
 use lib.Dec.{ltb, lit<, lit≤}
 use lib.ListN.{length, set, length-set}
 use lib.Seq.{sets}
+use Rattle.laws.proofs.Parts.{room-placed, no-room-placed}
 use Rattle.number.specs.declared.Written.the-variants.{Next, NoRoom}
-use Rattle.number.specs.Numbers.{oneByte, groups, bytesOf, lengthOf, writtenAt, outAfter, WriteTold}
+use Rattle.number.specs.Numbers.{oneByte, groups, bytesOf, lengthOf, writtenAt, WriteTold}
 
 pub groups-last : (more n : ℕ) → n < 128 → groups more n ≡ n ∷ []
 unfolding groups
@@ -141,9 +142,9 @@ pub put-all : (before : List ℕ) (start n : ℕ) (out : List ℕ) (left at : �
 put-all before start n out left at p small = store-last out at left small ∙ p .stores
 
 pub wrote-none : (out : List ℕ) (at : ℕ) (bytes : List ℕ) → length out < at + length bytes → WriteTold out at bytes NoRoom out
-unfolding writtenAt outAfter
-wrote-none out at bytes over = record { answer = simp (lt-leb (at + length bytes) (length out) over); out = simp (lt-leb (at + length bytes) (length out) over) }
+unfolding writtenAt
+wrote-none out at bytes over = let none = lt-leb (at + length bytes) (length out) over in record { answer = rw none; out = no-room-placed bytes out at none }
 
 pub wrote-all : (out after : List ℕ) (at : ℕ) (bytes : List ℕ) (next : ℕ) → at + length bytes ≤ length out → next ≡ at + length bytes → after ≡ sets out at bytes → WriteTold out at bytes (Next next) after
-unfolding writtenAt outAfter
-wrote-all out after at bytes next room is stored = record { answer = simp (le-leb (at + length bytes) (length out) room, is); out = simp (le-leb (at + length bytes) (length out) room, stored) }
+unfolding writtenAt
+wrote-all out after at bytes next room is stored = let fits = le-leb (at + length bytes) (length out) room in record { answer = rw (fits, is); out = stored ∙ room-placed bytes out at fits }

@@ -3,9 +3,9 @@ use Prim.Native.Nat.{ℕ, zero, suc, _+_, _*_, _/_, _%_, _<_}
 use mathlib.Core.Path.{_≡_}
 use mathlib.Core.Bool.{Bool, cond}
 use mathlib.Core.List.{List, [], _∷_}
-use lib.Dec.{ltb, leb, eqb}
+use lib.Dec.{ltb, eqb}
 use lib.ListN.{length, getD, drop}
-use lib.Seq.{sets}
+use Rattle.laws.specs.Placed.{roomFor, placedWhereFits}
 use Rattle.number.specs.declared.Number.{Number}
 use Rattle.number.specs.declared.Number.the-variants.{Is, Ended, NotShortest, TooLarge}
 use Rattle.number.specs.declared.Written.{Written}
@@ -70,12 +70,9 @@ refusalOf TooLarge = 7
 
 -- bytes fit into a lent list from `at` on, or not
 unfoldable pub writtenAt : List ℕ → ℕ → List ℕ → Written
-writtenAt out at bytes = cond (leb (at + length bytes) (length out)) (Next (at + length bytes)) NoRoom
+writtenAt out at bytes = cond (roomFor out at (length bytes)) (Next (at + length bytes)) NoRoom
 
--- where they fit they are stored from `at` on; otherwise nothing changes (D-14)
-unfoldable pub outAfter : List ℕ → ℕ → List ℕ → List ℕ
-outAfter out at bytes = cond (leb (at + length bytes) (length out)) (sets out at bytes) out
-
+-- where they fit they stand from `at` on; otherwise nothing changes (D-14)
 pub record WriteTold (before : List ℕ) (at : ℕ) (bytes : List ℕ) (r : Written) (after : List ℕ) : Type 0 where
   pub answer : r ≡ writtenAt before at bytes
-  pub out : after ≡ outAfter before at bytes
+  pub out : after ≡ placedWhereFits before at bytes

@@ -12,8 +12,9 @@ use Rattle.kind.specs.declared.Kind.the-variants.{Overlap, Kinetic, Nuclear, Mo
 use Rattle.kind.specs.declared.Named.{Named}
 use Rattle.kind.proofs.KindNumber.{kind-number}
 use Rattle.kind.proofs.Within.{number-within, l-within, table-within}
+use Rattle.laws.proofs.Lists.{drop-after}
 use Rattle.number.specs.Numbers.{bytesOf, lengthOf, readAt}
-use Rattle.number.proofs.Laws.{reads-back-from, after-bytes}
+use Rattle.number.proofs.Laws.{reads-back-from}
 use Rattle.term.specs.Terms.{Term}
 use Rattle.roll.specs.declared.field.Field.{Field}
 use Rattle.roll.specs.declared.field.Field.the-variants as field
@@ -33,7 +34,7 @@ unfolding readAt lengthOf
 field-back s rest at low high n is small above below = (
   at + lengthOf n,
   sym (within-is s at low high (readAt s at) n (at + lengthOf n) refl (rw is (reads-back-from n at rest small)) above below),
-  after-bytes s (bytesOf n) rest at (at + lengthOf n) is refl,
+  drop-after s (bytesOf n) rest at (at + lengthOf n) is refl,
 )
 
 -- ---- a term
@@ -66,13 +67,13 @@ term-back k l t s rest at small fit is =
     ∙ ap (λ (x : List ℕ). bytesOf (t .scale) ++ x) (append-assoc (bytesOf (t .boys)) (bytesOf (length ps) ++ numbersBytes ps) rest
     ∙ ap (λ (x : List ℕ). bytesOf (t .boys) ++ x) (append-assoc (bytesOf (length ps)) (numbersBytes ps) rest)) in
     let few = few-prefactors k l small in
-    let f = field-back s after-scale at 1 mostScale (t .scale) split (omega (arith, fit .scale)) (fit .some) (fit .scale) in
+    let f = field-back s after-scale at 1 mostScale (t .scale) split (omega (arith, fit .scale)) (fit .scale-least) (fit .scale) in
     let g = field-back s after-boys (f .0) 0 (mostBoys k l) (t .boys) (f .2) (omega (arith, fit .boys, most-boys k l, l-within k)) (omega arith) (fit .boys) in
     let h = field-back s after-count (g .0) 0 (mostPrefactors k l) (length ps) (g .2) (omega (arith, fit .count)) (omega arith) (fit .count) in
     let r = prefactors-back ps (tableOf k) s rest (h .0) (table-within k) (fit .prefactors) (h .2) in
     (r .0, rw (f .1, g .1, h .1, r .1), r .2)
 
-terms-back : (k : Kind) (l : ℕ) (ts : List Term) (s : List ℕ) (at : ℕ) → l ≤ mostL k → at ≤ length s → TermsFit k l ts → drop at s ≡ termsBytes ts → termsAt s at (length ts) k l ≡ got ts (length s)
+pub terms-back : (k : Kind) (l : ℕ) (ts : List Term) (s : List ℕ) (at : ℕ) → l ≤ mostL k → at ≤ length s → TermsFit k l ts → drop at s ≡ termsBytes ts → termsAt s at (length ts) k l ≡ got ts (length s)
 unfolding termsAt termsBytes
 terms-back k l [] s at small inside fit is =
     let end : at ≡ length s = omega (arith, length-drop at s, ap length is) in
@@ -131,7 +132,7 @@ pub roll-back : (r : Roll) → RollFits r → rollAt (rollBytes (r .kind) (r .or
 unfolding rollAt rollBytes
 roll-back r fit =
     let s = bytesOf (numberOf (r .kind)) ++ (numbersBytes (r .orders) ++ (bytesOf (length (r .terms)) ++ termsBytes (r .terms))) in
-    let h = header-back (r .kind) (r .orders) (length (r .terms)) s (termsBytes (r .terms)) (fit .places) (fit .sums) (fit .some) (fit .most) refl in
+    let h = header-back (r .kind) (r .orders) (length (r .terms)) s (termsBytes (r .terms)) (fit .places) (fit .sums) (fit .terms-least) (fit .most) refl in
     let hr = header-read s (record { kind = r .kind; orders = r .orders; terms = length (r .terms) }) (h .0) (h .1) in
     let ts = terms-back (r .kind) (total (r .orders)) (r .terms) s (h .0) (orders-most (r .kind) s (hr .a) (r .orders) (hr .b) (hr .orders)) (header-inside s (record { kind = r .kind; orders = r .orders; terms = length (r .terms) }) (h .0) hr) (fit .terms) (h .2) in
     rw (h .1, ts)

@@ -15,7 +15,7 @@ use Rattle.number.specs.declared.Number.the-variants as number
 use Rattle.number.specs.Numbers.{readAt, refusalOf}
 use Rattle.roll.specs.declared.field.Field.{Field}
 use Rattle.roll.specs.declared.field.Field.the-variants as field
-use Rattle.roll.specs.Reading.{opened, withinAt}
+use Rattle.roll.specs.Reading.{wrongPlace, opened, withinAt}
 
 unread : (at low high : ℕ) (q : Number) (r : ℕ) → OneOf (1 ∷ 2 ∷ 3 ∷ []) (tagOf the-type q) → r ≡ refusalOf q → field.Refused r at ≡ opened q at low high
 unread at low high (number.Is n next) r one e = absurd (miss (1 ∷ 2 ∷ 3 ∷ []) 0 tt one)
@@ -27,11 +27,11 @@ pub within-unread : (s : List ℕ) (at low high : ℕ) (q : Number) (r : ℕ) �
 unfolding withinAt
 within-unread s at low high q r is one e = unread at low high q r one e ∙ ap (λ (q : Number). opened q at low high) is
 
-pub within-low : (s : List ℕ) (at low high : ℕ) (q : Number) (n next : ℕ) → q ≡ readAt s at → q ≡ number.Is n next → n < low → field.Refused 7 at ≡ withinAt s at low high
+pub within-low : (s : List ℕ) (at low high : ℕ) (q : Number) (n next : ℕ) → q ≡ readAt s at → q ≡ number.Is n next → n < low → field.Refused 7 (wrongPlace at next) ≡ withinAt s at low high
 unfolding withinAt
 within-low s at low high q n next is e below = rw (sym is ∙ e) (simp (lt-ltb n low below))
 
-pub within-high : (s : List ℕ) (at low high : ℕ) (q : Number) (n next : ℕ) → q ≡ readAt s at → q ≡ number.Is n next → low ≤ n → high < n → field.Refused 7 at ≡ withinAt s at low high
+pub within-high : (s : List ℕ) (at low high : ℕ) (q : Number) (n next : ℕ) → q ≡ readAt s at → q ≡ number.Is n next → low ≤ n → high < n → field.Refused 7 (wrongPlace at next) ≡ withinAt s at low high
 unfolding withinAt
 within-high s at low high q n next is e above beyond = rw (sym is ∙ e) (simp (le-ltb n low above, lt-ltb high n beyond))
 
@@ -48,7 +48,7 @@ pub record Taken (s : List ℕ) (at low high n next : ℕ) : Type 0 where
 opened-is : (at low high n next : ℕ) (q : Number) → opened q at low high ≡ field.Is n next → (low ≤ n) × (n ≤ high) × (q ≡ number.Is n next)
 opened-is at low high n next (number.Is m k) e = by (ltb m low || ltb high m) refl e
   where
-    by : (b : Bool) → (ltb m low || ltb high m) ≡ b → cond b (field.Refused 7 at) (field.Is m k) ≡ field.Is n next → (low ≤ n) × (n ≤ high) × (number.Is m k ≡ number.Is n next)
+    by : (b : Bool) → (ltb m low || ltb high m) ≡ b → cond b (field.Refused 7 (wrongPlace at k)) (field.Is m k) ≡ field.Is n next → (low ≤ n) × (n ≤ high) × (number.Is m k ≡ number.Is n next)
     by true t e = absurd (clash (cc))
     by false f e =
         let no = or-false-both (ltb m low) (ltb high m) f in

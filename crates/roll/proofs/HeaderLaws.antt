@@ -15,6 +15,7 @@ use Rattle.kind.specs.declared.Kind.the-variants.{Coulomb}
 use Rattle.kind.specs.declared.Named.{Named}
 use Rattle.kind.specs.declared.Named.the-variants as named
 use Rattle.laws.proofs.Cases.{clash}
+use Rattle.laws.proofs.Totals.{total-last}
 use Rattle.kind.proofs.Within.{orders-within}
 use Rattle.roll.specs.declared.field.Field.{Field}
 use Rattle.roll.specs.declared.field.Field.the-variants as field
@@ -44,11 +45,6 @@ sum-small i sum o small below = by (eqb (i % 3) 2)
     by : (b : Bool) → cond b 0 (sum + o) ≤ mostOrder
     by true = omega arith
     by false = omega arith
-
-total-more : (os : List ℕ) (o : ℕ) → total (os ++ (o ∷ [])) ≡ total os + o
-unfolding total
-total-more [] o = omega arith
-total-more (x ∷ os) o = omega (arith, total-more os o)
 
 pub record Ordering (s : List ℕ) (at n : ℕ) (values : List ℕ) (place sum l i : ℕ) : Type 0 where
   pub inside : i ≤ n
@@ -82,7 +78,7 @@ ordering-more s at n values place sum l i x o next r f less is e again =
       places = f .places;
       small = rw again (sum-small i sum o (f .small) (taken-below s place 0 (mostOrder - sum) x o next is e));
       filled = filled-more requestOrders values i o (f .filled) inside;
-      sums = rw taken (omega (arith, f .sums, total-more (take i values) o));
+      sums = rw taken (omega (arith, f .sums, total-last (take i values) o));
       few = omega (arith, f .few, f .small, taken-below s place 0 (mostOrder - sum) x o next is e);
       whole =
           rw (taken, again)

@@ -7,8 +7,10 @@ pub mod Filling
 pub mod HeaderLaws
 pub mod Inside
 pub mod JudgeLaws
+pub mod Mending
 pub mod Only
 pub mod OverLaws
+pub mod Places
 pub mod Steps
 pub mod TermsLaws
 pub mod Written

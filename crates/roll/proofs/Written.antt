@@ -13,6 +13,7 @@ use Rattle.kind.specs.Kinds.{numberOf, ordersOf, tableOf, mostPrefactors}
 use Rattle.kind.specs.declared.Kind.{Kind}
 use Rattle.kind.specs.declared.Kind.the-variants.{Overlap, Kinetic, Nuclear, Moment, Coulomb}
 use Rattle.laws.proofs.Cases.{clash}
+use Rattle.laws.proofs.Lists.{drop-then}
 use Rattle.kind.proofs.Within.{some-entries}
 use Rattle.number.specs.Numbers.{bytesOf, Bytes}
 use Rattle.number.proofs.Laws.{reads-only}
@@ -24,10 +25,6 @@ use Rattle.roll.specs.Fits.{CentresFit, Below, TermFits, TermsFit, RollF
 use Rattle.roll.proofs.FieldLaws.{Taken, taken}
 use Rattle.roll.proofs.Filling.{before-is, onward-is, andThen-is}
 use Rattle.roll.proofs.Inside.{term-read, header-read, Centre, centre}
-
--- what stands at a place, then what stands after it
-then : (s xs ys : List ℕ) (at m n : ℕ) → drop at s ≡ xs ++ drop m s → drop m s ≡ ys ++ drop n s → drop at s ≡ (xs ++ ys) ++ drop n s
-then s xs ys at m n p q = p ∙ ap (λ (l : List ℕ). xs ++ l) q ∙ sym (append-assoc xs ys (drop n s))
 
 taken-bytes : (s : List ℕ) (at low high n next : ℕ) → Bytes s → Taken s at low high n next → drop at s ≡ bytesOf n ++ drop next s
 taken-bytes s at low high n next bytes t = reads-only s at n next bytes (t .read) .bytes
@@ -44,17 +41,17 @@ prefactors-bytes (suc count) table s at ps next bytes some e =
     let t = taken s at 0 (table - 1) (withinAt s at 0 (table - 1)) (o .0) (o .1) refl (o .2) in
     let rest = prefactors-bytes count table s (o .1) (b .0) next bytes some (b .1) in
     let below = t .below in
-    rw (b .2) (then s (bytesOf (o .0)) (numbersBytes (b .0)) at (o .1) next (taken-bytes s at 0 (table - 1) (o .0) (o .1) bytes t) (rest .0), (omega arith, rest .1))
+    rw (b .2) (drop-then s (bytesOf (o .0)) (numbersBytes (b .0)) at (o .1) next (taken-bytes s at 0 (table - 1) (o .0) (o .1) bytes t) (rest .0), (omega arith, rest .1))
 
 term-bytes : (k : Kind) (l : ℕ) (s : List ℕ) (at : ℕ) (t : Term) (next : ℕ) → Bytes s → termAt s at k l ≡ got t next → (drop at s ≡ termBytes t ++ drop next s) × TermFits k l t
 unfolding termBytes
 term-bytes k l s at t next bytes e =
     let r = term-read k l s at t next e in
     let ps = prefactors-bytes (length (t .prefactors)) (tableOf k) s (r .c) (t .prefactors) next bytes (some-entries k) (r .prefactors) in
-    let count = then s (bytesOf (length (t .prefactors))) (numbersBytes (t .prefactors)) (r .b) (r .c) next (taken-bytes s (r .b) 0 (mostPrefactors k l) (length (t .prefactors)) (r .c) bytes (r .count)) (ps .0) in
-    let boys = then s (bytesOf (t .boys)) (bytesOf (length (t .prefactors)) ++ numbersBytes (t .prefactors)) (r .a) (r .b) next (taken-bytes s (r .a) 0 (mostBoys k l) (t .boys) (r .b) bytes (r .boys)) count in (
-      then s (bytesOf (t .scale)) (bytesOf (t .boys) ++ (bytesOf (length (t .prefactors)) ++ numbersBytes (t .prefactors))) at (r .a) next (taken-bytes s at 1 mostScale (t .scale) (r .a) bytes (r .scale)) boys,
-      record { some = r .scale .above; scale = r .scale .below; boys = r .boys .below; count = r .count .below; prefactors = ps .1 },
+    let count = drop-then s (bytesOf (length (t .prefactors))) (numbersBytes (t .prefactors)) (r .b) (r .c) next (taken-bytes s (r .b) 0 (mostPrefactors k l) (length (t .prefactors)) (r .c) bytes (r .count)) (ps .0) in
+    let boys = drop-then s (bytesOf (t .boys)) (bytesOf (length (t .prefactors)) ++ numbersBytes (t .prefactors)) (r .a) (r .b) next (taken-bytes s (r .a) 0 (mostBoys k l) (t .boys) (r .b) bytes (r .boys)) count in (
+      drop-then s (bytesOf (t .scale)) (bytesOf (t .boys) ++ (bytesOf (length (t .prefactors)) ++ numbersBytes (t .prefactors))) at (r .a) next (taken-bytes s at 1 mostScale (t .scale) (r .a) bytes (r .scale)) boys,
+      record { scale-least = r .scale .above; scale = r .scale .below; boys = r .boys .below; count = r .count .below; prefactors = ps .1 },
     )
 
 record TermsRead (left : ℕ) (k : Kind) (l : ℕ) (s : List ℕ) (at : ℕ) (ts : List Term) (end : ℕ) : Type 0 where
@@ -105,7 +102,7 @@ orders-bytes (suc n) i sum s at os next bytes e =
     let b = before-is (o .0) (ordersAt s (o .1) n (i + 1) (sumAfter i sum (o .0))) os next (o .3) in
     let t = taken s at 0 (mostOrder - sum) (withinAt s at 0 (mostOrder - sum)) (o .0) (o .1) refl (o .2) in
     let rest = orders-bytes n (i + 1) (sumAfter i sum (o .0)) s (o .1) (b .0) next bytes (b .1) in
-    rw (b .2) (then s (bytesOf (o .0)) (numbersBytes (b .0)) at (o .1) next (taken-bytes s at 0 (mostOrder - sum) (o .0) (o .1) bytes t) (rest .0), ap suc (rest .1))
+    rw (b .2) (drop-then s (bytesOf (o .0)) (numbersBytes (b .0)) at (o .1) next (taken-bytes s at 0 (mostOrder - sum) (o .0) (o .1) bytes t) (rest .0), ap suc (rest .1))
 
 none-fit : (i : ℕ) (s : List ℕ) (at : ℕ) (os : List ℕ) (next : ℕ) → ordersAt s at 0 i 0 ≡ got os next → CentresFit os
 unfolding ordersAt
@@ -161,7 +158,7 @@ roll-read s r end bytes e =
       record {
         places = os .1;
         sums = orders-fit (h .kind) s (hr .a) (h .orders) (hr .b) (hr .orders);
-        some = omega (arith, tr .count);
+        terms-least = omega (arith, tr .count);
         most = omega (arith, tr .count);
         terms = tr .fit;
       },

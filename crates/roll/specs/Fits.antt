@@ -23,7 +23,7 @@ Below table [] = Unit
 Below table (p ∷ ps) = (p < table) × Below table ps
 
 pub record TermFits (k : Kind) (l : ℕ) (t : Term) : Type 0 where
-  pub some : 1 ≤ t .scale
+  pub scale-least : 1 ≤ t .scale
   pub scale : t .scale ≤ mostScale
   pub boys : t .boys ≤ mostBoys k l
   pub count : length (t .prefactors) ≤ mostPrefactors k l
@@ -36,6 +36,6 @@ TermsFit k l (t ∷ ts) = TermFits k l t × TermsFit k l ts
 pub record RollFits (r : Roll) : Type 0 where
   pub places : length (r .orders) ≡ ordersOf (r .kind)
   pub sums : CentresFit (r .orders)
-  pub some : 1 ≤ length (r .terms)
+  pub terms-least : 1 ≤ length (r .terms)
   pub most : length (r .terms) ≤ mostTerms
   pub terms : TermsFit (r .kind) (total (r .orders)) (r .terms)

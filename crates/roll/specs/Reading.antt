@@ -25,9 +25,13 @@ pub data Reading (A : Type 0) : Type 0 where
 
 -- ---- a number and its limits: a `Field` is the number with the place after it, or a refusal
 
--- a number that breaks its limits is 7 where it begins
+-- of a number from a place to the next, the place of its refusal is where it begins
+abbrev pub wrongPlace : ℕ → ℕ → ℕ
+wrongPlace at next = at
+
+-- a number that breaks its limits is 7
 abbrev pub limited : ℕ → ℕ → ℕ → ℕ → ℕ → Field
-limited n next at low high = cond (ltb n low || ltb high n) (field.Refused 7 at) (field.Is n next)
+limited n next at low high = cond (ltb n low || ltb high n) (field.Refused 7 (wrongPlace at next)) (field.Is n next)
 
 -- a number that cannot be read ends the reading at once, with the refusal of its reason where it begins (D-8)
 abbrev pub opened : Number → ℕ → ℕ → ℕ → Field
@@ -52,6 +56,35 @@ andThen (refused r place) rest = refused r place
 -- what comes before, and the rest of a list
 abbrev pub before : {A : Type 0} → List A → Reading (List A) → Reading (List A)
 before xs r = andThen r (λ ys next. got (xs ++ ys) next)
+
+-- ---- the header
+
+-- the order sum on a centre after its order number i (0, 1, 2 by axis); then the next centre begins
+abbrev pub sumAfter : ℕ → ℕ → ℕ → ℕ
+sumAfter i sum order = cond (eqb (i % 3) 2) 0 (sum + order)
+
+-- n orders by centre, x y z each, from order number i on; `sum` is the centre's so far, and an order with which it passes the limit is wrong
+unfoldable pub ordersAt : List ℕ → ℕ → ℕ → ℕ → ℕ → Reading (List ℕ)
+ordersAt s at zero i sum = got [] at
+ordersAt s at (suc n) i sum = onward (withinAt s at 0 (mostOrder - sum)) (λ o next. before (o ∷ []) (ordersAt s next n (i + 1) (sumAfter i sum o)))
+
+pub record Header : Type 0 where
+  pub kind : Kind
+  pub orders : List ℕ
+  pub terms : ℕ
+
+-- term count (1 to 65,535)
+unfoldable pub countedAt : List ℕ → ℕ → Kind → List ℕ → Reading Header
+countedAt s at k orders = onward (withinAt s at 1 mostTerms) (λ count next. got (record { kind = k; orders = orders; terms = count }) next)
+
+-- the kind's own number of orders
+abbrev pub ofKind : List ℕ → ℕ → Named → Reading Header
+ofKind s at (named.Is k) = andThen (ordersAt s at (ordersOf k) 0 0) (λ orders next. countedAt s next k orders)
+ofKind s at named.Unknown = refused 7 0
+
+-- order: kind; orders; term count (D-10, D-57)
+unfoldable pub headerAt : List ℕ → Reading Header
+headerAt s = onward (withinAt s 0 0 (numberOf Coulomb)) (λ n next. ofKind s next (kindOf n))
 
 -- ---- a term
 
@@ -82,35 +115,6 @@ termAt s at k l = onward (withinAt s at 1 mostScale) (λ scale next. boysAt s ne
 unfoldable pub termsAt : List ℕ → ℕ → ℕ → Kind → ℕ → Reading (List Term)
 termsAt s at zero k l = cond (eqb at (length s)) (got [] at) (refused 7 at)
 termsAt s at (suc left) k l = andThen (termAt s at k l) (λ t next. before (t ∷ []) (termsAt s next left k l))
-
--- ---- the header
-
--- the order sum on a centre after its order number i (0, 1, 2 by axis); then the next centre begins
-abbrev pub sumAfter : ℕ → ℕ → ℕ → ℕ
-sumAfter i sum order = cond (eqb (i % 3) 2) 0 (sum + order)
-
--- n orders by centre, x y z each, from order number i on; `sum` is the centre's so far, and an order with which it passes the limit is wrong
-unfoldable pub ordersAt : List ℕ → ℕ → ℕ → ℕ → ℕ → Reading (List ℕ)
-ordersAt s at zero i sum = got [] at
-ordersAt s at (suc n) i sum = onward (withinAt s at 0 (mostOrder - sum)) (λ o next. before (o ∷ []) (ordersAt s next n (i + 1) (sumAfter i sum o)))
-
-pub record Header : Type 0 where
-  pub kind : Kind
-  pub orders : List ℕ
-  pub terms : ℕ
-
--- term count (1 to 65,535)
-unfoldable pub countedAt : List ℕ → ℕ → Kind → List ℕ → Reading Header
-countedAt s at k orders = onward (withinAt s at 1 mostTerms) (λ count next. got (record { kind = k; orders = orders; terms = count }) next)
-
--- the kind's own number of orders
-abbrev pub ofKind : List ℕ → ℕ → Named → Reading Header
-ofKind s at (named.Is k) = andThen (ordersAt s at (ordersOf k) 0 0) (λ orders next. countedAt s next k orders)
-ofKind s at named.Unknown = refused 7 0
-
--- order: kind; orders; term count (D-10, D-57)
-unfoldable pub headerAt : List ℕ → Reading Header
-headerAt s = onward (withinAt s 0 0 (numberOf Coulomb)) (λ n next. ofKind s next (kindOf n))
 
 -- ---- the roll
 
