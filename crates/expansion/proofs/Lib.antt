@@ -1,4 +1,5 @@
 pub mod Answers
+pub mod Demanded
 pub mod HeaderLaws
 pub mod MeasureCycle
 pub mod MeasureGroups
