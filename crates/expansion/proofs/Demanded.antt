@@ -64,7 +64,7 @@ in-map f (g ∷ hs) h (List·Memᴰ·tail m) = List·Memᴰ·tail (in-map f hs h
 -- ---- what an answer shows
 
 -- an answer that a roll is: the checks that it has passed
-record Answered (k : Kind) (orders before : List ℕ) (begin long count : ℕ) : Type 0 where
+pub record Answered (k : Kind) (orders before : List ℕ) (begin long count : ℕ) : Type 0 where
   pub two : tooHigh k orders ≡ false
   pub three : unusedSet k orders ≡ false
   pub five : (begin exceeds length before) ≡ false
@@ -94,7 +94,7 @@ four-met false false false true e l n is = (refl, refl, refl, refl)
 four-met false false false false true l n is = let h : _≡_ {A = ℕ} 6 4 = ap refusalOf is in absurd (omega arith)
 four-met false false false false false l n is = let h : _≡_ {A = ℕ} 0 4 = ap refusalOf is in absurd (omega arith)
 
-answered : (k : Kind) (orders before : List ℕ) (begin long count : ℕ) → kindTold k orders before begin ≡ Roll long count → Answered k orders before begin long count
+pub answered : (k : Kind) (orders before : List ℕ) (begin long count : ℕ) → kindTold k orders before begin ≡ Roll long count → Answered k orders before begin long count
 unfolding kindTold
 answered k orders before begin long count e =
     let m =
@@ -119,13 +119,13 @@ told-roll k orders before begin a b c few room =
     simp (a, b, c, le-ltb mostTerms (length (termsOf k orders)) few, le-ltb (length before) (begin + length (rollOf k orders)) room)
 
 -- the kind is known where the answer is not refusal 1
-record Known (kind : ℕ) (orders before : List ℕ) (begin : ℕ) (r : Expanded) (after : List ℕ) : Type 0 where
+pub record Known (kind : ℕ) (orders before : List ℕ) (begin : ℕ) (r : Expanded) (after : List ℕ) : Type 0 where
   pub k : Kind
   pub named : kindOf kind ≡ Is k
   pub answer : kindTold k orders before begin ≡ r
   pub out : after ≡ namedOut r (Is k) orders before begin
 
-known : (kind : ℕ) (orders before : List ℕ) (begin : ℕ) (r : Expanded) (after : List ℕ) → ExpandTold kind orders before begin r after → (refusalOf r ≡ 1 → ⊥) → Known kind orders before begin r after
+pub known : (kind : ℕ) (orders before : List ℕ) (begin : ℕ) (r : Expanded) (after : List ℕ) → ExpandTold kind orders before begin r after → (refusalOf r ≡ 1 → ⊥) → Known kind orders before begin r after
 known kind orders before begin r after told other = at (kindOf kind) refl (told .answer) (told .out)
   where
     at : (m : Named) → kindOf kind ≡ m → r ≡ namedTold m orders before begin → after ≡ namedOut (namedTold m orders before begin) m orders before begin → Known kind orders before begin r after
