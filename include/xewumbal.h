@@ -107,7 +107,7 @@ typedef struct {
 } xew_step;
 
 /* Writes the roll of a request into out from start on: every term of the integral, one for each complete lowering
- * history. orders points to twelve bytes, 0 where the kind uses none. 1,048,576 bytes hold any roll.
+ * history. orders points to twelve bytes, 0 where the kind uses none. 1,376,251 bytes hold any roll.
  * Refusals: 1, 2, 3, 5, 4, 6. */
 xew_written xew_expand(uint8_t kind, const uint8_t (*orders)[12], uint8_t *out, size_t out_len, size_t start);
 

@@ -156,7 +156,7 @@ pub enum Matrices {
     Refused(Refusal),
 }
 
-/// Writes the roll of a request into `out` from `start` on: every term of the integral. 1,048,576 bytes hold any roll.
+/// Writes the roll of a request into `out` from `start` on: every term of the integral. 1,376,251 bytes hold any roll.
 pub fn expand(kind: u8, orders: &[u8; ORDERS], out: &mut [u8], start: usize) -> Expanded {
     let answer = raw::expand(kind, orders, out, start);
     match Refusal::of(answer.refusal, 0) {

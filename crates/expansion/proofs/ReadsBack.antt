@@ -91,10 +91,10 @@ module _ (k : Kind) (os : List ℕ) (within : RequestWithin k os) where
       by-kind Moment = three
       by-kind Coulomb = four
 
-  rest-zero : total (drop (ordersOf k) os) ≡ 0
+  pub rest-zero : total (drop (ordersOf k) os) ≡ 0
   rest-zero = let h = ltb-false 0 (total (drop (ordersOf k) os)) (within .none-unused) in omega arith
 
-  used-total : total (take (ordersOf k) os) ≡ total os
+  pub used-total : total (take (ordersOf k) os) ≡ total os
   used-total =
       let h = total-append (take (ordersOf k) os) (drop (ordersOf k) os) in let e = ap total (take-append-drop (ordersOf k) os) in let z = rest-zero in omega arith
 

@@ -1,5 +1,5 @@
 -- 01, "Limits and refusal numbers" and "The roll": what the expansion of a request answers and writes.
-use Prim.Native.Nat.{ℕ, _+_}
+use Prim.Native.Nat.{ℕ, _+_, _*_}
 use mathlib.Core.Path.{_≡_}
 use mathlib.Core.Bool.{Bool, cond, _||_}
 use mathlib.Core.List.{List}
@@ -10,8 +10,9 @@ use Rattle.kind.specs.declared.Kind.{Kind}
 use Rattle.kind.specs.declared.Kind.the-variants.{Overlap, Kinetic, Nuclear, Moment, Coulomb}
 use Rattle.kind.specs.declared.Named.{Named}
 use Rattle.kind.specs.declared.Named.the-variants.{Is, Unknown}
-use Rattle.kind.specs.Limits.{mostOrder, mostTerms}
-use Rattle.kind.specs.Kinds.{kindOf, ordersOf}
+use Rattle.kind.specs.Limits.{mostOrder, mostTerms, mostScale}
+use Rattle.kind.specs.Kinds.{kindOf, numberOf, ordersOf, mostL, mostPrefactors, tableOf}
+use Rattle.number.specs.Numbers.{lengthOf}
 use Rattle.term.specs.Terms.{Term}
 use Rattle.steps.specs.declared.CentreName.the-variants.{A, B, C, D}
 use Rattle.steps.specs.Choice.{sumOf, operator}
@@ -83,3 +84,17 @@ lengthIn (Refused n) = 0
 abbrev pub countIn : Expanded → ℕ
 countIn (Roll long terms) = terms
 countIn (Refused n) = 0
+
+-- ---- how many bytes a roll can have: every number of it at its limit
+
+-- scale, Boys order, prefactor count, prefactors
+abbrev pub mostTerm : Kind → ℕ
+mostTerm k = lengthOf mostScale + lengthOf (mostL k) + lengthOf (mostPrefactors k (mostL k)) + mostPrefactors k (mostL k) * lengthOf (tableOf k)
+
+-- kind; its orders; term count; terms
+abbrev pub mostRollOf : Kind → ℕ
+mostRollOf k = lengthOf (numberOf k) + ordersOf k * lengthOf mostOrder + lengthOf mostTerms + mostTerms * mostTerm k
+
+-- a roll of any kind: Coulomb has the most orders and the longest terms
+abbrev pub mostRoll : ℕ
+mostRoll = mostRollOf Coulomb

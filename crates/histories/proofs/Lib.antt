@@ -4,6 +4,7 @@ pub mod Choices
 pub mod Demand
 pub mod Fair
 pub mod Nexts
+pub mod OneList
 pub mod Orders
 pub mod Some
 pub mod Walk
