@@ -1,10 +1,11 @@
--- One answer alone fits the promise of this crate, with what both slices then hold.
+-- One answer alone, with what both slices then hold, meets the public contract of this crate, and it is the definition's.
 use Prim.Native.Nat.{ℕ}
-use mathlib.Core.Path.{_≡_}
-use mathlib.Core.List.{List}
 use lib.Ieee.{Float}
-use Rattle.laws.proofs.Unique.{only}
+use contract.Lifetimes.{Lfts}
+use Rattle.laws.proofs.Contract.{Alone, alone, Lent, _then_, _▸_, end}
 use Rattle.jk.specs.Outcome.{Outcome, jkOf}
+use Rattle.jk.proofs.JK_inmem.Reads.{Post as JkInmem}
 
-pub JK-inmem-only : (n : ℕ) (i d j k : List Float) {a b : Outcome} → a ≡ jkOf n i d j k → b ≡ jkOf n i d j k → a ≡ b
-JK-inmem-only n i d j k = only
+pub JK-inmem-only : (κs : Lfts 4) (n : ℕ) (i d j k : Lent Float) →
+    Alone {A = Outcome} (λ o. JkInmem κs (n ▸ i ▸ d ▸ j ▸ k ▸ end) (o .answer) (n ▸ i ▸ d ▸ j then (o .j) ▸ k then (o .k) ▸ end)) (jkOf n (i .now) (d .now) (j .now) (k .now))
+JK-inmem-only κs n i d j k = alone (λ o p. p)

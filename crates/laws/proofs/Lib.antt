@@ -1,4 +1,5 @@
 pub mod Cases
+pub mod Contract
 pub mod Counting
 pub mod Lists
 pub mod Parts

@@ -1,46 +1,63 @@
--- One answer alone fits each promise of this crate.
+-- One answer alone meets the contract of each exported function, and it is the definition's, with the parameters in their order.
 use Prim.Native.Nat.{ℕ}
-use mathlib.Core.Path.{_≡_}
 use mathlib.Core.List.{List}
 use lib.Ieee.{Float}
-use Rattle.laws.proofs.Unique.{only}
+use contract.Lifetimes.{Lfts}
+use Rattle.kind.specs.Kinds.{kindOf}
+use Rattle.expansion.specs.Expanding.{namedTold, namedOut}
+use Rattle.shell.specs.Shells.{listedAt, listedOut}
+use Rattle.jk.specs.Outcome.{jkOf, refusalOf as jkRefusal}
+use Rattle.laws.proofs.Contract.{Alone, alone, Lent, _then_, _▸_, end}
 use Rattle.xewumbal.specs.declared.xew_centre.{«xew_centre»}
 use Rattle.xewumbal.specs.declared.xew_written.{«xew_written»}
-use Rattle.xewumbal.specs.declared.xew_value.{«xew_value»}
-use Rattle.xewumbal.specs.declared.xew_component.{«xew_component»}
-use Rattle.xewumbal.specs.declared.xew_table.{«xew_table»}
 use Rattle.xewumbal.specs.declared.xew_cursor.{«xew_cursor»}
-use Rattle.xewumbal.specs.declared.xew_opened.{«xew_opened»}
-use Rattle.xewumbal.specs.declared.xew_step.{«xew_step»}
-use Rattle.xewumbal.specs.Answers.{ExpandCallTold, ListCallTold, JkCallTold, shell2Answer, shell4Answer, openAnswer, checkAnswer, nextAnswer, prefactorsAnswer, evaluateAnswer}
+use Rattle.xewumbal.specs.Answers.{hostExpanded, hostListed, shell2Answer, shell4Answer, openAnswer, checkAnswer, nextAnswer, prefactorsAnswer, evaluateAnswer}
+use Rattle.xewumbal.proofs.xew_expand.Reads.{Post as Expand}
+use Rattle.xewumbal.proofs.xew_shell_list.Reads.{Post as ShellList}
+use Rattle.xewumbal.proofs.xew_shell2.Reads.{Post as Shell2}
+use Rattle.xewumbal.proofs.xew_shell4.Reads.{Post as Shell4}
+use Rattle.xewumbal.proofs.xew_open.Reads.{Post as Open}
+use Rattle.xewumbal.proofs.xew_check.Reads.{Post as Check}
+use Rattle.xewumbal.proofs.xew_next.Reads.{Post as Next}
+use Rattle.xewumbal.proofs.xew_prefactors.Reads.{Post as Prefactors}
+use Rattle.xewumbal.proofs.xew_evaluate.Reads.{Post as Evaluate}
+use Rattle.xewumbal.proofs.xew_jk.Reads.{Post as Jk}
 
-pub expand-only : (kind : ℕ) (orders before : List ℕ) (start : ℕ) {p q : «xew_written»} {x y : List ℕ} → ExpandCallTold kind orders before start p x → ExpandCallTold kind orders before start q y → (p ≡ q) × (x ≡ y)
-expand-only kind orders before start f g = (only (f .answer) (g .answer), only (f .out) (g .out))
+module _ (κs : Lfts 2) (kind : ℕ) (orders out : Lent ℕ) (start : ℕ) where
+  pub expand-only :
+      Alone {A = «xew_written» × List ℕ} (λ x. Expand κs (kind ▸ orders ▸ out ▸ start ▸ end) (x .0) (kind ▸ orders ▸ out then (x .1) ▸ start ▸ end))
+      (hostExpanded (namedTold (kindOf kind) (orders .now) (out .now) start), namedOut (namedTold (kindOf kind) (orders .now) (out .now) start) (kindOf kind) (orders .now) (out .now) start)
+  expand-only = alone (λ x p i. (p .answer i, p .out i))
 
-pub shell-list-only : (order : ℕ) (before : List ℕ) (start : ℕ) {p q : «xew_written»} {x y : List ℕ} → ListCallTold order before start p x → ListCallTold order before start q y → (p ≡ q) × (x ≡ y)
-shell-list-only order before start f g = (only (f .answer) (g .answer), only (f .out) (g .out))
+pub shell-list-only : (κs : Lfts 1) (order : ℕ) (out : Lent ℕ) (start : ℕ) →
+    Alone {A = «xew_written» × List ℕ} (λ x. ShellList κs (order ▸ out ▸ start ▸ end) (x .0) (order ▸ out then (x .1) ▸ start ▸ end))
+    (hostListed (listedAt order (out .now) start), listedOut order (out .now) start)
+shell-list-only κs order out start = alone (λ x p i. (p .answer i, p .out i))
 
-pub shell2-only : (a b number : ℕ) {p q : «xew_component»} → p ≡ shell2Answer a b number → q ≡ shell2Answer a b number → p ≡ q
-shell2-only a b number = only
+pub shell2-only : (a b number : ℕ) → let g = a ▸ b ▸ number ▸ end in Alone (λ r. Shell2 tt g r g) (shell2Answer a b number)
+shell2-only a b number = alone (λ r p. p)
 
-pub shell4-only : (a b c d number : ℕ) {p q : «xew_component»} → p ≡ shell4Answer a b c d number → q ≡ shell4Answer a b c d number → p ≡ q
-shell4-only a b c d number = only
+pub shell4-only : (a b c d number : ℕ) → let g = a ▸ b ▸ c ▸ d ▸ number ▸ end in Alone (λ r. Shell4 tt g r g) (shell4Answer a b c d number)
+shell4-only a b c d number = alone (λ r p. p)
 
-pub open-only : (roll : List ℕ) {p q : «xew_opened»} → p ≡ openAnswer roll → q ≡ openAnswer roll → p ≡ q
-open-only roll = only
+pub open-only : (κs : Lfts 1) (roll : Lent ℕ) → let g = roll ▸ end in Alone (λ r. Open κs g r g) (openAnswer (roll .now))
+open-only κs roll = alone (λ r p. p)
 
-pub check-only : (roll : List ℕ) {p q : «xew_opened»} → p ≡ checkAnswer roll → q ≡ checkAnswer roll → p ≡ q
-check-only roll = only
+pub check-only : (κs : Lfts 1) (roll : Lent ℕ) → let g = roll ▸ end in Alone (λ r. Check κs g r g) (checkAnswer (roll .now))
+check-only κs roll = alone (λ r p. p)
 
-pub next-only : (cursor : «xew_cursor») (roll : List ℕ) {p q : «xew_step»} → p ≡ nextAnswer cursor roll → q ≡ nextAnswer cursor roll → p ≡ q
-next-only cursor roll = only
+pub next-only : (κs : Lfts 1) (cursor : «xew_cursor») (roll : Lent ℕ) → let g = cursor ▸ roll ▸ end in Alone (λ r. Next κs g r g) (nextAnswer cursor (roll .now))
+next-only κs cursor roll = alone (λ r p. p)
 
-module _ (a b c d : «xew_centre») where
-  pub prefactors-only : (kind : ℕ) {p q : «xew_table»} → p ≡ prefactorsAnswer kind a b c d → q ≡ prefactorsAnswer kind a b c d → p ≡ q
-  prefactors-only kind = only
+pub prefactors-only : (kind : ℕ) (a b c d : «xew_centre») → let g = kind ▸ a ▸ b ▸ c ▸ d ▸ end in Alone (λ r. Prefactors tt g r g) (prefactorsAnswer kind a b c d)
+prefactors-only kind a b c d = alone (λ r p. p)
 
-  pub evaluate-only : (roll : List ℕ) (aux : Float) (boys : List Float) {p q : «xew_value»} → p ≡ evaluateAnswer roll a b c d aux boys → q ≡ evaluateAnswer roll a b c d aux boys → p ≡ q
-  evaluate-only roll aux boys = only
+pub evaluate-only : (κs : Lfts 2) (roll : Lent ℕ) (a b c d : «xew_centre») (aux : Float) (boys : Lent Float) →
+    let g = roll ▸ a ▸ b ▸ c ▸ d ▸ aux ▸ boys ▸ end in Alone (λ r. Evaluate κs g r g) (evaluateAnswer (roll .now) a b c d aux (boys .now))
+evaluate-only κs roll a b c d aux boys = alone (λ r p. p)
 
-pub jk-only : (n : ℕ) (i d beforeJ beforeK : List Float) {p q : ℕ} {x y v w : List Float} → JkCallTold n i d beforeJ beforeK p x v → JkCallTold n i d beforeJ beforeK q y w → (p ≡ q) × (x ≡ y) × (v ≡ w)
-jk-only n i d beforeJ beforeK f g = (only (f .answer) (g .answer), only (f .j) (g .j), only (f .k) (g .k))
+module _ (κs : Lfts 4) (n : ℕ) (i d j k : Lent Float) where
+  pub jk-only :
+      Alone {A = ℕ × List Float × List Float} (λ x. Jk κs (n ▸ i ▸ d ▸ j ▸ k ▸ end) (x .0) (n ▸ i ▸ d ▸ j then (x .1) ▸ k then (x .2) ▸ end))
+      (jkRefusal (jkOf n (i .now) (d .now) (j .now) (k .now) .answer), jkOf n (i .now) (d .now) (j .now) (k .now) .j, jkOf n (i .now) (d .now) (j .now) (k .now) .k)
+  jk-only = alone (λ x p t. (p .answer t, p .j t, p .k t))
