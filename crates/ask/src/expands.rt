@@ -1,11 +1,13 @@
 // `expand KIND o1 .. o12 ..`: the roll of a request.
 use crate::answers;
+use crate::forms;
 use crate::questions;
-use answer::Told;
+use crate::words;
 use expansion::Expanded;
+use forms::Told;
 use kind::Kind;
-use question::NUMBERS;
 use questions::byte;
+use words::NUMBERS;
 
 // The orders of a request, which follow its kind.
 fn orders(n: [u64; NUMBERS]) -> [u8; Kind::ORDERS] {

@@ -1,7 +1,8 @@
 // `list ROLL`: a roll's listing.
 use crate::answers;
-use answer::NUMBERS;
-use answer::Told;
+use crate::forms;
+use forms::NUMBERS;
+use forms::Told;
 use listing::Listed;
 
 pub(crate) fn listing(roll: &[u8], lent: &mut [u8]) -> Told {

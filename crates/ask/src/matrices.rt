@@ -2,16 +2,18 @@
 ghost use Prim.Native.Nat.{_≤_};
 ghost use Rattle.kind.specs.Limits.{mostSize};
 use crate::answers;
+use crate::forms;
 use crate::lent;
-use answer::Told;
+use crate::words;
+use forms::Told;
 use jk::Answer;
 use kind::Kind;
-use question::NUMBERS;
+use words::NUMBERS;
 
-// The most floats of I, and of each other slice, that a question can have lent.
-const MOST_TENSOR: usize = 65537;
+// The most floats of I, and of each other slice, that a question can have lent: more than the largest size asks.
+pub(crate) const MOST_TENSOR: usize = 65537;
 
-const MOST_MATRIX: usize = 1024;
+pub(crate) const MOST_MATRIX: usize = 1024;
 
 // The matrix size that is said, and the lengths of I, D, J and K.
 struct Sizes {

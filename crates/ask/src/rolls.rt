@@ -1,11 +1,12 @@
 // `open ROLL`, `check ROLL` and `next KIND L LEFT PLACE ROLL`: a roll's header, the whole roll judged, a cursor's step.
 use crate::answers;
+use crate::forms;
 use crate::lent;
 use crate::questions;
-use answer::Told;
+use crate::words;
+use forms::Told;
 use kind::Kind;
 use kind::Named;
-use question::NUMBERS;
 use questions::byte;
 use questions::word;
 use roll::Cursor;
@@ -13,6 +14,7 @@ use roll::Found;
 use roll::Opened;
 use roll::Opening;
 use term::Term;
+use words::NUMBERS;
 
 pub(crate) fn opened(o: Opened, lent: &mut [u8]) -> Told {
     let found = o.found;

@@ -1,15 +1,17 @@
 // `shell M ..` and `component M1 M2 ..`: a shell's list, and one component of a pair or of four shells.
 use crate::answers;
+use crate::forms;
 use crate::lent;
 use crate::questions;
-use answer::Told;
+use crate::words;
+use forms::Told;
 use kind::Kind;
-use question::NUMBERS;
 use questions::byte;
 use questions::word;
 use shell::Component;
 use shell::Listed;
 use shell::Sought;
+use words::NUMBERS;
 
 // The orders of a pair of shells.
 const PAIR: usize = 6;
@@ -53,5 +55,5 @@ fn component(c: Component, n: usize, lent: &mut [u8]) -> Told {
 
 fn orders_told(orders: [u8; Kind::ORDERS], n: usize, lent: &mut [u8]) -> Told {
     lent::lay_bytes(lent, &orders, n);
-    answers::bytes(answers::COMPONENT, [0; answer::NUMBERS], 0, n)
+    answers::bytes(answers::COMPONENT, [0; forms::NUMBERS], 0, n)
 }
