@@ -86,18 +86,18 @@ pub(crate) fn bytes(form: usize, numbers: [u64; NUMBERS], start: usize, long: us
         start,
         long,
         first: 0,
-        floats: 0,
+        others: 0,
     }
 }
 
-// The first floats of those that were lent, and the others of so many.
-pub(crate) fn floats(form: usize, first: usize, floats: usize) -> Told {
+// The first of the floats that were lent, and so many others after them.
+pub(crate) fn floats(form: usize, first: usize, others: usize) -> Told {
     Told {
         form,
         numbers: [0; NUMBERS],
         start: 0,
         long: 0,
         first,
-        floats,
+        others,
     }
 }

@@ -6,14 +6,14 @@ use crate::output;
 pub(crate) const NUMBERS: usize = 4;
 
 // What an answer tells: its form's number, the numbers for the form's marks, where its bytes start and how many they are, how
-// many floats stand first, and how many there are.
+// many floats stand first, and how many others follow.
 pub(crate) struct Told {
     pub(crate) form: usize,
     pub(crate) numbers: [u64; NUMBERS],
     pub(crate) start: usize,
     pub(crate) long: usize,
-    pub(crate) floats: usize,
     pub(crate) first: usize,
+    pub(crate) others: usize,
 }
 
 // Prints an answer after the `used` bytes that wait in `out`. `line` is what it answers.
@@ -26,16 +26,11 @@ pub(crate) fn print(
     out: &mut [u8],
     used: usize,
 ) -> usize {
-    let own = part(bytes, t.start, t.long);
-    let first = floats_of(floats, 0, t.first);
-    let others = floats_of(floats, t.first, t.floats);
-    let numbers = t.numbers;
     let mut next = used;
     let mut k = 0;
     let mut i = form_start(table, t.form);
     while i < table.len() {
-        let n = number_at(numbers, k);
-        next = output::run(table[i], n, line, own, first, others, out, next);
+        next = output::run(table[i], k, t, line, bytes, floats, out, next);
         k = counted(table[i], k);
         i = on(table[i], i, table.len());
     }
@@ -77,13 +72,6 @@ fn on(letter: u8, i: usize, all: usize) -> usize
     i + 1
 }
 
-fn number_at(numbers: [u64; NUMBERS], k: usize) -> u64 {
-    if k < NUMBERS {
-        return numbers[k];
-    }
-    0
-}
-
 // How many numbers are told after a letter.
 fn counted(letter: u8, k: usize) -> usize {
     if NUMBERS <= k {
@@ -94,26 +82,4 @@ fn counted(letter: u8, k: usize) -> usize {
         b'$' => k + 1,
         _ => k,
     }
-}
-
-// So many bytes from a place on; none where they don't lie there.
-fn part(bytes: &[u8], start: usize, long: usize) -> &[u8] {
-    if bytes.len() < start {
-        return &bytes[0..0];
-    }
-    if bytes.len() - start < long {
-        return &bytes[0..0];
-    }
-    let end = start + long;
-    &bytes[start..end]
-}
-
-fn floats_of(floats: &[f64], start: usize, end: usize) -> &[f64] {
-    if end < start {
-        return &floats[0..0];
-    }
-    if floats.len() < end {
-        return &floats[0..0];
-    }
-    &floats[start..end]
 }

@@ -1,7 +1,11 @@
 // Standard output by way of a buffer. Each writer takes the number of bytes that wait in it, and answers it anew.
 use crate::floats;
+use crate::forms;
 use crate::questions;
+use forms::NUMBERS;
+use forms::Told;
 use libc::STDOUT_FILENO;
+use questions::sum;
 use text::Written;
 
 // More bytes than one number or letter takes.
@@ -39,24 +43,24 @@ fn put(out: &mut [u8], at: usize, byte: u8) -> usize {
     end(w, at)
 }
 
-// What stands for a letter of a form, after the `used` bytes that wait: # is a number, $ one in sixteen hexadecimal digits; %
-// the bytes in hexadecimal, ~ in decimal, each after a blank, | as a text; < the floats that stand first, > the others, each
-// after a blank; ^ the line. At ! what waits goes out.
+// What stands for a letter of a form, after the `used` bytes that wait; `k` numbers are told. # is a number, $ one in sixteen
+// hexadecimal digits; % the bytes in hexadecimal, ~ in decimal, each after a blank, | as a text; < the floats that stand
+// first, > the others, each after a blank; ^ the line. At ! what waits goes out.
 pub(crate) fn run(
     letter: u8,
-    n: u64,
+    k: usize,
+    t: Told,
     line: &[u8],
     bytes: &[u8],
-    first: &[f64],
-    others: &[f64],
+    floats: &[f64],
     out: &mut [u8],
     used: usize,
 ) -> usize {
-    let count = times(letter, line.len(), bytes.len(), first.len(), others.len());
+    let count = times(letter, t, line.len());
     let mut next = used;
     let mut i = 0;
     while i < count {
-        let v = value(letter, n, line, bytes, first, others, i);
+        let v = value(letter, k, t, line, bytes, floats, i);
         next = unit(letter, v, out, next);
         i += 1;
     }
@@ -64,11 +68,11 @@ pub(crate) fn run(
 }
 
 // How many values stand for a letter.
-fn times(letter: u8, line: usize, bytes: usize, first: usize, others: usize) -> usize {
+fn times(letter: u8, t: Told, line: usize) -> usize {
     match letter {
-        b'%' | b'~' | b'|' => bytes,
-        b'<' => first,
-        b'>' => others,
+        b'%' | b'~' | b'|' => t.long,
+        b'<' => t.first,
+        b'>' => t.others,
         b'^' => line,
         _ => 1,
     }
@@ -77,22 +81,30 @@ fn times(letter: u8, line: usize, bytes: usize, first: usize, others: usize) -> 
 // The value with a number of those that stand for a letter. A text has a vertical bar for each line feed (D-52).
 fn value(
     letter: u8,
-    n: u64,
+    k: usize,
+    t: Told,
     line: &[u8],
     bytes: &[u8],
-    first: &[f64],
-    others: &[f64],
+    floats: &[f64],
     i: usize,
 ) -> u64 {
+    let numbers = t.numbers;
     match letter {
-        b'#' | b'$' => n,
-        b'%' | b'~' => byte_at(bytes, i) as u64,
-        b'|' => bar(byte_at(bytes, i)) as u64,
-        b'<' => bits_at(first, i),
-        b'>' => bits_at(others, i),
+        b'#' | b'$' => number_at(numbers, k),
+        b'%' | b'~' => byte_at(bytes, sum(t.start, i)) as u64,
+        b'|' => bar(byte_at(bytes, sum(t.start, i))) as u64,
+        b'<' => bits_at(floats, i),
+        b'>' => bits_at(floats, sum(t.first, i)),
         b'^' => bar(byte_at(line, i)) as u64,
         _ => letter as u64,
     }
+}
+
+fn number_at(numbers: [u64; NUMBERS], k: usize) -> u64 {
+    if k < NUMBERS {
+        return numbers[k];
+    }
+    0
 }
 
 fn byte_at(bytes: &[u8], i: usize) -> u8 {

@@ -108,7 +108,7 @@ pub(crate) fn answer(
     answers::heard(s, in_floats(q, n, all, sums, told))
 }
 
-fn least(a: usize, b: usize) -> usize
+pub(crate) fn least(a: usize, b: usize) -> usize
     ensures { λ r. ⌜ r ≤ b ⌝ }
 {
     if a <= b {
@@ -142,14 +142,19 @@ fn in_bytes(
 ) -> Told {
     match q {
         Question::Echo => answers::plain(answers::ECHO),
-        Question::Shell => shells::list(n, start, lent),
-        Question::Pair => shells::pair(n, lent),
-        Question::Four => shells::four(n, lent),
-        Question::Expand => expands::roll(n, start, lent),
-        Question::List => lists::listing(roll, lent),
+        Question::Shell => shells::listed(shell::get_ijk_list(byte(n[0]), lent, start), start),
+        Question::Pair => shells::component(shells::pair(n), shells::PAIR, lent),
+        Question::Four => shells::component(shells::four(n), Kind::ORDERS, lent),
+        Question::Expand => {
+            expands::told(
+                expansion::expand(byte(n[0]), expands::orders(n), lent, start),
+                start,
+            )
+        }
+        Question::List => lists::told(listing::listing(roll, lent, 0)),
         Question::Open => rolls::opened(roll::open(roll), lent),
         Question::Check => rolls::opened(roll::check(roll), lent),
-        Question::Next => rolls::next(n, roll, lent),
+        Question::Next => rolls::stepped(rolls::cursor(n).next(roll), lent),
         Question::Eval => values::value(roll, floats),
         _ => answers::unknown(),
     }
@@ -159,10 +164,18 @@ fn in_bytes(
 fn in_floats(q: Question, n: [u64; NUMBERS], floats: &[f64], sums: &mut [f64], told: Told) -> Told {
     match q {
         Question::Table => values::table(n, floats, sums),
-        Question::Jk => matrices::plain(n, floats, sums),
-        Question::Jkl => matrices::sized(n, floats, sums),
+        Question::Jk => matrices::asked(matrices::plain(n), floats, sums),
+        Question::Jkl => matrices::asked(matrices::sized(n), floats, sums),
         _ => told,
     }
+}
+
+// The sum, or the most that there is.
+pub(crate) fn sum(a: usize, b: usize) -> usize {
+    if b <= usize::MAX - a {
+        return a + b;
+    }
+    usize::MAX
 }
 
 pub(crate) fn byte(n: u64) -> u8 {

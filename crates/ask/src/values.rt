@@ -92,7 +92,7 @@ pub(crate) fn table(n: [u64; NUMBERS], floats: &[f64], sums: &mut [f64]) -> Told
 fn table_told(entries: [f64; Kind::TABLE], sums: &mut [f64]) -> Told {
     if geometry::all_finite(&entries) {
         lent::lay(sums, 0, &entries);
-        return answers::floats(answers::TABLE, Kind::TABLE, Kind::TABLE);
+        return answers::floats(answers::TABLE, Kind::TABLE, 0);
     }
     answers::spoiled()
 }

@@ -7,28 +7,16 @@ use Rattle.ask.proofs.forms.print.Statement.{statement}
 use Rattle.ask.proofs.forms.print.Tie as tie
 
 abbrev Inv-loop : tie.InvT-loop
-Inv-loop table line bytes floats out₀ used own first others numbers next₀ k₀ i₀ out next k i = length out ≡ length out₀
+Inv-loop table t line bytes floats out₀ used next₀ k₀ i₀ out next k i = length out ≡ length out₀
 
 abbrev μ-loop : tie.MeasureT-loop
-μ-loop table line bytes floats out₀ used own first others numbers next₀ k₀ i₀ out next k i = length table - i
-
-part-requires : tie.Need-part-requires Inv-loop μ-loop
-part-requires c κs = search needs
-
-floats-of-requires : tie.Need-floats-of-requires Inv-loop μ-loop
-floats-of-requires c κs = search needs
-
-floats-of-requires-2 : tie.Need-floats-of-requires-2 Inv-loop μ-loop
-floats-of-requires-2 c κs = search needs
+μ-loop table t line bytes floats out₀ used next₀ k₀ i₀ out next k i = length table - i
 
 form-start-requires : tie.Need-form-start-requires Inv-loop μ-loop
 form-start-requires c κs = search needs
 
 loop-holds : tie.Need-loop-holds Inv-loop μ-loop
 loop-holds c = search needs
-
-number-at-requires : tie.Need-number-at-requires Inv-loop μ-loop
-number-at-requires c κs = search needs
 
 shared-slice-read-run : tie.Need-shared-slice-read-run Inv-loop μ-loop
 shared-slice-read-run c = search needs
@@ -66,12 +54,8 @@ print-spec =
     (tie.spec
     Inv-loop
     μ-loop
-    part-requires
-    floats-of-requires
-    floats-of-requires-2
     form-start-requires
     loop-holds
-    number-at-requires
     shared-slice-read-run
     run-requires
     shared-slice-read-counted

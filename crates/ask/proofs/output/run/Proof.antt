@@ -7,10 +7,10 @@ use Rattle.ask.proofs.output.run.Statement.{statement}
 use Rattle.ask.proofs.output.run.Tie as tie
 
 abbrev Inv-loop : tie.InvT-loop
-Inv-loop letter n line bytes first others out₀ used count next₀ i₀ out next i = (i ≤ count) × (length out ≡ length out₀)
+Inv-loop letter k t line bytes floats out₀ used count next₀ i₀ out next i = (i ≤ count) × (length out ≡ length out₀)
 
 abbrev μ-loop : tie.MeasureT-loop
-μ-loop letter n line bytes first others out₀ used count next₀ i₀ out next i = count - i
+μ-loop letter k t line bytes floats out₀ used count next₀ i₀ out next i = count - i
 
 times-requires : tie.Need-times-requires Inv-loop μ-loop
 times-requires c κs = search needs
