@@ -1,10 +1,12 @@
-// The answers: the form of each, and what a question's module tells.
-use answer::NUMBERS;
-use answer::Told;
-use question::Found;
-use question::State;
+// The answers: the number of each one's form, and what a question's module tells.
+use crate::forms;
+use crate::lines;
+use forms::NUMBERS;
+use forms::Told;
+use lines::Found;
+use lines::State;
 
-// The lines of the table below, in its order.
+// The lines of the table of forms in `turns`, in its order.
 pub(crate) const ECHO: usize = 0;
 
 pub(crate) const UNKNOWN: usize = 1;
@@ -39,42 +41,6 @@ pub(crate) const WAIT: usize = 15;
 
 // The refusal that tells a place of a roll.
 const BROKEN: u8 = 7;
-
-// # is a number, $ a float's bits, % bytes in hexadecimal, ~ bytes in decimal, | a text, < and > floats, ^ the line itself;
-// at ! what waits goes out.
-pub(crate) fn print(
-    t: Told,
-    line: &[u8],
-    bytes: &[u8],
-    floats: &[f64],
-    out: &mut [u8],
-    used: usize,
-) -> usize {
-    answer::print(
-        b"^
-?
-spoiled
-refused #
-refused # at #
-roll # terms # %
-shell # %
-component %
-listing |
-opened # # #~ place #
-term # #~ next # #
-end
-value $
-table<
-J< K>
-!",
-        t,
-        line,
-        bytes,
-        floats,
-        out,
-        used,
-    )
-}
 
 // The answer to what was heard: a line that is too long is no question. Where no line has come, what waits goes out, since
 // nothing says when more will come.
@@ -120,18 +86,18 @@ pub(crate) fn bytes(form: usize, numbers: [u64; NUMBERS], start: usize, long: us
         start,
         long,
         first: 0,
-        floats: 0,
+        others: 0,
     }
 }
 
-// The first floats of those that were lent, and the others of so many.
-pub(crate) fn floats(form: usize, first: usize, floats: usize) -> Told {
+// The first of the floats that were lent, and so many others after them.
+pub(crate) fn floats(form: usize, first: usize, others: usize) -> Told {
     Told {
         form,
         numbers: [0; NUMBERS],
         start: 0,
         long: 0,
         first,
-        floats,
+        others,
     }
 }

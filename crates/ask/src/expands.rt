@@ -1,14 +1,16 @@
 // `expand KIND o1 .. o12 ..`: the roll of a request.
 use crate::answers;
+use crate::forms;
 use crate::questions;
-use answer::Told;
+use crate::words;
 use expansion::Expanded;
+use forms::Told;
 use kind::Kind;
-use question::NUMBERS;
 use questions::byte;
+use words::NUMBERS;
 
 // The orders of a request, which follow its kind.
-fn orders(n: [u64; NUMBERS]) -> [u8; Kind::ORDERS] {
+pub(crate) fn orders(n: [u64; NUMBERS]) -> [u8; Kind::ORDERS] {
     let mut orders = [0; Kind::ORDERS];
     let mut i = 0;
     while i < Kind::ORDERS {
@@ -18,9 +20,8 @@ fn orders(n: [u64; NUMBERS]) -> [u8; Kind::ORDERS] {
     orders
 }
 
-// The roll in a lent buffer.
-pub(crate) fn roll(n: [u64; NUMBERS], start: usize, lent: &mut [u8]) -> Told {
-    let answer = expansion::expand(byte(n[0]), orders(n), lent, start);
+// The roll that was written from a place on.
+pub(crate) fn told(answer: Expanded, start: usize) -> Told {
     match answer {
         Expanded::Roll(long, terms) => {
             answers::bytes(

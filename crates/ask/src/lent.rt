@@ -1,6 +1,11 @@
 // The buffer that a question lends to the library: every byte is filled before, and looked at afterwards.
 use crate::answers;
-use answer::Told;
+use crate::floats;
+use crate::forms;
+use forms::Told;
+
+// The most bytes of a roll that is given, and the most that a question can have lent to the library.
+pub(crate) const MOST: usize = 1048576;
 
 const FILL: u8 = 0xa5;
 // The bits of a float that is filled.
@@ -52,7 +57,7 @@ pub(crate) fn lay_bytes(lent: &mut [u8], bytes: &[u8], n: usize) {
 }
 
 pub(crate) fn fill_floats(lent: &mut [f64]) {
-    let fill = question::of_bits(FILL_BITS);
+    let fill = floats::of_bits(FILL_BITS);
     let mut i = 0;
     while i < lent.len() {
         lent[i] = fill;
@@ -65,7 +70,7 @@ pub(crate) fn are_kept(lent: &[f64]) -> bool {
     let mut changed: u64 = 0;
     let mut i = 0;
     while i < lent.len() {
-        changed = changed | (answer::bits(lent[i]) ^ FILL_BITS);
+        changed = changed | (floats::bits(lent[i]) ^ FILL_BITS);
         i += 1;
     }
     changed == 0

@@ -1,32 +1,37 @@
 // Answers the question language of docs/QUESTIONS.md: one line asks, one line answers.
 //
-// Questions come from standard input until it ends. `questions` has their shapes and calls the library; `answers` has the
-// forms of what is said.
+// Questions come from standard input until it ends. `turns` has the shapes of questions and the forms of answers, `questions`
+// calls the library.
 ghost use Prim.Native.Nat.{_<_};
 
 mod answers;
 mod expands;
+mod floats;
+mod forms;
 mod lent;
+mod lines;
 mod lists;
 mod matrices;
+mod output;
 mod questions;
 mod rolls;
+mod shapes;
 mod shells;
+mod turns;
 mod values;
+mod words;
 
-use question::Found;
-use question::State;
+use lines::Found;
+use lines::State;
 
-// The input's buffer: a longest line, and room to read on.
-const INPUT: usize = 2162688;
-// The most bytes of a roll that is given, and the most that a question can have lent to the library.
-const LENT: usize = 1048576;
-// The most floats that a question can have.
-const FLOATS: usize = 66561;
+// So much is read or written at once.
+const AT_ONCE: usize = 65536;
+// A longest line, and room to read on.
+const INPUT: usize = lines::MOST_LINE + AT_ONCE;
+// The most floats that a question can have: those of I and D.
+const FLOATS: usize = matrices::MOST_TENSOR + matrices::MOST_MATRIX;
 // Room for J and K.
-const SUMS: usize = 2048;
-
-const OUTPUT: usize = 65536;
+const SUMS: usize = 2 * matrices::MOST_MATRIX;
 
 // Reads and answers until the input ends. A proved loop has to end, so it counts down from a number that no run uses up (D-55).
 fn serve(
@@ -37,31 +42,14 @@ fn serve(
     sums: &mut [f64],
     out: &mut [u8],
 ) {
-    let mut s = question::begin();
+    let mut s = lines::carry(0, false);
     let mut used = 0;
     let mut turns = u64::MAX;
     while turns > 0 {
-        s = question::next(input, s);
-        used = turn(input, s, given, floats, lent, sums, out, used);
+        s = lines::next(input, s);
+        used = turns::turn(input, s, given, floats, lent, sums, out, used);
         turns = left(s, turns);
     }
-}
-
-// A line is read, answered, and its answer is printed.
-fn turn(
-    input: &[u8],
-    s: State,
-    given: &mut [u8],
-    floats: &mut [f64],
-    lent: &mut [u8],
-    sums: &mut [f64],
-    out: &mut [u8],
-    used: usize,
-) -> usize {
-    let line = question::line(input, s);
-    let asked = questions::read(line, given, floats);
-    let told = questions::answer(s, asked, given, floats, lent, sums);
-    answers::print(told, line, lent, sums, out, used)
 }
 
 fn left(s: State, turns: u64) -> u64
@@ -77,13 +65,34 @@ fn left(s: State, turns: u64) -> u64
     }
 }
 
+// Each buffer is made by a function of its own: its length is then known from its type.
+fn input_bytes() -> [u8; INPUT] {
+    [0; INPUT]
+}
+
+fn lent_bytes() -> [u8; lent::MOST] {
+    [0; lent::MOST]
+}
+
+fn given_floats() -> [f64; FLOATS] {
+    [0.0; FLOATS]
+}
+
+fn no_sums() -> [f64; SUMS] {
+    [0.0; SUMS]
+}
+
+fn output_bytes() -> [u8; AT_ONCE] {
+    [0; AT_ONCE]
+}
+
 fn main() {
-    let mut input = [0u8; INPUT];
-    let mut given = [0u8; LENT];
-    let mut floats = [0.0; FLOATS];
-    let mut lent = [0u8; LENT];
-    let mut sums = [0.0; SUMS];
-    let mut out = [0u8; OUTPUT];
+    let mut input = input_bytes();
+    let mut given = lent_bytes();
+    let mut floats = given_floats();
+    let mut lent = lent_bytes();
+    let mut sums = no_sums();
+    let mut out = output_bytes();
     serve(
         &mut input,
         &mut given,

@@ -2,19 +2,23 @@
 ghost use Prim.Native.Nat.{_≤_};
 ghost use Rattle.kind.specs.Limits.{mostSize};
 use crate::answers;
+use crate::forms;
 use crate::lent;
-use answer::Told;
+use crate::questions;
+use crate::words;
+use forms::Told;
 use jk::Answer;
 use kind::Kind;
-use question::NUMBERS;
+use questions::least;
+use words::NUMBERS;
 
-// The most floats of I, and of each other slice, that a question can have lent.
-const MOST_TENSOR: usize = 65537;
+// The most floats of I, and of each other slice, that a question can have lent: more than the largest size asks.
+pub(crate) const MOST_TENSOR: usize = 65537;
 
-const MOST_MATRIX: usize = 1024;
+pub(crate) const MOST_MATRIX: usize = 1024;
 
 // The matrix size that is said, and the lengths of I, D, J and K.
-struct Sizes {
+pub(crate) struct Sizes {
     n: usize,
     i: usize,
     d: usize,
@@ -23,9 +27,9 @@ struct Sizes {
 }
 
 // The lengths are those that the size asks. With a size out of range nothing is lent (D-53).
-pub(crate) fn plain(n: [u64; NUMBERS], floats: &[f64], sums: &mut [f64]) -> Told {
+pub(crate) fn plain(n: [u64; NUMBERS]) -> Sizes {
     let size = n[0] as usize;
-    asked(of_size(size, in_range(size)), floats, sums)
+    of_size(size, in_range(size))
 }
 
 // The lengths that a size in range asks.
@@ -54,54 +58,53 @@ fn in_range(n: usize) -> usize
 }
 
 // The lengths are said, right or wrong.
-pub(crate) fn sized(n: [u64; NUMBERS], floats: &[f64], sums: &mut [f64]) -> Told {
-    let s = Sizes {
+pub(crate) fn sized(n: [u64; NUMBERS]) -> Sizes {
+    Sizes {
         n: n[0] as usize,
         i: n[1] as usize,
         d: n[2] as usize,
         j: n[3] as usize,
         k: n[4] as usize,
-    };
-    asked(s, floats, sums)
+    }
 }
 
 // Whether the lengths are no more than can be lent, and there are floats for I and D, and no more.
 fn fits(s: Sizes, floats: usize) -> bool {
     if s.i <= MOST_TENSOR {
         if s.d <= MOST_MATRIX {
-            return s.i + s.d == floats;
+            if s.i + s.d == floats {
+                return are_lent(s.j, s.k);
+            }
         }
     }
     false
 }
 
-fn asked(s: Sizes, floats: &[f64], sums: &mut [f64]) -> Told {
-    let i = s.i;
-    if floats.len() < i {
-        return answers::unknown();
+fn are_lent(j: usize, k: usize) -> bool {
+    if j <= MOST_MATRIX {
+        return k <= MOST_MATRIX;
     }
+    false
+}
+
+pub(crate) fn asked(s: Sizes, floats: &[f64], sums: &mut [f64]) -> Told {
     if fits(s, floats.len()) {
-        return lend(s, &floats[0..i], &floats[i..], sums);
+        return lend(s, floats, sums);
     }
     answers::unknown()
 }
 
 // Lends J and K of the lengths said.
-fn lend(s: Sizes, integrals: &[f64], density: &[f64], sums: &mut [f64]) -> Told {
+fn lend(s: Sizes, floats: &[f64], sums: &mut [f64]) -> Told {
     let mut coulomb = [0.0; MOST_MATRIX];
     let mut exchange = [0.0; MOST_MATRIX];
-    let j = s.j;
-    let k = s.k;
-    if MOST_MATRIX < j {
-        return answers::unknown();
-    }
-    if MOST_MATRIX < k {
-        return answers::unknown();
-    }
+    let i = least(s.i, floats.len());
+    let j = least(s.j, MOST_MATRIX);
+    let k = least(s.k, MOST_MATRIX);
     summed(
         s.n,
-        integrals,
-        density,
+        &floats[0..i],
+        &floats[i..],
         &mut coulomb[0..j],
         &mut exchange[0..k],
         sums,
@@ -134,16 +137,8 @@ fn told(j: &[f64], k: &[f64], sums: &mut [f64]) -> Told {
         if geometry::all_finite(k) {
             lent::lay(sums, 0, j);
             lent::lay(sums, j.len(), k);
-            return answers::floats(answers::MATRICES, j.len(), both(j.len(), k.len()));
+            return answers::floats(answers::MATRICES, j.len(), k.len());
         }
     }
     answers::spoiled()
-}
-
-// How many floats there are in both.
-fn both(j: usize, k: usize) -> usize {
-    if k <= usize::MAX - j {
-        return j + k;
-    }
-    j
 }

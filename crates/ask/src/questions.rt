@@ -1,24 +1,26 @@
-// The questions: the shape of each, what it has lent, and the call that answers it.
+// The questions: the number of each one's shape, what it has lent, and the call that answers it.
 ghost use Prim.Native.Nat.{_≤_};
 use crate::answers;
 use crate::expands;
+use crate::forms;
 use crate::lent;
+use crate::lines;
 use crate::lists;
 use crate::matrices;
 use crate::rolls;
 use crate::shells;
 use crate::values;
-use answer::Told;
-use question::Asked;
-use question::NUMBERS;
-use question::State;
+use crate::words;
+use forms::Told;
+use kind::Kind;
+use lines::State;
+use words::Asked;
+use words::NUMBERS;
 
 // What `shell M` lends, from place 0 on: more than any list needs (D-45).
 const SHELL_LENT: usize = 256;
 // Room for the longest listing: a term of three bytes takes at most fourteen letters, and each byte more at most three.
-const LISTING_LENT: usize = 327680;
-// What `expand` without a buffer lends.
-const ROLL_LENT: usize = 1048576;
+const LISTING_LENT: usize = 5 * Kind::MOST_LISTED;
 // Room for the orders of a roll or the prefactors of a term.
 const OWN_LENT: usize = 64;
 
@@ -45,40 +47,9 @@ struct Lent {
     start: usize,
 }
 
-// B, W and P are numbers below 2^8, 2^32 and 2^64, L a buffer's length, R a roll, * floats, ^ any bytes. The first line of
-// the table is the empty line.
-pub(crate) fn read(line: &[u8], given: &mut [u8], floats: &mut [f64]) -> Asked {
-    question::read(
-        b"
-#^
-shell B
-shell B L P
-component B B W
-component B B B B W
-expand B B B B B B B B B B B B B
-expand B B B B B B B B B B B B B L P
-list R
-open R
-check R
-next B B W P R
-eval R*
-table B*
-jk P*
-jkl P P P P P*
-",
-        line,
-        given,
-        floats,
-    )
-}
-
-// The question of each line of the table, from 0 on (D-54).
-fn of(asked: Asked) -> Question {
-    if asked.misfit {
-        return Question::Unknown;
-    }
-    let line = asked.question;
-    match line {
+// The question of each line of the table of shapes in `turns`, from 0 on (D-54).
+fn of(shape: usize) -> Question {
+    match shape {
         0 | 1 => Question::Echo,
         2 | 3 => Question::Shell,
         4 => Question::Pair,
@@ -100,7 +71,7 @@ fn of(asked: Asked) -> Question {
 fn lends(q: Question, count: usize, n: [u64; NUMBERS]) -> Lent {
     match q {
         Question::Shell => buffer(count == 1, SHELL_LENT, n[1], n[2]),
-        Question::Expand => buffer(count == 13, ROLL_LENT, n[13], n[14]),
+        Question::Expand => buffer(count == 13, lent::MOST, n[13], n[14]),
         Question::List => buffer(true, LISTING_LENT, 0, 0),
         _ => buffer(true, OWN_LENT, 0, 0),
     }
@@ -127,7 +98,7 @@ pub(crate) fn answer(
     sums: &mut [f64],
 ) -> Told {
     let n = asked.numbers;
-    let q = of(asked);
+    let q = of(asked.question);
     let l = lends(q, asked.count, n);
     let bytes = least(asked.bytes, given.len());
     let count = least(asked.floats, floats.len());
@@ -137,7 +108,7 @@ pub(crate) fn answer(
     answers::heard(s, in_floats(q, n, all, sums, told))
 }
 
-fn least(a: usize, b: usize) -> usize
+pub(crate) fn least(a: usize, b: usize) -> usize
     ensures { λ r. ⌜ r ≤ b ⌝ }
 {
     if a <= b {
@@ -171,14 +142,19 @@ fn in_bytes(
 ) -> Told {
     match q {
         Question::Echo => answers::plain(answers::ECHO),
-        Question::Shell => shells::list(n, start, lent),
-        Question::Pair => shells::pair(n, lent),
-        Question::Four => shells::four(n, lent),
-        Question::Expand => expands::roll(n, start, lent),
-        Question::List => lists::listing(roll, lent),
+        Question::Shell => shells::listed(shell::get_ijk_list(byte(n[0]), lent, start), start),
+        Question::Pair => shells::component(shells::pair(n), shells::PAIR, lent),
+        Question::Four => shells::component(shells::four(n), Kind::ORDERS, lent),
+        Question::Expand => {
+            expands::told(
+                expansion::expand(byte(n[0]), expands::orders(n), lent, start),
+                start,
+            )
+        }
+        Question::List => lists::told(listing::listing(roll, lent, 0)),
         Question::Open => rolls::opened(roll::open(roll), lent),
         Question::Check => rolls::opened(roll::check(roll), lent),
-        Question::Next => rolls::next(n, roll, lent),
+        Question::Next => rolls::stepped(rolls::cursor(n).next(roll), lent),
         Question::Eval => values::value(roll, floats),
         _ => answers::unknown(),
     }
@@ -188,10 +164,18 @@ fn in_bytes(
 fn in_floats(q: Question, n: [u64; NUMBERS], floats: &[f64], sums: &mut [f64], told: Told) -> Told {
     match q {
         Question::Table => values::table(n, floats, sums),
-        Question::Jk => matrices::plain(n, floats, sums),
-        Question::Jkl => matrices::sized(n, floats, sums),
+        Question::Jk => matrices::asked(matrices::plain(n), floats, sums),
+        Question::Jkl => matrices::asked(matrices::sized(n), floats, sums),
         _ => told,
     }
+}
+
+// The sum, or the most that there is.
+pub(crate) fn sum(a: usize, b: usize) -> usize {
+    if b <= usize::MAX - a {
+        return a + b;
+    }
+    usize::MAX
 }
 
 pub(crate) fn byte(n: u64) -> u8 {

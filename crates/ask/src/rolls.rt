@@ -1,18 +1,21 @@
 // `open ROLL`, `check ROLL` and `next KIND L LEFT PLACE ROLL`: a roll's header, the whole roll judged, a cursor's step.
 use crate::answers;
+use crate::forms;
 use crate::lent;
 use crate::questions;
-use answer::Told;
+use crate::words;
+use forms::Told;
 use kind::Kind;
 use kind::Named;
-use question::NUMBERS;
 use questions::byte;
 use questions::word;
 use roll::Cursor;
 use roll::Found;
 use roll::Opened;
 use roll::Opening;
+use roll::Step;
 use term::Term;
+use words::NUMBERS;
 
 pub(crate) fn opened(o: Opened, lent: &mut [u8]) -> Told {
     let found = o.found;
@@ -38,14 +41,17 @@ fn header(c: Cursor, orders: [u8; Kind::ORDERS], lent: &mut [u8]) -> Told {
     answers::bytes(answers::OPENED, numbers, 0, n)
 }
 
-pub(crate) fn next(n: [u64; NUMBERS], roll: &[u8], lent: &mut [u8]) -> Told {
-    let cursor = Cursor {
+// The cursor that is said, forged or not.
+pub(crate) fn cursor(n: [u64; NUMBERS]) -> Cursor {
+    Cursor {
         place: n[3] as usize,
         left: word(n[2]),
         kind: byte(n[0]),
         l: byte(n[1]),
-    };
-    let step = cursor.next(roll);
+    }
+}
+
+pub(crate) fn stepped(step: Step, lent: &mut [u8]) -> Told {
     let found = step.found;
     let term = step.term;
     let prefactors = term.prefactors;

@@ -1,22 +1,23 @@
 // `shell M ..` and `component M1 M2 ..`: a shell's list, and one component of a pair or of four shells.
 use crate::answers;
+use crate::forms;
 use crate::lent;
 use crate::questions;
-use answer::Told;
+use crate::words;
+use forms::Told;
 use kind::Kind;
-use question::NUMBERS;
 use questions::byte;
 use questions::word;
 use shell::Component;
 use shell::Listed;
 use shell::Sought;
+use words::NUMBERS;
 
 // The orders of a pair of shells.
-const PAIR: usize = 6;
+pub(crate) const PAIR: usize = 6;
 
-// The list in a lent buffer.
-pub(crate) fn list(n: [u64; NUMBERS], start: usize, lent: &mut [u8]) -> Told {
-    let answer = shell::get_ijk_list(byte(n[0]), lent, start);
+// The list that was written from a place on.
+pub(crate) fn listed(answer: Listed, start: usize) -> Told {
     match answer {
         Listed::Bytes(long, _) => answers::bytes(
             answers::SHELL,
@@ -28,21 +29,16 @@ pub(crate) fn list(n: [u64; NUMBERS], start: usize, lent: &mut [u8]) -> Told {
     }
 }
 
-pub(crate) fn pair(n: [u64; NUMBERS], lent: &mut [u8]) -> Told {
-    component(
-        shell::get_shell2(byte(n[0]), byte(n[1]), word(n[2])),
-        PAIR,
-        lent,
-    )
+pub(crate) fn pair(n: [u64; NUMBERS]) -> Component {
+    shell::get_shell2(byte(n[0]), byte(n[1]), word(n[2]))
 }
 
-pub(crate) fn four(n: [u64; NUMBERS], lent: &mut [u8]) -> Told {
-    let c = shell::get_shell4(byte(n[0]), byte(n[1]), byte(n[2]), byte(n[3]), word(n[4]));
-    component(c, Kind::ORDERS, lent)
+pub(crate) fn four(n: [u64; NUMBERS]) -> Component {
+    shell::get_shell4(byte(n[0]), byte(n[1]), byte(n[2]), byte(n[3]), word(n[4]))
 }
 
 // The component's first `n` orders, or the refusal.
-fn component(c: Component, n: usize, lent: &mut [u8]) -> Told {
+pub(crate) fn component(c: Component, n: usize, lent: &mut [u8]) -> Told {
     let found = c.found;
     let orders = c.orders;
     match found {
@@ -53,5 +49,5 @@ fn component(c: Component, n: usize, lent: &mut [u8]) -> Told {
 
 fn orders_told(orders: [u8; Kind::ORDERS], n: usize, lent: &mut [u8]) -> Told {
     lent::lay_bytes(lent, &orders, n);
-    answers::bytes(answers::COMPONENT, [0; answer::NUMBERS], 0, n)
+    answers::bytes(answers::COMPONENT, [0; forms::NUMBERS], 0, n)
 }

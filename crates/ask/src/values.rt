@@ -2,15 +2,18 @@
 ghost use Prim.Native.Nat.{_+_, _≤_};
 ghost use lib.ListN.{length};
 use crate::answers;
+use crate::floats;
+use crate::forms;
 use crate::lent;
 use crate::questions;
-use answer::Told;
+use crate::words;
+use forms::Told;
 use geometry::Centre;
 use geometry::Tabled;
 use integrals::Value;
 use kind::Kind;
-use question::NUMBERS;
 use questions::byte;
+use words::NUMBERS;
 
 // The floats of four centres.
 const CENTRES: usize = 16;
@@ -66,7 +69,7 @@ pub(crate) fn value(roll: &[u8], floats: &[f64]) -> Told {
 // A value is finite where it comes back.
 fn value_told(x: f64) -> Told {
     if geometry::finite(x) {
-        return answers::bytes(answers::VALUE, [answer::bits(x), 0, 0, 0], 0, 0);
+        return answers::bytes(answers::VALUE, [floats::bits(x), 0, 0, 0], 0, 0);
     }
     answers::spoiled()
 }
@@ -89,7 +92,7 @@ pub(crate) fn table(n: [u64; NUMBERS], floats: &[f64], sums: &mut [f64]) -> Told
 fn table_told(entries: [f64; Kind::TABLE], sums: &mut [f64]) -> Told {
     if geometry::all_finite(&entries) {
         lent::lay(sums, 0, &entries);
-        return answers::floats(answers::TABLE, Kind::TABLE, Kind::TABLE);
+        return answers::floats(answers::TABLE, Kind::TABLE, 0);
     }
     answers::spoiled()
 }

@@ -13,8 +13,8 @@ abbrev μ-loop : tie.MeasureT-loop
 μ-loop input₀ given₀ floats₀ lent₀ sums₀ out₀ s₀ used₀ turns₀ input given floats lent sums out s used turns =
     turns
 
-begin-requires : tie.Need-begin-requires Inv-loop μ-loop
-begin-requires c κs = search needs
+carry-requires : tie.Need-carry-requires Inv-loop μ-loop
+carry-requires c κs = search needs
 
 loop-holds : tie.Need-loop-holds Inv-loop μ-loop
 loop-holds c = search needs
@@ -61,7 +61,7 @@ serve-spec =
     (tie.spec
     Inv-loop
     μ-loop
-    begin-requires
+    carry-requires
     loop-holds
     next-requires
     turn-requires

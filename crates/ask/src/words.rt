@@ -1,0 +1,193 @@
+// The words of a line. Each reader takes what is read so far, and answers it with one word more.
+use crate::floats;
+use text::Parsed;
+
+// The most numbers of a question.
+pub(crate) const NUMBERS: usize = 16;
+
+// What is read of a line: its question's number, whether that is found, and a number for each word that the shape asks for. A
+// roll's bytes and floats stand at the front of what was lent for them.
+pub(crate) struct Asked {
+    pub(crate) question: usize,
+    pub(crate) found: bool,
+    pub(crate) misfit: bool,
+    pub(crate) numbers: [u64; NUMBERS],
+    pub(crate) count: usize,
+    pub(crate) bytes: usize,
+    pub(crate) floats: usize,
+    pub(crate) at: usize,
+}
+
+enum Byte {
+    Is(u8, usize),
+    Not,
+}
+
+enum Float {
+    Is(f64, usize),
+    Not,
+}
+
+// How many were read, and the place after them.
+struct Run {
+    count: usize,
+    end: usize,
+}
+
+// The line does not have this shape.
+fn misfit(a: Asked) -> Asked {
+    let mut b = a;
+    b.misfit = true;
+    b
+}
+
+// One number more, which ends at a place.
+fn with(a: Asked, n: u64, end: usize) -> Asked {
+    let mut b = a;
+    let before = a.numbers;
+    let numbers = put(before, a.count, n);
+    b.numbers = numbers;
+    b.count = after(a.count);
+    b.at = end;
+    b
+}
+
+// A number beyond the last place is left out.
+fn put(numbers: [u64; NUMBERS], i: usize, n: u64) -> [u64; NUMBERS] {
+    let mut all = numbers;
+    if i < NUMBERS {
+        all[i] = n;
+    }
+    all
+}
+
+pub(crate) fn after(n: usize) -> usize {
+    if n < usize::MAX {
+        return n + 1;
+    }
+    n
+}
+
+// The letter itself.
+pub(crate) fn letter(line: &[u8], a: Asked, letter: u8) -> Asked {
+    let at = a.at;
+    if line.len() <= at {
+        return misfit(a);
+    }
+    if line[at] != letter {
+        return misfit(a);
+    }
+    let mut b = a;
+    b.at = at + 1;
+    b
+}
+
+// Whatever is left of the line.
+pub(crate) fn rest(line: &[u8], a: Asked) -> Asked {
+    let mut b = a;
+    b.at = line.len();
+    b
+}
+
+// A whole number up to `most`.
+pub(crate) fn number(line: &[u8], a: Asked, most: u64) -> Asked {
+    match text::read_decimal(line, a.at) {
+        Parsed::Is(n, end) => {
+            if most < n {
+                return misfit(a);
+            }
+            with(a, n, end)
+        }
+        Parsed::Not => misfit(a),
+    }
+}
+
+// A float by its bits in hexadecimal, after a blank (D-46).
+fn read_float(line: &[u8], at: usize) -> Float {
+    if line.len() <= at {
+        return Float::Not;
+    }
+    if line[at] != b' ' {
+        return Float::Not;
+    }
+    match text::read_hex(line, at + 1) {
+        Parsed::Is(bits, end) => Float::Is(floats::of_bits(bits), end),
+        Parsed::Not => Float::Not,
+    }
+}
+
+// As many floats as stand there and have room.
+fn read_floats(line: &[u8], at: usize, room: &mut [f64]) -> Run {
+    let mut end = at;
+    let mut count = 0;
+    while count < room.len() {
+        let Float::Is(x, next) = read_float(line, end) else {
+            return Run { count, end };
+        };
+        room[count] = x;
+        end = next;
+        count += 1;
+    }
+    Run { count, end }
+}
+
+// None or more floats, each after a blank.
+pub(crate) fn floats(line: &[u8], a: Asked, room: &mut [f64]) -> Asked {
+    let run = read_floats(line, a.at, room);
+    let mut b = a;
+    b.at = run.end;
+    b.floats = run.count;
+    b
+}
+
+// A byte in two hexadecimal digits.
+fn read_pair(line: &[u8], at: usize) -> Byte {
+    if line.len() < 2 {
+        return Byte::Not;
+    }
+    if line.len() - 2 < at {
+        return Byte::Not;
+    }
+    let end = at + 2;
+    match text::read_hex(&line[at..end], 0) {
+        Parsed::Is(n, length) => pair(n, length, end),
+        Parsed::Not => Byte::Not,
+    }
+}
+
+fn pair(n: u64, length: usize, end: usize) -> Byte {
+    if length != 2 {
+        return Byte::Not;
+    }
+    if 255 < n {
+        return Byte::Not;
+    }
+    Byte::Is(n as u8, end)
+}
+
+// As many bytes as stand there and have room.
+fn read_pairs(line: &[u8], at: usize, room: &mut [u8]) -> Run {
+    let mut end = at;
+    let mut count = 0;
+    while count < room.len() {
+        let Byte::Is(byte, next) = read_pair(line, end) else {
+            return Run { count, end };
+        };
+        room[count] = byte;
+        end = next;
+        count += 1;
+    }
+    Run { count, end }
+}
+
+// A roll's bytes, two digits each; a dash where there are none (D-47).
+pub(crate) fn roll(line: &[u8], a: Asked, room: &mut [u8]) -> Asked {
+    let run = read_pairs(line, a.at, room);
+    if run.count == 0 {
+        return letter(line, a, b'-');
+    }
+    let mut b = a;
+    b.at = run.end;
+    b.bytes = run.count;
+    b
+}
