@@ -77,7 +77,8 @@ abbrev inTurn : Bool → Bool → Bool → Bool → Bool → Expanded → Expand
 inTurn two three five four six roll = cond two (Refused 2) (cond three (Refused 3) (cond five (Refused 5) (cond four (Refused 4) (cond six (Refused 6) roll))))
 
 -- the five checks in turn end in a roll where none is met
-none-met : (a b c d e : Bool) (l n long count : ℕ) → inTurn a b c d e (Roll l n) ≡ Roll long count → (a ≡ false) × (b ≡ false) × (c ≡ false) × (d ≡ false) × (e ≡ false) × (long ≡ l) × (count ≡ n)
+none-met : (a b c d e : Bool) (l n long count : ℕ) → inTurn a b c d e (Roll l n) ≡ Roll long count
+    → (a ≡ false) × (b ≡ false) × (c ≡ false) × (d ≡ false) × (e ≡ false) × (long ≡ l) × (count ≡ n)
 none-met true b c d e l n long count is = absurd (clash (cc))
 none-met false true c d e l n long count is = absurd (clash (cc))
 none-met false false true d e l n long count is = absurd (clash (cc))
@@ -98,22 +99,24 @@ pub answered : (k : Kind) (orders before : List ℕ) (begin long count : ℕ) �
 unfolding kindTold
 answered k orders before begin long count e =
     let m =
-    none-met (tooHigh k orders) (unusedSet k orders) (begin exceeds length before) (length (termsOf k orders) exceeds mostTerms) (begin + length (rollOf k orders) exceeds length before) (length (rollOf k orders)) (length (termsOf k orders)) long count e in
+    none-met (tooHigh k orders) (unusedSet k orders) (begin exceeds length before) (length (termsOf k orders) exceeds mostTerms)
+    (begin + length (rollOf k orders) exceeds length before) (length (rollOf k orders)) (length (termsOf k orders)) long count e in
     record { two = m .0; three = m .1; five = m .2; four = m .3; six = m .4; long-is = m .5; count-is = m .6 }
 
 answered-four : (k : Kind) (orders before : List ℕ) (begin : ℕ) → kindTold k orders before begin ≡ Refused 4
     → (tooHigh k orders ≡ false) × (unusedSet k orders ≡ false) × ((begin exceeds length before) ≡ false) × ((length (termsOf k orders) exceeds mostTerms) ≡ true)
 unfolding kindTold
 answered-four k orders before begin e =
-    four-met (tooHigh k orders) (unusedSet k orders) (begin exceeds length before) (length (termsOf k orders) exceeds mostTerms) (begin + length (rollOf k orders) exceeds length before) (length (rollOf k orders)) (length (termsOf k orders)) e
+    four-met (tooHigh k orders) (unusedSet k orders) (begin exceeds length before) (length (termsOf k orders) exceeds mostTerms)
+    (begin + length (rollOf k orders) exceeds length before) (length (rollOf k orders)) (length (termsOf k orders)) e
 
-told-four : (k : Kind) (orders before : List ℕ) (begin : ℕ) → tooHigh k orders ≡ false → unusedSet k orders ≡ false → (begin exceeds length before) ≡ false → (length (termsOf k orders) exceeds mostTerms) ≡ true
-    → kindTold k orders before begin ≡ Refused 4
+told-four : (k : Kind) (orders before : List ℕ) (begin : ℕ) → tooHigh k orders ≡ false → unusedSet k orders ≡ false → (begin exceeds length before) ≡ false
+    → (length (termsOf k orders) exceeds mostTerms) ≡ true → kindTold k orders before begin ≡ Refused 4
 unfolding kindTold
 told-four k orders before begin a b c d = simp (a, b, c, d)
 
-told-roll : (k : Kind) (orders before : List ℕ) (begin : ℕ) → tooHigh k orders ≡ false → unusedSet k orders ≡ false → (begin exceeds length before) ≡ false → length (termsOf k orders) ≤ mostTerms
-    → begin + length (rollOf k orders) ≤ length before → kindTold k orders before begin ≡ Roll (length (rollOf k orders)) (length (termsOf k orders))
+told-roll : (k : Kind) (orders before : List ℕ) (begin : ℕ) → tooHigh k orders ≡ false → unusedSet k orders ≡ false → (begin exceeds length before) ≡ false
+    → length (termsOf k orders) ≤ mostTerms → begin + length (rollOf k orders) ≤ length before → kindTold k orders before begin ≡ Roll (length (rollOf k orders)) (length (termsOf k orders))
 unfolding kindTold
 told-roll k orders before begin a b c few room =
     simp (a, b, c, le-ltb mostTerms (length (termsOf k orders)) few, le-ltb (length before) (begin + length (rollOf k orders)) room)
@@ -125,7 +128,8 @@ pub record Known (kind : ℕ) (orders before : List ℕ) (begin : ℕ) (r : Expa
   pub answer : kindTold k orders before begin ≡ r
   pub out : after ≡ namedOut r (Is k) orders before begin
 
-pub known : (kind : ℕ) (orders before : List ℕ) (begin : ℕ) (r : Expanded) (after : List ℕ) → ExpandTold kind orders before begin r after → (refusalOf r ≡ 1 → ⊥) → Known kind orders before begin r after
+pub known : (kind : ℕ) (orders before : List ℕ) (begin : ℕ) (r : Expanded) (after : List ℕ)
+    → ExpandTold kind orders before begin r after → (refusalOf r ≡ 1 → ⊥) → Known kind orders before begin r after
 known kind orders before begin r after told other = at (kindOf kind) refl (told .answer) (told .out)
   where
     at : (m : Named) → kindOf kind ≡ m → r ≡ namedTold m orders before begin → after ≡ namedOut (namedTold m orders before begin) m orders before begin → Known kind orders before begin r after
@@ -187,11 +191,13 @@ module _ (kind : ℕ) (orders before : List ℕ) (begin : ℕ) (in-full : length
       told .answer ∙ ap (λ (m : Named). namedTold m orders before begin) (many .passed .one)
       ∙ told-four k orders before begin (many .passed .two) (many .passed .three) (many .passed .five) (lt-ltb mostTerms (length (termsOf k orders)) more)
 
-  roll-comes : (r : Expanded) (after : List ℕ) → ExpandTold kind orders before begin r after → (k : Kind) (hs : List (List ℕ)) → Passed kind orders before begin k → HistoriesOf k orders hs → length hs ≤ mostTerms
+  roll-comes : (r : Expanded) (after : List ℕ) → ExpandTold kind orders before begin r after
+      → (k : Kind) (hs : List (List ℕ)) → Passed kind orders before begin k → HistoriesOf k orders hs → length hs ≤ mostTerms
       → begin + length (rollWith k orders (replayed k orders hs)) ≤ length before → r ≡ Roll (length (rollWith k orders (replayed k orders hs))) (length hs)
   roll-comes r after told k hs passed holds few room =
       let same = only-histories k orders hs holds in
-      let long : length (rollOf k orders) ≡ length (rollWith k orders (replayed k orders hs)) = ap length (rolls k orders) ∙ ap (λ (gs : List (List ℕ)). length (rollWith k orders (replayed k orders gs))) (sym same) in
+      let long : length (rollOf k orders) ≡ length (rollWith k orders (replayed k orders hs)) = ap length (rolls k orders)
+      ∙ ap (λ (gs : List (List ℕ)). length (rollWith k orders (replayed k orders gs))) (sym same) in
       let count : length (termsOf k orders) ≡ length hs = as-many (start k orders) ∙ ap length (sym same) in
       told .answer ∙ ap (λ (m : Named). namedTold m orders before begin) (passed .one)
       ∙ told-roll k orders before begin (passed .two) (passed .three) (passed .five) (omega arith) (omega arith) ∙ ap₂ Roll long count
@@ -218,7 +224,8 @@ zeros (n ∷ l) e = let none : n ≡ 0 = omega arith in ap₂ _∷_ none (zeros 
 -- the orders that a kind uses, with zeros behind, are the twelve of a request
 all-orders : (k : Kind) (orders : List ℕ) → RequestWithin k orders → take (ordersOf k) orders ++ replicate (requestOrders - length (take (ordersOf k) orders)) 0 ≡ orders
 all-orders k orders within =
-    ap (λ (l : List ℕ). take (ordersOf k) orders ++ l) (ap (λ (n : ℕ). replicate n 0) behind ∙ sym (zeros (drop (ordersOf k) orders) (rest-zero k orders within))) ∙ take-append-drop (ordersOf k) orders
+    ap (λ (l : List ℕ). take (ordersOf k) orders ++ l) (ap (λ (n : ℕ). replicate n 0) behind ∙ sym (zeros (drop (ordersOf k) orders) (rest-zero k orders within)))
+    ∙ take-append-drop (ordersOf k) orders
   where
     behind : requestOrders - length (take (ordersOf k) orders) ≡ length (drop (ordersOf k) orders)
     behind = let a = orders-long k orders within in let b = length-drop (ordersOf k) orders in let c = within .in-full in omega arith

@@ -154,13 +154,15 @@ kind-most k =
     let b : ordersOf k * lengthOf mostOrder ≤ ordersOf Coulomb * lengthOf mostOrder = mul-le-mul (orders-within k) (omega arith) in
     let c = length-most (mostL k) (mostL Coulomb) (l-within k) in
     let d = length-most (mostPrefactors k (mostL k)) (mostPrefactors Coulomb (mostL Coulomb)) (prefactors-within k) in
-    let e : mostPrefactors k (mostL k) * lengthOf (tableOf k) ≤ mostPrefactors Coulomb (mostL Coulomb) * lengthOf (tableOf Coulomb) = mul-le-mul (prefactors-within k) (length-most (tableOf k) (tableOf Coulomb) (table-within k)) in
+    let e : mostPrefactors k (mostL k) * lengthOf (tableOf k) ≤ mostPrefactors Coulomb (mostL Coulomb) * lengthOf (tableOf Coulomb) =
+    mul-le-mul (prefactors-within k) (length-most (tableOf k) (tableOf Coulomb) (table-within k)) in
     let term : mostTerm k ≤ mostTerm Coulomb = omega arith in
     let terms : mostTerms * mostTerm k ≤ mostTerms * mostTerm Coulomb = mul-le-mul (omega arith) term in
     omega arith
 
 -- every roll that `expand` answers with
-pub roll-most : (kind : ℕ) (orders before : List ℕ) (begin long count : ℕ) (after : List ℕ) → length orders ≡ requestOrders → ExpandTold kind orders before begin (answer.Roll long count) after → long ≤ mostRoll
+pub roll-most : (kind : ℕ) (orders before : List ℕ) (begin long count : ℕ) (after : List ℕ)
+    → length orders ≡ requestOrders → ExpandTold kind orders before begin (answer.Roll long count) after → long ≤ mostRoll
 unfolding rollOf
 roll-most kind orders before begin long count after in-full told =
     let of = known kind orders before begin (answer.Roll long count) after told (λ e. omega arith) in

@@ -15,7 +15,8 @@ not-both (j ∷ g) (k ∷ h) (branches-lower l) (branches-alike c) = omega arith
 not-both (j ∷ g) (k ∷ h) (branches-alike b) (branches-lower m) = omega arith
 not-both (j ∷ g) (k ∷ h) (branches-alike b) (branches-alike c) = not-both g h b c
 
-pub one-list : (gs hs : List (List ℕ)) → Ascending gs → Ascending hs → ((h : List ℕ) → List·Memᴰ h gs → List·Memᴰ h hs) → ((h : List ℕ) → List·Memᴰ h hs → List·Memᴰ h gs) → gs ≡ hs
+pub one-list : (gs hs : List (List ℕ)) → Ascending gs → Ascending hs
+    → ((h : List ℕ) → List·Memᴰ h gs → List·Memᴰ h hs) → ((h : List ℕ) → List·Memᴰ h hs → List·Memᴰ h gs) → gs ≡ hs
 one-list [] [] p q f g = refl
 one-list [] (h ∷ hs) p q f g = absurd (List·Memᴰ·not-nil (g h (List·Memᴰ·head refl)))
 one-list (h ∷ gs) [] p q f g = absurd (List·Memᴰ·not-nil (f h (List·Memᴰ·head refl)))
