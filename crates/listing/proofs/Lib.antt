@@ -5,3 +5,4 @@ pub mod Room
 pub mod Saying
 pub mod Telling
 pub mod Terms
+pub mod Unchanged
