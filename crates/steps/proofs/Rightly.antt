@@ -78,7 +78,8 @@ module _ (left : List ℕ) (c : CentreName) (cs : List CentreName) (ahead : Ahea
       (one c (taken (omega arith) (λ (d : CentreName) (i : List·Memᴰ d cs) (p : 0 < sumOf left d). let z = out d i in omega arith)))
   before b (one x s) (suc n) e = by (ltb 0 (sumOf left x)) refl (ltb (sumOf left x) (suc n)) refl
     where
-      by : (p : Bool) → ltb 0 (sumOf left x) ≡ p → (q : Bool) → ltb (sumOf left x) (suc n) ≡ q → BestOf left (c ∷ cs) (pick p (pick q (record { fun = fun.Lower x; sum = sumOf left x }) (record { fun = fun.Lower c; sum = suc n })) (record { fun = fun.Lower c; sum = suc n }))
+      by : (p : Bool) → ltb 0 (sumOf left x) ≡ p → (q : Bool) → ltb (sumOf left x) (suc n) ≡ q
+          → BestOf left (c ∷ cs) (pick p (pick q (record { fun = fun.Lower x; sum = sumOf left x }) (record { fun = fun.Lower c; sum = suc n })) (record { fun = fun.Lower c; sum = suc n }))
       by false u q v = let z = ltb-false 0 (sumOf left x) u in let w = s .positive in absurd (omega arith)
       by true u true v = let z = ltb-true (sumOf left x) (suc n) v in one x (kept x s (omega arith))
       by true u false v =

@@ -103,7 +103,8 @@ returns-7 c = search arm
 returns-8 : tie.Need-returns-8
 unfolding moveIn fallWord
 returns-8 c = let r = c .before .before .match .rest in
-    let h : c .before .before .before .args .number ≡ 7 = last-of-eight _ (search needs) (r .0 .0 .0 .0 .0 .0 .1) (r .0 .0 .0 .0 .0 .1) (r .0 .0 .0 .0 .1) (r .0 .0 .0 .1) (r .0 .0 .1) (r .0 .1) (r .1) in
+    let h : c .before .before .before .args .number ≡ 7 =
+    last-of-eight _ (search needs) (r .0 .0 .0 .0 .0 .0 .1) (r .0 .0 .0 .0 .0 .1) (r .0 .0 .0 .0 .1) (r .0 .0 .0 .1) (r .0 .0 .1) (r .0 .1) (r .1) in
     search arm
 
 pub coulomb-move-spec : {M : Type 1} → statement M
