@@ -16,7 +16,6 @@ use Rattle.term.specs.Terms.{Term}
 use Rattle.steps.specs.declared.CentreName.{CentreName}
 use Rattle.steps.specs.declared.Axis.{Axis}
 use Rattle.steps.specs.declared.Move.{Move}
-use Rattle.steps.specs.Choice.{pick}
 use Rattle.steps.specs.Steps.{Falls, Branch, branches, times}
 use Rattle.steps.specs.inner.Packed.{orders, moveIn, fallWord, noBranch, multiplierWord}
 use Rattle.expansion.specs.declared.Path.{Path}
@@ -193,7 +192,7 @@ module _ (k : Kind) (left scale count : ℕ) (c : CentreName) (x : Axis) (times�
 
     same-kind : moveIn k c x (branches k c x) (number + 1) .kind ≡ moveIn k c x (branches k c x) number .kind
     unfolding moveIn
-    same-kind = ap (λ (v : Bool). pick v Overlap k) (alike .goes-alike)
+    same-kind = ap (λ (v : Bool). cond v Overlap k) (alike .goes-alike)
 
   module _ (p : Path) (scale-is : p .scale ≡ scale) (count-is : p .count ≡ count) (good : Good k left p) where
     abbrev here : Child

@@ -2,7 +2,7 @@
 use Prim.Native.Nat.{ℕ, _*_, _-_, _%_, _≤_, _<_}
 use mathlib.Core.Path.{_≡_, sym, ap, subst, _∙_}
 use mathlib.Core.Logic.{_≢_}
-use mathlib.Core.Bool.{true}
+use mathlib.Core.Bool.{true, cond}
 use mathlib.Core.List.{List·Memᴰ}
 use native.Mathlib.Omega.{arith}
 use native.Mathlib.Nat.{mul-le-mul}
@@ -14,7 +14,7 @@ use Rattle.kind.proofs.Within.{table-within}
 use Rattle.steps.specs.declared.CentreName.{CentreName}
 use Rattle.steps.specs.declared.Axis.{Axis}
 use Rattle.steps.specs.declared.Move.{Move}
-use Rattle.steps.specs.Choice.{pick, orderPlace, operator}
+use Rattle.steps.specs.Choice.{orderPlace, operator}
 use Rattle.steps.specs.Steps.{Falls, a-and-o, Branch, branches, times, lowered}
 use Rattle.laws.proofs.Lists.{getD-in}
 use Rattle.steps.specs.States.{State, step}
@@ -85,7 +85,7 @@ module _ (k : Kind) (left : ℕ) (p : Path) (c : CentreName) (x : Axis) (times�
     unfolding moveIn
     raises-is = ap (λ (n : Move). n .raises) is
 
-    kind-is : m .kind ≡ pick (this .as-overlap) Overlap k
+    kind-is : m .kind ≡ cond (this .as-overlap) Overlap k
     unfolding moveIn
     kind-is = ap (λ (n : Move). n .kind) is
 

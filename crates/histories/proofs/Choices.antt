@@ -1,7 +1,7 @@
 -- The centre chosen is one of the kind's, and where no order is left none is chosen.
 use Prim.Native.Nat.{ℕ, zero, suc}
 use mathlib.Core.Path.{_≡_, refl, ap, _∙_}
-use mathlib.Core.Bool.{Bool, true, false}
+use mathlib.Core.Bool.{Bool, true, false, cond}
 use mathlib.Core.List.{List, [], _∷_, List·Memᴰ}
 use mathlib.Core.List.List·Memᴰ.{List·Memᴰ·head, List·Memᴰ·tail}
 use native.Mathlib.Omega.{arith}
@@ -15,7 +15,7 @@ use Rattle.steps.specs.declared.Axis.the-variants.{X, Y, Z}
 use Rattle.steps.specs.declared.Fun.{Fun}
 use Rattle.steps.specs.declared.Fun.the-variants.{Lower, Nothing}
 use Rattle.steps.specs.declared.Best.{Best}
-use Rattle.steps.specs.Choice.{orderPlace, sumOf, pick, orBefore, smallest, onceExhausted, chosen}
+use Rattle.steps.specs.Choice.{orderPlace, sumOf, orBefore, smallest, onceExhausted, chosen}
 use Rattle.laws.specs.Total.{total}
 use Rattle.steps.specs.States.{State, onFun, nexts}
 use Rattle.laws.proofs.Totals.{getD-le-total}
@@ -35,7 +35,7 @@ smallest-among left (c ∷ cs) d e = by-sum (sumOf left c) e (λ (f : smallest l
     Later : Type 0
     Later = smallest left cs .fun ≡ Lower d → List·Memᴰ d cs
 
-    at-test : (n : ℕ) (v w : Bool) → pick v (pick w (smallest left cs) (record { fun = Lower c; sum = suc n })) (record { fun = Lower c; sum = suc n }) .fun ≡ Lower d
+    at-test : (n : ℕ) (v w : Bool) → cond v (cond w (smallest left cs) (record { fun = Lower c; sum = suc n })) (record { fun = Lower c; sum = suc n }) .fun ≡ Lower d
         → (smallest left cs .fun ≡ Lower d → List·Memᴰ d cs) → List·Memᴰ d (c ∷ cs)
     at-test n true true f ih = List·Memᴰ·tail (ih f)
     at-test n true false f ih = List·Memᴰ·head (same-centre c d f)

@@ -1,7 +1,7 @@
 -- Demand 3, over the kind: the list is the replay of the complete histories, each once, in dictionary order.
 use Prim.Native.Nat.{ℕ, zero, suc, _<_}
 use mathlib.Core.Path.{_≡_, refl, sym, ap, ap₂, _∙_}
-use mathlib.Core.Bool.{Bool, true, false}
+use mathlib.Core.Bool.{Bool, true, false, cond}
 use mathlib.Core.List.{List, [], _∷_, _++_, map, map-map, map-append, List·Memᴰ}
 use mathlib.Core.List.List·Memᴰ.{List·Memᴰ·head, List·Memᴰ·tail}
 use native.Mathlib.Omega.{arith}
@@ -14,7 +14,7 @@ use Rattle.steps.specs.declared.Fun.{Fun}
 use Rattle.steps.specs.declared.Fun.the-variants.{Lower, Nothing}
 use Rattle.steps.specs.declared.AxisChoice.{AxisChoice}
 use Rattle.steps.specs.declared.AxisChoice.the-variants.{Along, Nowhere}
-use Rattle.steps.specs.Choice.{pick, chosen, firstAxis}
+use Rattle.steps.specs.Choice.{chosen, firstAxis}
 use Rattle.steps.specs.Steps.{Branch, branches, times}
 use Rattle.laws.specs.Total.{total}
 use Rattle.steps.specs.States.{State, Next, step, ifLegal, turns, onAxis, onFun, nexts}
@@ -50,9 +50,9 @@ nexts-numbered s = on-fun (chosen (s .kind) (s .left))
 
 led-back : (s : State) (ns : List Next) → Numbered ns → (n : Next) → List·Memᴰ n ns → led (n .number) s ns ≡ n .state
 led-back s (m ∷ ns) (next-then f r) n (List·Memᴰ·head e) =
-    ap (λ (v : Bool). pick v (m .state) (led (n .number) s ns)) (eq-eqb (n .number) (m .number) (ap (λ (p : Next). p .number) e)) ∙ ap (λ (p : Next). p .state) (sym e)
+    ap (λ (v : Bool). cond v (m .state) (led (n .number) s ns)) (eq-eqb (n .number) (m .number) (ap (λ (p : Next). p .number) e)) ∙ ap (λ (p : Next). p .state) (sym e)
 led-back s (m ∷ ns) (next-then f r) n (List·Memᴰ·tail i) =
-    ap (λ (v : Bool). pick v (m .state) (led (n .number) s ns)) (ne-eqb (n .number) (m .number) (λ (e : n .number ≡ m .number). let h = f n i in omega arith))
+    ap (λ (v : Bool). cond v (m .state) (led (n .number) s ns)) (ne-eqb (n .number) (m .number) (λ (e : n .number ≡ m .number). let h = f n i in omega arith))
     ∙ led-back s ns r n i
 
 -- an induction over all states: a state with no order left, and one whose next states are done

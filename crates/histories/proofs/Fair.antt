@@ -1,7 +1,7 @@
 -- What holds of every branch of every kind, computed once over all kinds, centres and axes.
 use Prim.Native.Nat.{ℕ, _+_, _≤_, _<_}
 use mathlib.Core.Path.{_≡_, refl, ap, _∙_}
-use mathlib.Core.Bool.{Bool, true, false, _&&_}
+use mathlib.Core.Bool.{Bool, true, false, _&&_, cond}
 use mathlib.Core.List.{List, [], _∷_, List·Memᴰ}
 use mathlib.Core.List.List·Memᴰ.{List·Memᴰ·head, List·Memᴰ·tail}
 use borrow.Author.Tests.{ltb-true, leb-true, eqb-true}
@@ -15,7 +15,6 @@ use Rattle.steps.specs.declared.CentreName.{CentreName}
 use Rattle.steps.specs.declared.CentreName.the-variants.{A, B, C, D}
 use Rattle.steps.specs.declared.Axis.{Axis}
 use Rattle.steps.specs.declared.Axis.the-variants.{X, Y, Z}
-use Rattle.steps.specs.Choice.{pick}
 use Rattle.steps.specs.Steps.{Branch, branches}
 use Rattle.histories.specs.History.{stage}
 use Rattle.histories.specs.inner.OnTheWay.{follows, own}
@@ -40,8 +39,8 @@ pub record Fair (request k : Kind) (c : CentreName) (b : Branch) : Type 0 where
   pub raises-less : b .raises ≤ fallen (b .falls)
   pub raises-boys : b .raises ≤ boysStep (usesBoys request)
   pub falls-apart : apart (b .falls) c ≡ true
-  pub goes-down : stage (pick (b .as-overlap) Overlap k) < stage k + fallen (b .falls)
-  pub goes-on : follows request (pick (b .as-overlap) Overlap k) ≡ true
+  pub goes-down : stage (cond (b .as-overlap) Overlap k) < stage k + fallen (b .falls)
+  pub goes-on : follows request (cond (b .as-overlap) Overlap k) ≡ true
 
 abbrev tests : Kind → Kind → CentreName → Branch → List Bool
 tests request k c b =
@@ -50,8 +49,8 @@ tests request k c b =
     ∷ leb (b .raises) (fallen (b .falls))
     ∷ leb (b .raises) (boysStep (usesBoys request))
     ∷ apart (b .falls) c
-    ∷ ltb (stage (pick (b .as-overlap) Overlap k)) (stage k + fallen (b .falls))
-    ∷ follows request (pick (b .as-overlap) Overlap k)
+    ∷ ltb (stage (cond (b .as-overlap) Overlap k)) (stage k + fallen (b .falls))
+    ∷ follows request (cond (b .as-overlap) Overlap k)
     ∷ []
 
 abbrev holds : Bool → Bool
@@ -108,7 +107,7 @@ fair-is request k c b e =
       raises-boys = leb-true (b .raises) (boysStep (usesBoys request)) (at (List·Memᴰ·tail (List·Memᴰ·tail (List·Memᴰ·tail (List·Memᴰ·head refl)))));
       falls-apart = at (List·Memᴰ·tail (List·Memᴰ·tail (List·Memᴰ·tail (List·Memᴰ·tail (List·Memᴰ·head refl)))));
       goes-down =
-          ltb-true (stage (pick (b .as-overlap) Overlap k)) (stage k + fallen (b .falls))
+          ltb-true (stage (cond (b .as-overlap) Overlap k)) (stage k + fallen (b .falls))
           (at (List·Memᴰ·tail (List·Memᴰ·tail (List·Memᴰ·tail (List·Memᴰ·tail (List·Memᴰ·tail (List·Memᴰ·head refl)))))));
       goes-on = at (List·Memᴰ·tail (List·Memᴰ·tail (List·Memᴰ·tail (List·Memᴰ·tail (List·Memᴰ·tail (List·Memᴰ·tail (List·Memᴰ·head refl)))))));
     }

@@ -1,7 +1,7 @@
 -- Orders and their total: what one step takes away.
 use Prim.Native.Nat.{ℕ, _+_, _-_, _<_}
 use mathlib.Core.Path.{_≡_, refl}
-use mathlib.Core.Bool.{Bool, true, false}
+use mathlib.Core.Bool.{Bool, true, false, cond}
 use mathlib.Core.Logic.{_≢_}
 use mathlib.Core.List.{List}
 use native.Mathlib.Omega.{arith}
@@ -14,7 +14,7 @@ use Rattle.steps.specs.declared.CentreName.the-variants.{A, B, C, D}
 use Rattle.steps.specs.declared.Axis.{Axis}
 use Rattle.steps.specs.declared.Axis.the-variants.{X, Y, Z}
 use Rattle.steps.specs.declared.AxisChoice.the-variants.{Along, Nowhere}
-use Rattle.steps.specs.Choice.{orderPlace, orderOf, operator, firstAxis, pick}
+use Rattle.steps.specs.Choice.{orderPlace, orderOf, operator, firstAxis}
 use Rattle.steps.specs.Steps.{Falls, a, a-twice, a-and-b, a-and-c, a-and-d, a-and-o, nothing, times, lowered, less, partner, other-c, other-d}
 use Rattle.laws.specs.Total.{total}
 use Rattle.laws.proofs.Totals.{getD-inside, total-less}
@@ -106,14 +106,14 @@ axis-positive left c x e = first (ltb 0 (orderOf left c X)) refl e
     found y t f = let same : y ≡ x = cc in
         rw same at (ltb-true 0 (orderOf left c y) t)
 
-    third : (v : Bool) → ltb 0 (orderOf left c Z) ≡ v → pick v (Along Z) Nowhere ≡ Along x → 0 < orderOf left c x
+    third : (v : Bool) → ltb 0 (orderOf left c Z) ≡ v → cond v (Along Z) Nowhere ≡ Along x → 0 < orderOf left c x
     third true t f = found Z t f
     third false t f = absurd (clash (cc))
 
-    second : (v : Bool) → ltb 0 (orderOf left c Y) ≡ v → pick v (Along Y) (pick (ltb 0 (orderOf left c Z)) (Along Z) Nowhere) ≡ Along x → 0 < orderOf left c x
+    second : (v : Bool) → ltb 0 (orderOf left c Y) ≡ v → cond v (Along Y) (cond (ltb 0 (orderOf left c Z)) (Along Z) Nowhere) ≡ Along x → 0 < orderOf left c x
     second true t f = found Y t f
     second false t f = third (ltb 0 (orderOf left c Z)) refl f
 
-    first : (v : Bool) → ltb 0 (orderOf left c X) ≡ v → pick v (Along X) (pick (ltb 0 (orderOf left c Y)) (Along Y) (pick (ltb 0 (orderOf left c Z)) (Along Z) Nowhere)) ≡ Along x → 0 < orderOf left c x
+    first : (v : Bool) → ltb 0 (orderOf left c X) ≡ v → cond v (Along X) (cond (ltb 0 (orderOf left c Y)) (Along Y) (cond (ltb 0 (orderOf left c Z)) (Along Z) Nowhere)) ≡ Along x → 0 < orderOf left c x
     first true t f = found X t f
     first false t f = second (ltb 0 (orderOf left c Y)) refl f

@@ -1,7 +1,7 @@
 -- A list is never empty: where orders are left that the kind uses, branch 0 is legal.
 use Prim.Native.Nat.{ℕ, zero, suc, _+_, _-_, _≤_, _<_}
 use mathlib.Core.Path.{_≡_, refl, sym, ap, subst, _∙_}
-use mathlib.Core.Bool.{Bool, true, false}
+use mathlib.Core.Bool.{Bool, true, false, cond}
 use mathlib.Core.List.{List, [], _∷_, List·Memᴰ}
 use mathlib.Core.List.List·Memᴰ.{List·Memᴰ·head, List·Memᴰ·tail}
 use native.Mathlib.Omega.{arith}
@@ -22,7 +22,7 @@ use Rattle.steps.specs.declared.Fun.{Fun}
 use Rattle.steps.specs.declared.Fun.the-variants.{Lower, Nothing}
 use Rattle.steps.specs.declared.AxisChoice.{AxisChoice}
 use Rattle.steps.specs.declared.AxisChoice.the-variants.{Along, Nowhere}
-use Rattle.steps.specs.Choice.{operator, orderPlace, orderOf, sumOf, pick, orBefore, smallest, onceExhausted, chosen, firstAxis}
+use Rattle.steps.specs.Choice.{operator, orderPlace, orderOf, sumOf, orBefore, smallest, onceExhausted, chosen, firstAxis}
 use Rattle.steps.specs.Steps.{Falls, a, a-twice, a-and-b, a-and-c, a-and-d, a-and-o, nothing, Branch, branches, times, less, lowered, partner, other-c, other-d}
 use Rattle.laws.specs.Total.{total}
 use Rattle.steps.specs.States.{State, Next, step, ifLegal, turns, onAxis, onFun, nexts}
@@ -50,7 +50,7 @@ module _ (left : List ℕ) (d : CentreName) (cs : List CentreName) (later : Best
   here : (n : ℕ) → sumOf left d ≡ suc n → (c : CentreName) → Lower d ≡ Lower c → 0 < sumOf left c
   here n s c e = let same : d ≡ c = cc in subst (λ (b : CentreName). 0 < sumOf left b) same (omega arith)
 
-  tested : (n : ℕ) → sumOf left d ≡ suc n → (v w : Bool) → ltb 0 (smallest left cs .sum) ≡ v → pick v (pick w (smallest left cs) (record { fun = Lower d; sum = suc n })) (record { fun = Lower d; sum = suc n }) .fun ≡ Nothing → ⊥
+  tested : (n : ℕ) → sumOf left d ≡ suc n → (v w : Bool) → ltb 0 (smallest left cs .sum) ≡ v → cond v (cond w (smallest left cs) (record { fun = Lower d; sum = suc n })) (record { fun = Lower d; sum = suc n }) .fun ≡ Nothing → ⊥
   tested n s true true t e = let h = ltb-true 0 (smallest left cs .sum) t in let z = later .none e in omega arith
   tested n s true false t e = some-is-some d e
   tested n s false w t e = some-is-some d e
@@ -67,7 +67,7 @@ module _ (left : List ℕ) (d : CentreName) (cs : List CentreName) (later : Best
   zero-sum zero s e = later .none e
   zero-sum (suc n) s e = absurd (impossible n s e)
 
-  chosen-at : (n : ℕ) → sumOf left d ≡ suc n → (c : CentreName) (v w : Bool) → pick v (pick w (smallest left cs) (record { fun = Lower d; sum = suc n })) (record { fun = Lower d; sum = suc n }) .fun ≡ Lower c → 0 < sumOf left c
+  chosen-at : (n : ℕ) → sumOf left d ≡ suc n → (c : CentreName) (v w : Bool) → cond v (cond w (smallest left cs) (record { fun = Lower d; sum = suc n })) (record { fun = Lower d; sum = suc n }) .fun ≡ Lower c → 0 < sumOf left c
   chosen-at n s c true true e = later .some c e
   chosen-at n s c true false e = here n s c e
   chosen-at n s c false w e = here n s c e
@@ -108,15 +108,15 @@ axis-there left c h e = first (ltb 0 (orderOf left c X)) refl e
     no : (y : Axis) → Along y ≡ Nowhere → ⊥
     no y f = clash (cc)
 
-    third : orderOf left c X ≤ 0 → orderOf left c Y ≤ 0 → (v : Bool) → ltb 0 (orderOf left c Z) ≡ v → pick v (Along Z) Nowhere ≡ Nowhere → ⊥
+    third : orderOf left c X ≤ 0 → orderOf left c Y ≤ 0 → (v : Bool) → ltb 0 (orderOf left c Z) ≡ v → cond v (Along Z) Nowhere ≡ Nowhere → ⊥
     third x y true t f = no Z f
     third x y false t f = let z = ltb-false 0 (orderOf left c Z) t in omega arith
 
-    second : orderOf left c X ≤ 0 → (v : Bool) → ltb 0 (orderOf left c Y) ≡ v → pick v (Along Y) (pick (ltb 0 (orderOf left c Z)) (Along Z) Nowhere) ≡ Nowhere → ⊥
+    second : orderOf left c X ≤ 0 → (v : Bool) → ltb 0 (orderOf left c Y) ≡ v → cond v (Along Y) (cond (ltb 0 (orderOf left c Z)) (Along Z) Nowhere) ≡ Nowhere → ⊥
     second x true t f = no Y f
     second x false t f = third x (ltb-false 0 (orderOf left c Y) t) (ltb 0 (orderOf left c Z)) refl f
 
-    first : (v : Bool) → ltb 0 (orderOf left c X) ≡ v → pick v (Along X) (pick (ltb 0 (orderOf left c Y)) (Along Y) (pick (ltb 0 (orderOf left c Z)) (Along Z) Nowhere)) ≡ Nowhere → ⊥
+    first : (v : Bool) → ltb 0 (orderOf left c X) ≡ v → cond v (Along X) (cond (ltb 0 (orderOf left c Y)) (Along Y) (cond (ltb 0 (orderOf left c Z)) (Along Z) Nowhere)) ≡ Nowhere → ⊥
     first true t f = no X f
     first false t f = second (ltb-false 0 (orderOf left c X) t) (ltb 0 (orderOf left c Y)) refl f
 
@@ -213,7 +213,7 @@ unfolding Unused step
 unused-kept s n m u i h =
     let l = legal s n m in
     let f = fair-step (s .kind) s n l (follows-itself (s .kind)) in
-    let kinds : ordersOf (n .state .kind) ≡ ordersOf (s .kind) = ap (λ (t : State). ordersOf (t .kind)) (l .turn .is) ∙ same-orders (s .kind) (pick (l .turn .branch .as-overlap) Overlap (s .kind)) (f .goes-on) in
+    let kinds : ordersOf (n .state .kind) ≡ ordersOf (s .kind) = ap (λ (t : State). ordersOf (t .kind)) (l .turn .is) ∙ same-orders (s .kind) (cond (l .turn .branch .as-overlap) Overlap (s .kind)) (f .goes-on) in
     let lists : getD (n .state .left) i 0 ≡ getD (lowered (l .turn .branch .falls) (l .centre) (l .axis) (s .left)) i 0 = ap (λ (t : State). getD (t .left) i 0) (l .turn .is) in
     let most = lowered-at-most (l .turn .branch .falls) (l .centre) (l .axis) (s .left) i in
     let none = u i (omega arith) in

@@ -1,13 +1,12 @@
 -- 01, "Steps": histories, the terms that they give, and their order.
 use Prim.Native.Nat.{ℕ, zero, suc, _+_, _<_}
 use mathlib.Core.Path.{_≡_}
-use mathlib.Core.Bool.{true, false}
+use mathlib.Core.Bool.{true, false, cond}
 use mathlib.Core.List.{List, [], _∷_, _++_, map, List·Memᴰ}
 use lib.Dec.{eqb}
 use Rattle.kind.specs.declared.Kind.{Kind}
 use Rattle.kind.specs.declared.Kind.the-variants.{Overlap, Kinetic, Nuclear, Moment, Coulomb}
 use Rattle.term.specs.Terms.{Term}
-use Rattle.steps.specs.Choice.{pick}
 use Rattle.laws.specs.Total.{total}
 use Rattle.steps.specs.States.{State, Next, nexts}
 
@@ -19,7 +18,7 @@ pub data Complete : State → List ℕ → Type 0 where
 -- the state that a branch number leads to; a number that is not legal leads nowhere
 abbrev pub led : ℕ → State → List Next → State
 led k s [] = s
-led k s (n ∷ ns) = pick (eqb k (n .number)) (n .state) (led k s ns)
+led k s (n ∷ ns) = cond (eqb k (n .number)) (n .state) (led k s ns)
 
 -- a history replayed alone
 unfoldable pub replay : State → List ℕ → Term

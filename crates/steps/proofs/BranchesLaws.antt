@@ -1,4 +1,5 @@
 -- One order of a centre in a word; an arm for each branch, and none for a number that no branch has; the multipliers of each kind.
+use mathlib.Core.Bool.{cond}
 use Prim.Native.Nat.{ℕ, _+_, _*_, _-_, _%_, _^_, _≤_, _<_, zero-le}
 use mathlib.Core.Path.{_≡_, sym, ap, ap₂, _∙_, subst}
 use mathlib.Core.List.{List}
@@ -12,7 +13,7 @@ use Rattle.steps.specs.declared.CentreName.the-variants.{A, B}
 use Rattle.steps.specs.declared.Axis.{Axis}
 use Rattle.steps.specs.declared.Move.{Move}
 use Rattle.kind.specs.declared.Kind.the-variants.{Overlap, Moment}
-use Rattle.steps.specs.Choice.{pick, orderPlace, operator, orderOf}
+use Rattle.steps.specs.Choice.{orderPlace, operator, orderOf}
 use Rattle.steps.specs.Steps.{Branch, branches, moments, times, partner, other-c, other-d, overlap, kinetic, nuclear, moment, moment-on-operator, coulomb}
 use Rattle.kind.specs.Kinds.{branchesOf}
 use Rattle.steps.proofs.Packed.{sixteen-pow}
@@ -37,7 +38,7 @@ pub both-units : (c d e : CentreName) (x : Axis) (u v : ℕ) → d ≡ e → u �
 both-units c d e x u v h p q = ap₂ (λ (m n : ℕ). m + n) p (q ∙ ap (λ (b : CentreName). unit b x) h)
 
 -- an arm of a match on the branch's number: what falls and what is added are the branch's
-pub arm : (k : Kind) (c : CentreName) (x : Axis) (bs : List Branch) (n i f p : ℕ) (m : Move) → n ≡ i → m ≡ record { falls = f; adds = p; raises = getD bs i noBranch .raises; kind = pick (getD bs i noBranch .as-overlap) Overlap k }
+pub arm : (k : Kind) (c : CentreName) (x : Axis) (bs : List Branch) (n i f p : ℕ) (m : Move) → n ≡ i → m ≡ record { falls = f; adds = p; raises = getD bs i noBranch .raises; kind = cond (getD bs i noBranch .as-overlap) Overlap k }
     → f ≡ fallWord (getD bs i noBranch .falls) c x → p ≡ getD bs i noBranch .adds → m ≡ moveIn k c x bs n
 unfolding moveIn
 arm k c x bs n i f p m e h u v = h ∙ rw (u, v, e)

@@ -1,7 +1,7 @@
 -- What Choice works out is 01's choice: a list of centres in the order of their numbers is gone through from its end.
 use Prim.Native.Nat.{ℕ, zero, suc, _≤_, _<_}
 use mathlib.Core.Path.{_≡_, refl, ap, subst, _∙_}
-use mathlib.Core.Bool.{Bool, true, false}
+use mathlib.Core.Bool.{Bool, true, false, cond}
 use mathlib.Core.List.{List, [], _∷_, List·Memᴰ, List·Memᴰ·head, List·Memᴰ·tail, List·Memᴰ·not-nil}
 use native.Mathlib.Omega.{arith}
 use lib.Dec.{ltb}
@@ -17,7 +17,7 @@ use Rattle.steps.specs.declared.Fun.the-variants as fun
 use Rattle.steps.specs.declared.AxisChoice.{AxisChoice}
 use Rattle.steps.specs.declared.AxisChoice.the-variants as component
 use Rattle.steps.specs.declared.Best.{Best}
-use Rattle.steps.specs.Choice.{operator, centreNumber, axisNumber, orderOf, sumOf, pick, noBest, orBefore, smallest, onceExhausted, chosen, firstAxis}
+use Rattle.steps.specs.Choice.{operator, centreNumber, axisNumber, orderOf, sumOf, noBest, orBefore, smallest, onceExhausted, chosen, firstAxis}
 use Rattle.steps.specs.Chosen.{centresOf, operatorOf, Smallest, Exhausted, RightCentre, a-centre, the-operator, no-centre, RightAxis, along, no-axis}
 
 -- what is best of a list of centres
@@ -79,7 +79,7 @@ module _ (left : List ℕ) (c : CentreName) (cs : List CentreName) (ahead : Ahea
   before b (one x s) (suc n) e = by (ltb 0 (sumOf left x)) refl (ltb (sumOf left x) (suc n)) refl
     where
       by : (p : Bool) → ltb 0 (sumOf left x) ≡ p → (q : Bool) → ltb (sumOf left x) (suc n) ≡ q
-          → BestOf left (c ∷ cs) (pick p (pick q (record { fun = fun.Lower x; sum = sumOf left x }) (record { fun = fun.Lower c; sum = suc n })) (record { fun = fun.Lower c; sum = suc n }))
+          → BestOf left (c ∷ cs) (cond p (cond q (record { fun = fun.Lower x; sum = sumOf left x }) (record { fun = fun.Lower c; sum = suc n })) (record { fun = fun.Lower c; sum = suc n }))
       by false u q v = let z = ltb-false 0 (sumOf left x) u in let w = s .positive in absurd (omega arith)
       by true u true v = let z = ltb-true (sumOf left x) (suc n) v in one x (kept x s (omega arith))
       by true u false v =
@@ -145,7 +145,7 @@ module _ (left : List ℕ) where
       none-left x e = let h = ltb-false 0 (orderOf left c x) e in omega arith
 
       by : (p : Bool) → ltb 0 (orderOf left c X) ≡ p → (q : Bool) → ltb 0 (orderOf left c Y) ≡ q → (r : Bool) → ltb 0 (orderOf left c Z) ≡ r
-          → RightAxis left c (pick p (component.Along X) (pick q (component.Along Y) (pick r (component.Along Z) component.Nowhere)))
+          → RightAxis left c (cond p (component.Along X) (cond q (component.Along Y) (cond r (component.Along Z) component.Nowhere)))
       by true e q f r g = along X (ltb-true 0 (orderOf left c X) e) (λ (y : Axis) (h : axisNumber y < axisNumber X). absurd (omega arith))
       by false e true f r g = along Y (ltb-true 0 (orderOf left c Y) f) before-y
         where

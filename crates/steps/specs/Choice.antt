@@ -1,6 +1,6 @@
 -- 01, "Steps": the centre and the axis that are chosen.
 use Prim.Native.Nat.{ℕ, zero, suc, _+_, _*_}
-use mathlib.Core.Bool.{Bool, true, false}
+use mathlib.Core.Bool.{cond}
 use mathlib.Core.List.{List, [], _∷_}
 use lib.ListN.{getD}
 use lib.Dec.{ltb}
@@ -42,10 +42,6 @@ orderOf left c x = getD left (orderPlace c x) 0
 abbrev pub sumOf : List ℕ → CentreName → ℕ
 sumOf left c = orderOf left c X + orderOf left c Y + orderOf left c Z
 
-abbrev pub pick : {A : Type 0} → Bool → A → A → A
-pick true x y = x
-pick false x y = y
-
 -- no centre
 abbrev pub noBest : Best
 noBest = record { fun = Nothing; sum = 0 }
@@ -53,7 +49,7 @@ noBest = record { fun = Nothing; sum = 0 }
 -- the smallest positive sum, first on a tie: a centre stands before those after it, unless its sum is 0 or one of theirs is smaller
 abbrev pub orBefore : Best → CentreName → ℕ → Best
 orBefore later c zero = later
-orBefore later c (suc n) = pick (ltb 0 (later .sum)) (pick (ltb (later .sum) (suc n)) later (record { fun = Lower c; sum = suc n })) (record { fun = Lower c; sum = suc n })
+orBefore later c (suc n) = cond (ltb 0 (later .sum)) (cond (ltb (later .sum) (suc n)) later (record { fun = Lower c; sum = suc n })) (record { fun = Lower c; sum = suc n })
 
 abbrev pub smallest : List ℕ → List CentreName → Best
 smallest left [] = noBest
@@ -74,6 +70,6 @@ chosen Coulomb left = smallest left (A ∷ B ∷ C ∷ D ∷ []) .fun
 -- the first axis with a positive order left there
 unfoldable pub firstAxis : List ℕ → CentreName → AxisChoice
 firstAxis left c =
-    pick (ltb 0 (orderOf left c X)) (Along X)
-    (pick (ltb 0 (orderOf left c Y)) (Along Y)
-    (pick (ltb 0 (orderOf left c Z)) (Along Z) Nowhere))
+    cond (ltb 0 (orderOf left c X)) (Along X)
+    (cond (ltb 0 (orderOf left c Y)) (Along Y)
+    (cond (ltb 0 (orderOf left c Z)) (Along Z) Nowhere))

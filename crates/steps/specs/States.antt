@@ -1,4 +1,5 @@
 -- 01, "Steps": a term on its way, and the steps that are legal where it stands.
+use mathlib.Core.Bool.{cond}
 use Prim.Native.Nat.{ℕ, zero, suc, _+_, _*_}
 use mathlib.Core.List.{List, [], _∷_, _++_}
 use Rattle.kind.specs.declared.Kind.{Kind}
@@ -10,7 +11,7 @@ use Rattle.steps.specs.declared.Fun.{Fun}
 use Rattle.steps.specs.declared.Fun.the-variants.{Lower, Nothing}
 use Rattle.steps.specs.declared.AxisChoice.{AxisChoice}
 use Rattle.steps.specs.declared.AxisChoice.the-variants.{Along, Nowhere}
-use Rattle.steps.specs.Choice.{pick, chosen, firstAxis}
+use Rattle.steps.specs.Choice.{chosen, firstAxis}
 use Rattle.steps.specs.Steps.{Branch, branches, times, lowered}
 
 -- the kind that it goes on as, the orders left, and the term so far
@@ -28,7 +29,7 @@ abbrev pub stepped : Term → ℕ → Branch → Term
 stepped t m b = record { scale = t .scale * m; boys = t .boys + b .raises; prefactors = t .prefactors ++ (b .adds ∷ []) }
 
 unfoldable pub step : State → CentreName → Axis → Branch → State
-step s c x b = record { kind = pick (b .as-overlap) Overlap (s .kind); left = lowered (b .falls) c x (s .left); term = stepped (s .term) (times (b .falls) c x (s .left)) b }
+step s c x b = record { kind = cond (b .as-overlap) Overlap (s .kind); left = lowered (b .falls) c x (s .left); term = stepped (s .term) (times (b .falls) c x (s .left)) b }
 
 -- a branch number and where it leads
 pub record Next : Type 0 where

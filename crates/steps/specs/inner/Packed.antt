@@ -1,4 +1,5 @@
 -- Steps on a word: the orders of a term packed four bits each, the first lowest (D-33).
+use mathlib.Core.Bool.{cond}
 use Prim.Native.Nat.{ℕ, zero, suc, _+_, _*_, _/_, _%_, _^_}
 use mathlib.Core.List.{List, [], _∷_}
 use lib.ListN.{getD}
@@ -8,7 +9,7 @@ use Rattle.kind.specs.Limits.{requestOrders}
 use Rattle.steps.specs.declared.CentreName.{CentreName}
 use Rattle.steps.specs.declared.Axis.{Axis}
 use Rattle.steps.specs.declared.Move.{Move}
-use Rattle.steps.specs.Choice.{pick, orderPlace, operator}
+use Rattle.steps.specs.Choice.{orderPlace, operator}
 use Rattle.steps.specs.Steps.{Falls, a, a-twice, a-and-b, a-and-c, a-and-d, a-and-o, nothing, Branch, _adds_, times, partner, other-c, other-d}
 
 unfoldable pub nibbles : ℕ → ℕ → List ℕ
@@ -35,7 +36,7 @@ fallWord nothing c x = 0
 
 -- a branch for a word
 abbrev pub moved : Kind → CentreName → Axis → Branch → Move
-moved k c x b = record { falls = fallWord (b .falls) c x; adds = b .adds; raises = b .raises; kind = pick (b .as-overlap) Overlap k }
+moved k c x b = record { falls = fallWord (b .falls) c x; adds = b .adds; raises = b .raises; kind = cond (b .as-overlap) Overlap k }
 
 -- no branch has such a number (D-34)
 abbrev pub noBranch : Branch
