@@ -1,10 +1,15 @@
--- One answer alone, and one list of lent bytes, fit the promise of this crate.
+-- One answer alone, with what the slice then holds, meets the public contract of this crate, and it is the definition's.
 use Prim.Native.Nat.{ℕ}
-use mathlib.Core.Path.{_≡_}
 use mathlib.Core.List.{List}
-use Rattle.laws.proofs.Unique.{only}
+use contract.Lifetimes.{Lfts}
+use Rattle.kind.specs.Kinds.{kindOf}
+use Rattle.laws.proofs.Contract.{Alone, alone, Lent, _then_, _▸_, end}
 use Rattle.expansion.specs.declared.Expanded.{Expanded}
-use Rattle.expansion.specs.Expanding.{ExpandTold}
+use Rattle.expansion.specs.Expanding.{namedTold, namedOut}
+use Rattle.expansion.proofs.expand.Reads.{Post as Expand}
 
-pub expand-only : (kind : ℕ) (orders before : List ℕ) (begin : ℕ) {a b : Expanded} {x y : List ℕ} → ExpandTold kind orders before begin a x → ExpandTold kind orders before begin b y → (a ≡ b) × (x ≡ y)
-expand-only kind orders before begin p q = (only (p .answer) (q .answer), only (p .out) (q .out))
+pub expand-only : (κs : Lfts 1) (kind : ℕ) (orders : List ℕ) (out : Lent ℕ) (start : ℕ) →
+    let told = namedTold (kindOf kind) orders (out .now) start in
+    Alone {A = Expanded × List ℕ} (λ x. Expand κs (kind ▸ orders ▸ out ▸ start ▸ end) (x .0) (kind ▸ orders ▸ out then (x .1) ▸ start ▸ end))
+    (told, namedOut told (kindOf kind) orders (out .now) start)
+expand-only κs kind orders out start = alone (λ x p i. (p .answer i, p .out i))

@@ -1,8 +1,7 @@
--- One answer alone fits each promise of this crate.
-use mathlib.Core.Path.{_≡_}
-use Rattle.laws.proofs.Unique.{only}
-use Rattle.term.specs.declared.Term.{Term}
+-- One answer alone meets the public contract of this crate, and it is the definition's.
+use Rattle.laws.proofs.Contract.{Alone, alone, end}
 use Rattle.term.specs.Terms.{noTerm}
+use Rattle.term.proofs.Term.none.Reads.{Post as None}
 
-pub none-only : {a b : Term} → a ≡ noTerm → b ≡ noTerm → a ≡ b
-none-only = only
+pub none-only : Alone (λ r. None tt end r end) noTerm
+none-only = alone (λ r p. p)
