@@ -2,7 +2,7 @@
 ghost use Prim.Native.Nat.{_+_, min};
 ghost use mathlib.Core.Bool.{true};
 ghost use mathlib.Core.Path.{_≡_};
-ghost use Rattle.roll.specs.inner.Again.{seenAt, headAt, Short};
+ghost use Rattle.roll.specs.inner.Again.{seenAt, headAt, boysAt, endAt, Short};
 use number::Number;
 use number::one_byte;
 use number::wide;
@@ -88,7 +88,7 @@ fn is_short(roll: &[u8], at: usize) -> bool
 // The Boys order of such a term.
 fn short_boys(roll: &[u8], at: usize) -> usize
     requires { ⌜ Short (now roll) at ⌝ }
-    ensures { λ r. ⌜ r ≡ headAt (now (roll .entry)) at .boys ⌝ }
+    ensures { λ r. ⌜ r ≡ boysAt (now (roll .entry)) at ⌝ }
 {
     wide(roll[at + 1]) as usize
 }
@@ -96,14 +96,14 @@ fn short_boys(roll: &[u8], at: usize) -> usize
 // The place after such a term.
 fn short_end(roll: &[u8], at: usize) -> usize
     requires { ⌜ Short (now roll) at ⌝ }
-    ensures { λ r. ⌜ r ≡ headAt (now (roll .entry)) at .end ⌝ }
+    ensures { λ r. ⌜ r ≡ endAt (now (roll .entry)) at ⌝ }
 {
     at + 3 + wide(roll[at + 2]) as usize
 }
 
 // A term's Boys order.
 pub fn boys_at(roll: &[u8], at: usize) -> usize
-    ensures { λ r. ⌜ r ≡ headAt (now (roll .entry)) at .boys ⌝ }
+    ensures { λ r. ⌜ r ≡ boysAt (now (roll .entry)) at ⌝ }
 {
     if is_short(roll, at) {
         return short_boys(roll, at);
@@ -114,7 +114,7 @@ pub fn boys_at(roll: &[u8], at: usize) -> usize
 
 // The place after a term.
 pub fn end_at(roll: &[u8], at: usize) -> usize
-    ensures { λ r. ⌜ r ≡ headAt (now (roll .entry)) at .end ⌝ }
+    ensures { λ r. ⌜ r ≡ endAt (now (roll .entry)) at ⌝ }
 {
     if is_short(roll, at) {
         return short_end(roll, at);

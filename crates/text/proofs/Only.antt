@@ -1,32 +1,48 @@
--- One answer alone, and one content of the buffer, fit each promise of this crate.
+-- One answer alone, with what the buffer then holds, meets each public contract of this crate, and it is the definition's.
 use Prim.Native.Nat.{ℕ}
-use mathlib.Core.Path.{_≡_}
 use mathlib.Core.List.{List}
-use lib.ListN.{length}
-use Rattle.laws.proofs.Unique.{Same, only, both-only}
-use Rattle.text.specs.declared.Parsed.{Parsed}
+use contract.Lifetimes.{Lfts}
+use Rattle.laws.specs.Placed.{placedWhereFits}
+use Rattle.laws.proofs.Contract.{Alone, alone, Lent, _then_, _▸_, end}
 use Rattle.text.specs.declared.Written.{Written}
-use Rattle.text.specs.Digits.{digits, decimalOf}
+use Rattle.text.specs.Digits.{decimalOf, hexByteOf, hexWordOf, placesOf}
 use Rattle.text.specs.Reading.{decimalAt, hexAt}
-use Rattle.text.specs.Writing.{WrittenTold}
+use Rattle.text.specs.Writing.{answered}
+use Rattle.text.proofs.put.Reads.{Post as Put}
+use Rattle.text.proofs.decimal.Reads.{Post as Decimal}
+use Rattle.text.proofs.hex_byte.Reads.{Post as HexByte}
+use Rattle.text.proofs.hex_word.Reads.{Post as HexWord}
+use Rattle.text.proofs.read_decimal.Reads.{Post as ReadDecimal}
+use Rattle.text.proofs.read_hex.Reads.{Post as ReadHex}
+use Rattle.text.proofs.places.Reads.{Post as Places}
 
-pub put-only : (before : List ℕ) (at : ℕ) (bytes : List ℕ) {a b : Written} {xs ys : List ℕ} → WrittenTold before at bytes a xs → WrittenTold before at bytes b ys → Same a b xs ys
-put-only before at bytes p q = both-only (p .answer) (q .answer) (p .out) (q .out)
+-- the answer of a text that is put from a place on, and what the buffer then holds
+abbrev Told : Type 0
+Told = Written × List ℕ
 
-pub decimal-only : (before : List ℕ) (at n : ℕ) {a b : Written} {xs ys : List ℕ} → WrittenTold before at (decimalOf n) a xs → WrittenTold before at (decimalOf n) b ys → Same a b xs ys
-decimal-only before at n = put-only before at (decimalOf n)
+abbrev told : List ℕ → ℕ → List ℕ → Told
+told before at text = (answered before at text, placedWhereFits before at text)
 
-pub hex-byte-only : (before : List ℕ) (at byte : ℕ) {a b : Written} {xs ys : List ℕ} → WrittenTold before at (digits 16 2 byte) a xs → WrittenTold before at (digits 16 2 byte) b ys → Same a b xs ys
-hex-byte-only before at byte = put-only before at (digits 16 2 byte)
+module _ (κs : Lfts 2) (out : Lent ℕ) (at : ℕ) (bytes : Lent ℕ) where
+  pub put-only : Alone {A = Told} (λ x. Put κs (out ▸ at ▸ bytes ▸ end) (x .0) (out then (x .1) ▸ at ▸ bytes ▸ end)) (told (out .now) at (bytes .now))
+  put-only = alone (λ x p i. (p .answer i, p .out i))
 
-pub hex-word-only : (before : List ℕ) (at word : ℕ) {a b : Written} {xs ys : List ℕ} → WrittenTold before at (digits 16 16 word) a xs → WrittenTold before at (digits 16 16 word) b ys → Same a b xs ys
-hex-word-only before at word = put-only before at (digits 16 16 word)
+module _ (κs : Lfts 1) (out : Lent ℕ) (at n : ℕ) where
+  pub decimal-only : Alone {A = Told} (λ x. Decimal κs (out ▸ at ▸ n ▸ end) (x .0) (out then (x .1) ▸ at ▸ n ▸ end)) (told (out .now) at (decimalOf n))
+  decimal-only = alone (λ x p i. (p .answer i, p .out i))
 
-pub read-decimal-only : (s : List ℕ) (at : ℕ) {a b : Parsed} → a ≡ decimalAt s at → b ≡ decimalAt s at → a ≡ b
-read-decimal-only s at = only
+  pub hex-byte-only : Alone {A = Told} (λ x. HexByte κs (out ▸ at ▸ n ▸ end) (x .0) (out then (x .1) ▸ at ▸ n ▸ end)) (told (out .now) at (hexByteOf n))
+  hex-byte-only = alone (λ x p i. (p .answer i, p .out i))
 
-pub read-hex-only : (s : List ℕ) (at : ℕ) {a b : Parsed} → a ≡ hexAt s at → b ≡ hexAt s at → a ≡ b
-read-hex-only s at = only
+  pub hex-word-only : Alone {A = Told} (λ x. HexWord κs (out ▸ at ▸ n ▸ end) (x .0) (out then (x .1) ▸ at ▸ n ▸ end)) (told (out .now) at (hexWordOf n))
+  hex-word-only = alone (λ x p i. (p .answer i, p .out i))
 
-pub places-only : (n : ℕ) {a b : ℕ} → a ≡ length (decimalOf n) → b ≡ length (decimalOf n) → a ≡ b
-places-only n = only
+module _ (κs : Lfts 1) (s : Lent ℕ) (at : ℕ) where
+  pub read-decimal-only : let g = s ▸ at ▸ end in Alone (λ r. ReadDecimal κs g r g) (decimalAt (s .now) at)
+  read-decimal-only = alone (λ r p. p)
+
+  pub read-hex-only : let g = s ▸ at ▸ end in Alone (λ r. ReadHex κs g r g) (hexAt (s .now) at)
+  read-hex-only = alone (λ r p. p)
+
+pub places-only : (n : ℕ) → let g = n ▸ end in Alone (λ r. Places tt g r g) (placesOf n)
+places-only n = alone (λ r p. p)

@@ -3,6 +3,7 @@ use Prim.Native.Nat.{ℕ, zero, suc, _+_, _-_, _*_, _/_, _%_}
 use mathlib.Core.Bool.{Bool, true, false, cond}
 use mathlib.Core.List.{List, [], _∷_, _++_}
 use lib.Dec.{ltb}
+use lib.ListN.{length}
 
 -- a digit below sixteen: `0` to `9`, then `a` to `f`
 unfoldable pub glyph : ℕ → ℕ
@@ -21,6 +22,13 @@ abbrev pub digits : ℕ → ℕ → ℕ → List ℕ
 digits base zero n = []
 digits base (suc k) n = digits base k (n / base) ++ (glyph (n % base) ∷ [])
 
+-- a byte in two hexadecimal digits, a word of 64 bits in sixteen
+abbrev pub hexByteOf : ℕ → List ℕ
+hexByteOf byte = digits 16 2 byte
+
+abbrev pub hexWordOf : ℕ → List ℕ
+hexWordOf word = digits 16 16 word
+
 -- a number below ten is one digit; any other is the digits of its tens, then its last digit (the first argument counts the steps left)
 abbrev pub decimalIn : ℕ → ℕ → List ℕ
 decimalIn zero n = []
@@ -33,6 +41,10 @@ decimalIn (suc steps) n =
 -- a number in decimal, with no leading zeros
 unfoldable pub decimalOf : ℕ → List ℕ
 decimalOf n = decimalIn (suc n) n
+
+-- how many digits these are
+abbrev pub placesOf : ℕ → ℕ
+placesOf n = length (decimalOf n)
 
 -- the number that digits are worth, after digits worth v
 abbrev pub valueFrom : ℕ → ℕ → List ℕ → ℕ

@@ -6,7 +6,7 @@ use lib.Dec.{ltb, leb, eqb}
 use lib.ListN.{length, drop}
 use Rattle.text.specs.declared.Parsed.{Parsed}
 use Rattle.text.specs.declared.Parsed.the-variants.{Is, Not}
-use Rattle.text.specs.Digits.{worth, valueFrom, decimalOf}
+use Rattle.text.specs.Digits.{worth, valueFrom, placesOf}
 
 -- the digits of a base that a list begins with, up to the first byte that is none
 abbrev pub runOf : List ℕ → ℕ → List ℕ
@@ -25,7 +25,7 @@ valueAt run at base = cond (ltb (valueFrom base 0 run) (2 ^ 64)) (Is (valueFrom 
 unfoldable pub decimalAt : List ℕ → ℕ → Parsed
 decimalAt s at =
     let run : List ℕ = runOf (drop at s) 10 in
-    cond (eqb (length (decimalOf (valueFrom 10 0 run))) (length run)) (valueAt run at 10) Not
+    cond (eqb (placesOf (valueFrom 10 0 run)) (length run)) (valueAt run at 10) Not
 
 -- there are one to sixteen digits
 unfoldable pub hexAt : List ℕ → ℕ → Parsed

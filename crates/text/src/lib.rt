@@ -6,7 +6,7 @@ ghost use Prim.Native.Nat.{_+_, _≤_, _<_};
 ghost use lib.ListN.{length, drop};
 ghost use lib.Dec.{leb};
 ghost use lib.Seq.{sets};
-ghost use Rattle.text.specs.Digits.{digits, decimalOf};
+ghost use Rattle.text.specs.Digits.{digits, decimalOf, hexByteOf, hexWordOf, placesOf};
 ghost use Rattle.text.specs.Digits.{glyph as Digits·glyph, worth as Digits·worth};
 ghost use Rattle.text.specs.Writing.{WrittenTold};
 ghost use Rattle.text.specs.Reading.{runOf, valueAt, decimalAt, hexAt};
@@ -45,14 +45,14 @@ pub fn decimal(out: &mut [u8], at: usize, n: u64) -> Written
 
 // A byte in two hexadecimal digits.
 pub fn hex_byte(out: &mut [u8], at: usize, byte: u8) -> Written
-    ensures { λ r. ⌜ WrittenTold (now (out .entry)) at (digits 16 2 byte) r (now (out .exit)) ⌝ }
+    ensures { λ r. ⌜ WrittenTold (now (out .entry)) at (hexByteOf byte) r (now (out .exit)) ⌝ }
 {
     spelled(out, at, 2, byte as u64, 16)
 }
 
 // A word of 64 bits in sixteen hexadecimal digits.
 pub fn hex_word(out: &mut [u8], at: usize, word: u64) -> Written
-    ensures { λ r. ⌜ WrittenTold (now (out .entry)) at (digits 16 16 word) r (now (out .exit)) ⌝ }
+    ensures { λ r. ⌜ WrittenTold (now (out .entry)) at (hexWordOf word) r (now (out .exit)) ⌝ }
 {
     spelled(out, at, 16, word, 16)
 }
@@ -115,7 +115,7 @@ fn copy(out: &mut [u8], at: usize, bytes: &[u8])
 
 // How many digits the decimal of `n` has.
 pub fn places(n: u64) -> usize
-    ensures { λ r. ⌜ r ≡ length (decimalOf n) ⌝ }
+    ensures { λ r. ⌜ r ≡ placesOf n ⌝ }
 {
     let mut rest = n;
     let mut k = 1;

@@ -29,6 +29,12 @@ headAt roll at =
     let count = seenAt roll (boys .next) in
     record { scale = scale .value; boys = boys .value; from = count .next; end = min (count .next + count .value) (length roll) }
 
+abbrev pub boysAt : List ℕ → ℕ → ℕ
+boysAt roll at = headAt roll at .boys
+
+abbrev pub endAt : List ℕ → ℕ → ℕ
+endAt roll at = headAt roll at .end
+
 -- where a term's scale, Boys order and count are one byte each, and its prefactors end inside the roll
 pub record Short (roll : List ℕ) (at : ℕ) : Type 0 where
   pub scale : oneByte (getD roll at 0) ≡ true
@@ -46,4 +52,4 @@ headTerm roll h = record { scale = h .scale; boys = h .boys; prefactors = betwee
 -- so many terms from a place on
 unfoldable pub termsAgain : List ℕ → ℕ → ℕ → List Term
 termsAgain roll at zero = []
-termsAgain roll at (suc left) = headTerm roll (headAt roll at) ∷ termsAgain roll (headAt roll at .end) left
+termsAgain roll at (suc left) = headTerm roll (headAt roll at) ∷ termsAgain roll (endAt roll at) left
