@@ -4,4 +4,3 @@ pub mod Counting
 pub mod Lists
 pub mod Parts
 pub mod Totals
-pub mod Unique
