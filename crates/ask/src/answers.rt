@@ -2,7 +2,9 @@
 use crate::forms;
 use crate::lines;
 use forms::NUMBERS;
+use forms::OWN;
 use forms::Told;
+use kind::Kind;
 use lines::Found;
 use lines::State;
 
@@ -56,7 +58,17 @@ pub(crate) fn heard(s: State, t: Told) -> Told {
 
 // The words of a form alone.
 pub(crate) fn plain(form: usize) -> Told {
-    bytes(form, [0; NUMBERS], 0, 0)
+    Told {
+        form,
+        numbers: [0; NUMBERS],
+        own: [0; OWN],
+        count: 0,
+        entries: [0.0; Kind::TABLE],
+        start: 0,
+        long: 0,
+        first: 0,
+        others: 0,
+    }
 }
 
 // The answer to a line that is no question.
@@ -80,24 +92,47 @@ pub(crate) fn refused(refusal: u8, place: usize) -> Told {
 
 // Numbers, and so many of the bytes that were lent from a place on.
 pub(crate) fn bytes(form: usize, numbers: [u64; NUMBERS], start: usize, long: usize) -> Told {
-    Told {
-        form,
-        numbers,
-        start,
-        long,
-        first: 0,
-        others: 0,
-    }
+    let mut t = plain(form);
+    t.numbers = numbers;
+    t.start = start;
+    t.long = long;
+    t
 }
 
-// The first of the floats that were lent, and so many others after them.
-pub(crate) fn floats(form: usize, first: usize, others: usize) -> Told {
-    Told {
-        form,
-        numbers: [0; NUMBERS],
-        start: 0,
-        long: 0,
-        first,
-        others,
+// Numbers, and the first `count` of the answer's own bytes; no answer has more of them than there are.
+pub(crate) fn own(form: usize, numbers: [u64; NUMBERS], own: [u8; OWN], count: usize) -> Told {
+    if OWN < count {
+        return spoiled();
     }
+    let mut t = plain(form);
+    t.numbers = numbers;
+    t.own = own;
+    t.count = count;
+    t
+}
+
+// Orders as an answer's own bytes.
+pub(crate) fn of_orders(orders: [u8; Kind::ORDERS]) -> [u8; OWN] {
+    let mut own = [0; OWN];
+    let mut i = 0;
+    while i < Kind::ORDERS {
+        own[i] = orders[i];
+        i += 1;
+    }
+    own
+}
+
+// The first of the floats, and so many others after them.
+pub(crate) fn floats(form: usize, first: usize, others: usize) -> Told {
+    let mut t = plain(form);
+    t.first = first;
+    t.others = others;
+    t
+}
+
+// The entries of a table.
+pub(crate) fn entries(form: usize, entries: [f64; Kind::TABLE]) -> Told {
+    let mut t = plain(form);
+    t.entries = entries;
+    t
 }

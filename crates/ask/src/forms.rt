@@ -1,15 +1,22 @@
 // The forms of answers: a table with a line for each. A letter stands for itself; a mark, for what the answer tells.
 ghost use Prim.Native.Nat.{_<_};
 use crate::output;
+use kind::Kind;
 
 // The most numbers of an answer.
 pub(crate) const NUMBERS: usize = 4;
+// The most bytes that an answer has by itself: the orders of a roll or the prefactors of a term.
+pub(crate) const OWN: usize = Kind::PREFACTORS;
 
-// What an answer tells: its form's number, the numbers for the form's marks, where its bytes start and how many they are, how
-// many floats stand first, and how many others follow.
+// What an answer tells: its form's number, the numbers for the form's marks, its own bytes and how many they are, the
+// entries of a table, where the bytes that were lent start and how many they are, how many floats stand first, and how many
+// others follow.
 pub(crate) struct Told {
     pub(crate) form: usize,
     pub(crate) numbers: [u64; NUMBERS],
+    pub(crate) own: [u8; OWN],
+    pub(crate) count: usize,
+    pub(crate) entries: [f64; Kind::TABLE],
     pub(crate) start: usize,
     pub(crate) long: usize,
     pub(crate) first: usize,

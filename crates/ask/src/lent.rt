@@ -2,7 +2,9 @@
 use crate::answers;
 use crate::floats;
 use crate::forms;
+use crate::questions;
 use forms::Told;
+use questions::least;
 
 // The most bytes of a roll that is given, and the most that a question can have lent to the library.
 pub(crate) const MOST: usize = 1048576;
@@ -49,20 +51,9 @@ pub(crate) fn looked(lent: &[u8], t: Told) -> Told {
     answers::spoiled()
 }
 
-// Lays the first `n` bytes down at the front, where there are so many.
-pub(crate) fn lay_bytes(lent: &mut [u8], bytes: &[u8], n: usize) {
-    if n <= bytes.len() {
-        text::put(lent, 0, &bytes[0..n]);
-    }
-}
-
-pub(crate) fn fill_floats(lent: &mut [f64]) {
-    let fill = floats::of_bits(FILL_BITS);
-    let mut i = 0;
-    while i < lent.len() {
-        lent[i] = fill;
-        i += 1;
-    }
+// What a float is filled with.
+pub(crate) fn fill_float() -> f64 {
+    floats::of_bits(FILL_BITS)
 }
 
 // Whether each float has the bits that it was filled with.
@@ -76,17 +67,12 @@ pub(crate) fn are_kept(lent: &[f64]) -> bool {
     changed == 0
 }
 
-// Lays floats down from a place on, where they have room.
-pub(crate) fn lay(room: &mut [f64], at: usize, floats: &[f64]) {
-    if room.len() < at {
-        return;
-    }
-    if room.len() - at < floats.len() {
-        return;
-    }
+// Lays floats down at the front, as many as have room.
+pub(crate) fn lay(room: &mut [f64], floats: &[f64]) {
+    let count = least(floats.len(), room.len());
     let mut i = 0;
-    while i < floats.len() {
-        room[at + i] = floats[i];
+    while i < count {
+        room[i] = floats[i];
         i += 1;
     }
 }

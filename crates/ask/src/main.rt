@@ -30,24 +30,15 @@ const AT_ONCE: usize = 65536;
 const INPUT: usize = lines::MOST_LINE + AT_ONCE;
 // The most floats that a question can have: those of I and D.
 const FLOATS: usize = matrices::MOST_TENSOR + matrices::MOST_MATRIX;
-// Room for J and K.
-const SUMS: usize = 2 * matrices::MOST_MATRIX;
 
 // Reads and answers until the input ends. A proved loop has to end, so it counts down from a number that no run uses up (D-55).
-fn serve(
-    input: &mut [u8],
-    given: &mut [u8],
-    floats: &mut [f64],
-    lent: &mut [u8],
-    sums: &mut [f64],
-    out: &mut [u8],
-) {
+fn serve(input: &mut [u8], given: &mut [u8], floats: &mut [f64], lent: &mut [u8], out: &mut [u8]) {
     let mut s = lines::carry(0, false);
     let mut used = 0;
     let mut turns = u64::MAX;
     while turns > 0 {
         s = lines::next(input, s);
-        used = turns::turn(input, s, given, floats, lent, sums, out, used);
+        used = turns::turn(input, s, given, floats, lent, out, used);
         turns = left(s, turns);
     }
 }
@@ -78,10 +69,6 @@ fn given_floats() -> [f64; FLOATS] {
     [0.0; FLOATS]
 }
 
-fn no_sums() -> [f64; SUMS] {
-    [0.0; SUMS]
-}
-
 fn output_bytes() -> [u8; AT_ONCE] {
     [0; AT_ONCE]
 }
@@ -91,14 +78,6 @@ fn main() {
     let mut given = lent_bytes();
     let mut floats = given_floats();
     let mut lent = lent_bytes();
-    let mut sums = no_sums();
     let mut out = output_bytes();
-    serve(
-        &mut input,
-        &mut given,
-        &mut floats,
-        &mut lent,
-        &mut sums,
-        &mut out,
-    );
+    serve(&mut input, &mut given, &mut floats, &mut lent, &mut out);
 }

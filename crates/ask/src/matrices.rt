@@ -87,36 +87,36 @@ fn are_lent(j: usize, k: usize) -> bool {
     false
 }
 
-pub(crate) fn asked(s: Sizes, floats: &[f64], sums: &mut [f64]) -> Told {
+pub(crate) fn asked(s: Sizes, floats: &mut [f64]) -> Told {
     if fits(s, floats.len()) {
-        return lend(s, floats, sums);
+        return lend(s, floats);
     }
     answers::unknown()
 }
 
 // Lends J and K of the lengths said.
-fn lend(s: Sizes, floats: &[f64], sums: &mut [f64]) -> Told {
-    let mut coulomb = [0.0; MOST_MATRIX];
-    let mut exchange = [0.0; MOST_MATRIX];
-    let i = least(s.i, floats.len());
+fn lend(s: Sizes, floats: &mut [f64]) -> Told {
+    let fill = lent::fill_float();
+    let mut coulomb = [fill; MOST_MATRIX];
+    let mut exchange = [fill; MOST_MATRIX];
     let j = least(s.j, MOST_MATRIX);
     let k = least(s.k, MOST_MATRIX);
-    summed(
-        s.n,
-        &floats[0..i],
-        &floats[i..],
-        &mut coulomb[0..j],
-        &mut exchange[0..k],
-        sums,
-    )
+    summed(s, floats, &mut coulomb[0..j], &mut exchange[0..k])
 }
 
-fn summed(n: usize, i: &[f64], d: &[f64], j: &mut [f64], k: &mut [f64], sums: &mut [f64]) -> Told {
-    lent::fill_floats(j);
-    lent::fill_floats(k);
-    let answer = jk::JK_inmem(n, i, d, j, k);
+// J and K take the place of I and D, where they have room if their lengths are right.
+fn summed(s: Sizes, floats: &mut [f64], j: &mut [f64], k: &mut [f64]) -> Told {
+    let i = least(s.i, floats.len());
+    let answer = jk::JK_inmem(s.n, &floats[0..i], &floats[i..], j, k);
+    let first = least(j.len(), floats.len());
+    lent::lay(floats, j);
+    lent::lay(&mut floats[first..], k);
+    told(answer, j, k)
+}
+
+fn told(answer: Answer, j: &[f64], k: &[f64]) -> Told {
     match answer {
-        Answer::Done => told(j, k, sums),
+        Answer::Done => done(j, k),
         Answer::Refused(refusal) => refused(j, k, refusal),
     }
 }
@@ -132,11 +132,9 @@ fn refused(j: &[f64], k: &[f64], refusal: u8) -> Told {
 }
 
 // J and K, which are finite where they come back.
-fn told(j: &[f64], k: &[f64], sums: &mut [f64]) -> Told {
+fn done(j: &[f64], k: &[f64]) -> Told {
     if geometry::all_finite(j) {
         if geometry::all_finite(k) {
-            lent::lay(sums, 0, j);
-            lent::lay(sums, j.len(), k);
             return answers::floats(answers::MATRICES, j.len(), k.len());
         }
     }

@@ -3,7 +3,9 @@ use crate::floats;
 use crate::forms;
 use crate::questions;
 use forms::NUMBERS;
+use forms::OWN;
 use forms::Told;
+use kind::Kind;
 use libc::STDOUT_FILENO;
 use questions::sum;
 use text::Written;
@@ -44,8 +46,9 @@ fn put(out: &mut [u8], at: usize, byte: u8) -> usize {
 }
 
 // What stands for a letter of a form, after the `used` bytes that wait; `k` numbers are told. # is a number, $ one in sixteen
-// hexadecimal digits; % the bytes in hexadecimal, ~ in decimal, each after a blank, | as a text; < the floats that stand
-// first, > the others, each after a blank; ^ the line. At ! what waits goes out.
+// hexadecimal digits; % the bytes that were lent in hexadecimal, | as a text; & the answer's own in hexadecimal, ~ in
+// decimal, each after a blank; * the entries of a table, < the floats that stand first, > the others, each after a blank;
+// ^ the line. At ! what waits goes out.
 pub(crate) fn run(
     letter: u8,
     k: usize,
@@ -70,7 +73,9 @@ pub(crate) fn run(
 // How many values stand for a letter.
 fn times(letter: u8, t: Told, line: usize) -> usize {
     match letter {
-        b'%' | b'~' | b'|' => t.long,
+        b'%' | b'|' => t.long,
+        b'&' | b'~' => t.count,
+        b'*' => Kind::TABLE,
         b'<' => t.first,
         b'>' => t.others,
         b'^' => line,
@@ -89,10 +94,14 @@ fn value(
     i: usize,
 ) -> u64 {
     let numbers = t.numbers;
+    let own = t.own;
+    let entries = t.entries;
     match letter {
         b'#' | b'$' => number_at(numbers, k),
-        b'%' | b'~' => byte_at(bytes, sum(t.start, i)) as u64,
+        b'&' | b'~' => own_at(own, i) as u64,
+        b'%' => byte_at(bytes, sum(t.start, i)) as u64,
         b'|' => bar(byte_at(bytes, sum(t.start, i))) as u64,
+        b'*' => bits_at(&entries, i),
         b'<' => bits_at(floats, i),
         b'>' => bits_at(floats, sum(t.first, i)),
         b'^' => bar(byte_at(line, i)) as u64,
@@ -103,6 +112,13 @@ fn value(
 fn number_at(numbers: [u64; NUMBERS], k: usize) -> u64 {
     if k < NUMBERS {
         return numbers[k];
+    }
+    0
+}
+
+fn own_at(own: [u8; OWN], i: usize) -> u8 {
+    if i < OWN {
+        return own[i];
     }
     0
 }
@@ -133,8 +149,8 @@ fn unit(letter: u8, v: u64, out: &mut [u8], used: usize) -> usize {
     let at = parted(letter, out, room(out, used));
     match letter {
         b'#' | b'~' => end(text::decimal(out, at, v), at),
-        b'$' | b'<' | b'>' => end(text::hex_word(out, at, v), at),
-        b'%' => end(text::hex_byte(out, at, questions::byte(v)), at),
+        b'$' | b'*' | b'<' | b'>' => end(text::hex_word(out, at, v), at),
+        b'%' | b'&' => end(text::hex_byte(out, at, questions::byte(v)), at),
         b'!' => flush(out, at),
         _ => put(out, at, questions::byte(v)),
     }
@@ -143,7 +159,7 @@ fn unit(letter: u8, v: u64, out: &mut [u8], used: usize) -> usize {
 // The place after the blank that some letters ask for.
 fn parted(letter: u8, out: &mut [u8], at: usize) -> usize {
     match letter {
-        b'~' | b'<' | b'>' => put(out, at, b' '),
+        b'~' | b'*' | b'<' | b'>' => put(out, at, b' '),
         _ => at,
     }
 }

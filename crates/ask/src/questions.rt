@@ -21,8 +21,6 @@ use words::NUMBERS;
 const SHELL_LENT: usize = 256;
 // Room for the longest listing: a term of three bytes takes at most fourteen letters, and each byte more at most three.
 const LISTING_LENT: usize = 5 * Kind::MOST_LISTED;
-// Room for the orders of a roll or the prefactors of a term.
-const OWN_LENT: usize = 64;
 
 enum Question {
     Echo,
@@ -73,7 +71,7 @@ fn lends(q: Question, count: usize, n: [u64; NUMBERS]) -> Lent {
         Question::Shell => buffer(count == 1, SHELL_LENT, n[1], n[2]),
         Question::Expand => buffer(count == 13, lent::MOST, n[13], n[14]),
         Question::List => buffer(true, LISTING_LENT, 0, 0),
-        _ => buffer(true, OWN_LENT, 0, 0),
+        _ => buffer(true, 0, 0, 0),
     }
 }
 
@@ -93,9 +91,8 @@ pub(crate) fn answer(
     s: State,
     asked: Asked,
     given: &[u8],
-    floats: &[f64],
+    floats: &mut [f64],
     lent: &mut [u8],
-    sums: &mut [f64],
 ) -> Told {
     let n = asked.numbers;
     let q = of(asked.question);
@@ -103,18 +100,34 @@ pub(crate) fn answer(
     let bytes = least(asked.bytes, given.len());
     let count = least(asked.floats, floats.len());
     let size = least(l.size, lent.len());
-    let all = &floats[0..count];
-    let told = looked_at(q, n, l.start, &given[0..bytes], all, &mut lent[0..size]);
-    answers::heard(s, in_floats(q, n, all, sums, told))
+    let roll = &given[0..bytes];
+    let plain = in_numbers(q, n, roll, &floats[0..count]);
+    let told = looked_at(q, n, l.start, roll, &mut lent[0..size], plain);
+    answers::heard(s, in_floats(q, n, &mut floats[0..count], told))
 }
 
 pub(crate) fn least(a: usize, b: usize) -> usize
-    ensures { λ r. ⌜ r ≤ b ⌝ }
+    ensures { λ r. ⌜ (r ≤ a) × (r ≤ b) ⌝ }
 {
     if a <= b {
         return a;
     }
     b
+}
+
+// The questions that have nothing lent.
+fn in_numbers(q: Question, n: [u64; NUMBERS], roll: &[u8], floats: &[f64]) -> Told {
+    match q {
+        Question::Echo => answers::plain(answers::ECHO),
+        Question::Pair => shells::component(shells::pair(n), shells::PAIR),
+        Question::Four => shells::component(shells::four(n), Kind::ORDERS),
+        Question::Open => rolls::opened(roll::open(roll)),
+        Question::Check => rolls::opened(roll::check(roll)),
+        Question::Next => rolls::stepped(rolls::cursor(n).next(roll)),
+        Question::Eval => values::value(roll, floats),
+        Question::Table => values::table(n, floats),
+        _ => answers::unknown(),
+    }
 }
 
 // The lent buffer is filled before the call, and looked at afterwards.
@@ -123,28 +136,25 @@ fn looked_at(
     n: [u64; NUMBERS],
     start: usize,
     roll: &[u8],
-    floats: &[f64],
     lent: &mut [u8],
+    told: Told,
 ) -> Told {
     lent::fill(lent);
-    let told = in_bytes(q, n, start, roll, floats, lent);
+    let told = in_bytes(q, n, start, roll, lent, told);
     lent::looked(lent, told)
 }
 
-// The questions whose answer is numbers and bytes.
+// The questions that have bytes lent; any other has been told.
 fn in_bytes(
     q: Question,
     n: [u64; NUMBERS],
     start: usize,
     roll: &[u8],
-    floats: &[f64],
     lent: &mut [u8],
+    told: Told,
 ) -> Told {
     match q {
-        Question::Echo => answers::plain(answers::ECHO),
         Question::Shell => shells::listed(shell::get_ijk_list(byte(n[0]), lent, start), start),
-        Question::Pair => shells::component(shells::pair(n), shells::PAIR, lent),
-        Question::Four => shells::component(shells::four(n), Kind::ORDERS, lent),
         Question::Expand => {
             expands::told(
                 expansion::expand(byte(n[0]), expands::orders(n), lent, start),
@@ -152,20 +162,15 @@ fn in_bytes(
             )
         }
         Question::List => lists::told(listing::listing(roll, lent, 0)),
-        Question::Open => rolls::opened(roll::open(roll), lent),
-        Question::Check => rolls::opened(roll::check(roll), lent),
-        Question::Next => rolls::stepped(rolls::cursor(n).next(roll), lent),
-        Question::Eval => values::value(roll, floats),
-        _ => answers::unknown(),
+        _ => told,
     }
 }
 
-// The questions whose answer is floats; any other has been told.
-fn in_floats(q: Question, n: [u64; NUMBERS], floats: &[f64], sums: &mut [f64], told: Told) -> Told {
+// The questions that have floats lent; any other has been told. The answer's floats take the place of those that are given.
+fn in_floats(q: Question, n: [u64; NUMBERS], floats: &mut [f64], told: Told) -> Told {
     match q {
-        Question::Table => values::table(n, floats, sums),
-        Question::Jk => matrices::asked(matrices::plain(n), floats, sums),
-        Question::Jkl => matrices::asked(matrices::sized(n), floats, sums),
+        Question::Jk => matrices::asked(matrices::plain(n), floats),
+        Question::Jkl => matrices::asked(matrices::sized(n), floats),
         _ => told,
     }
 }

@@ -1,9 +1,9 @@
 // `open ROLL`, `check ROLL` and `next KIND L LEFT PLACE ROLL`: a roll's header, the whole roll judged, a cursor's step.
 use crate::answers;
 use crate::forms;
-use crate::lent;
 use crate::questions;
 use crate::words;
+use forms::OWN;
 use forms::Told;
 use kind::Kind;
 use kind::Named;
@@ -17,11 +17,11 @@ use roll::Step;
 use term::Term;
 use words::NUMBERS;
 
-pub(crate) fn opened(o: Opened, lent: &mut [u8]) -> Told {
+pub(crate) fn opened(o: Opened) -> Told {
     let found = o.found;
     let orders = o.orders;
     match found {
-        Opening::Roll => header(o.cursor, orders, lent),
+        Opening::Roll => header(o.cursor, answers::of_orders(orders)),
         Opening::Refused(refusal, place) => answers::refused(refusal, place),
     }
 }
@@ -34,11 +34,9 @@ fn used_orders(kind: u8) -> usize {
     }
 }
 
-fn header(c: Cursor, orders: [u8; Kind::ORDERS], lent: &mut [u8]) -> Told {
+fn header(c: Cursor, orders: [u8; OWN]) -> Told {
     let numbers = [c.kind as u64, c.l as u64, c.left as u64, c.place as u64];
-    let n = used_orders(c.kind);
-    lent::lay_bytes(lent, &orders, n);
-    answers::bytes(answers::OPENED, numbers, 0, n)
+    answers::own(answers::OPENED, numbers, orders, used_orders(c.kind))
 }
 
 // The cursor that is said, forged or not.
@@ -51,29 +49,22 @@ pub(crate) fn cursor(n: [u64; NUMBERS]) -> Cursor {
     }
 }
 
-pub(crate) fn stepped(step: Step, lent: &mut [u8]) -> Told {
+pub(crate) fn stepped(step: Step) -> Told {
     let found = step.found;
-    let term = step.term;
-    let prefactors = term.prefactors;
     match found {
-        Found::Term => term_told(term, prefactors, step.next, lent),
+        Found::Term => term_told(step.term, step.next),
         Found::End => answers::plain(answers::END),
         Found::Refused(refusal, place) => answers::refused(refusal, place),
     }
 }
 
-// A term has no more prefactors than there are places.
-fn term_told(t: Term, prefactors: [u8; Kind::PREFACTORS], next: Cursor, lent: &mut [u8]) -> Told {
-    let count = t.count as usize;
-    if Kind::PREFACTORS < count {
-        return answers::spoiled();
-    }
-    lent::lay_bytes(lent, &prefactors, count);
+fn term_told(t: Term, next: Cursor) -> Told {
+    let prefactors = t.prefactors;
     let numbers = [
         t.scale as u64,
         t.boys as u64,
         next.place as u64,
         next.left as u64,
     ];
-    answers::bytes(answers::TERM, numbers, 0, count)
+    answers::own(answers::TERM, numbers, prefactors, t.count as usize)
 }

@@ -1,11 +1,9 @@
 // `shell M ..` and `component M1 M2 ..`: a shell's list, and one component of a pair or of four shells.
 use crate::answers;
 use crate::forms;
-use crate::lent;
 use crate::questions;
 use crate::words;
 use forms::Told;
-use kind::Kind;
 use questions::byte;
 use questions::word;
 use shell::Component;
@@ -38,16 +36,18 @@ pub(crate) fn four(n: [u64; NUMBERS]) -> Component {
 }
 
 // The component's first `n` orders, or the refusal.
-pub(crate) fn component(c: Component, n: usize, lent: &mut [u8]) -> Told {
+pub(crate) fn component(c: Component, n: usize) -> Told {
     let found = c.found;
     let orders = c.orders;
     match found {
-        Sought::Component => orders_told(orders, n, lent),
+        Sought::Component => {
+            answers::own(
+                answers::COMPONENT,
+                [0; forms::NUMBERS],
+                answers::of_orders(orders),
+                n,
+            )
+        }
         Sought::Refused(refusal) => answers::refused(refusal, 0),
     }
-}
-
-fn orders_told(orders: [u8; Kind::ORDERS], n: usize, lent: &mut [u8]) -> Told {
-    lent::lay_bytes(lent, &orders, n);
-    answers::bytes(answers::COMPONENT, [0; forms::NUMBERS], 0, n)
 }

@@ -7,15 +7,14 @@ use lines::State;
 
 // Shapes: B, W and P are numbers below 2^8, 2^32 and 2^64, L a buffer's length, R a roll, * floats, ^ any bytes; the first is
 // the empty line. `questions::of` has their numbers.
-// Forms: # is a number, $ a float's bits, % bytes in hexadecimal, ~ bytes in decimal, | a text, < and > floats, ^ the line
-// itself; at ! what waits goes out. `answers` has their numbers.
+// Forms: # is a number, $ a float's bits, % bytes that were lent in hexadecimal, | a text of them, & the answer's own bytes in
+// hexadecimal, ~ in decimal, * a table, < and > floats, ^ the line itself; at ! what waits goes out. `answers` has their numbers.
 pub(crate) fn turn(
     input: &[u8],
     s: State,
     given: &mut [u8],
     floats: &mut [f64],
     lent: &mut [u8],
-    sums: &mut [f64],
     out: &mut [u8],
     used: usize,
 ) -> usize {
@@ -42,7 +41,7 @@ jkl P P P P P*
         given,
         floats,
     );
-    let told = questions::answer(s, asked, given, floats, lent, sums);
+    let told = questions::answer(s, asked, given, floats, lent);
     forms::print(
         b"^
 ?
@@ -51,19 +50,19 @@ refused #
 refused # at #
 roll # terms # %
 shell # %
-component %
+component &
 listing |
 opened # # #~ place #
 term # #~ next # #
 end
 value $
-table<
+table*
 J< K>
 !",
         told,
         line,
         lent,
-        sums,
+        floats,
         out,
         used,
     )

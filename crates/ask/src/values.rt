@@ -4,14 +4,13 @@ ghost use lib.ListN.{length};
 use crate::answers;
 use crate::floats;
 use crate::forms;
-use crate::lent;
 use crate::questions;
 use crate::words;
 use forms::Told;
 use geometry::Centre;
+use geometry::Table;
 use geometry::Tabled;
 use integrals::Value;
-use kind::Kind;
 use questions::byte;
 use words::NUMBERS;
 
@@ -59,40 +58,41 @@ pub(crate) fn value(roll: &[u8], floats: &[f64]) -> Told {
         return answers::unknown();
     }
     let four = four_of(floats);
-    let value = integrals::evaluate(roll, four.a, four.b, four.c, four.d, floats[CENTRES], boys);
+    value_told(integrals::evaluate(roll, four.a, four.b, four.c, four.d, floats[CENTRES], boys))
+}
+
+// A value is finite where it comes back.
+fn value_told(value: Value) -> Told {
     match value {
-        Value::Is(x) => value_told(x),
+        Value::Is(x) => {
+            if geometry::finite(x) {
+                return answers::bytes(answers::VALUE, [floats::bits(x), 0, 0, 0], 0, 0);
+            }
+            answers::spoiled()
+        }
         Value::Refused(refusal, place) => answers::refused(refusal, place),
     }
 }
 
-// A value is finite where it comes back.
-fn value_told(x: f64) -> Told {
-    if geometry::finite(x) {
-        return answers::bytes(answers::VALUE, [floats::bits(x), 0, 0, 0], 0, 0);
-    }
-    answers::spoiled()
-}
-
-pub(crate) fn table(n: [u64; NUMBERS], floats: &[f64], sums: &mut [f64]) -> Told {
+pub(crate) fn table(n: [u64; NUMBERS], floats: &[f64]) -> Told {
     if floats.len() != CENTRES {
         return answers::unknown();
     }
     let four = four_of(floats);
-    let table = geometry::prefactors(byte(n[0]), four.a, four.b, four.c, four.d);
-    let found = table.found;
-    let entries = table.entries;
-    match found {
-        Tabled::Given => table_told(entries, sums),
-        Tabled::Refused(refusal) => answers::refused(refusal, 0),
-    }
+    table_told(geometry::prefactors(byte(n[0]), four.a, four.b, four.c, four.d))
 }
 
 // The entries are finite where they come back.
-fn table_told(entries: [f64; Kind::TABLE], sums: &mut [f64]) -> Told {
-    if geometry::all_finite(&entries) {
-        lent::lay(sums, 0, &entries);
-        return answers::floats(answers::TABLE, Kind::TABLE, 0);
+fn table_told(table: Table) -> Told {
+    let found = table.found;
+    let entries = table.entries;
+    match found {
+        Tabled::Given => {
+            if geometry::all_finite(&entries) {
+                return answers::entries(answers::TABLE, entries);
+            }
+            answers::spoiled()
+        }
+        Tabled::Refused(refusal) => answers::refused(refusal, 0),
     }
-    answers::spoiled()
 }

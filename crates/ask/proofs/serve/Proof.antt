@@ -6,11 +6,11 @@ use Rattle.ask.proofs.serve.Statement.{statement}
 use Rattle.ask.proofs.serve.Tie as tie
 
 abbrev Inv-loop : tie.InvT-loop
-Inv-loop input₀ given₀ floats₀ lent₀ sums₀ out₀ s₀ used₀ turns₀ input given floats lent sums out s used turns =
-    (length input ≡ length input₀) × (length given ≡ length given₀) × (length floats ≡ length floats₀) × (length lent ≡ length lent₀) × (length sums ≡ length sums₀) × (length out ≡ length out₀)
+Inv-loop input₀ given₀ floats₀ lent₀ out₀ s₀ used₀ turns₀ input given floats lent out s used turns =
+    (length input ≡ length input₀) × (length given ≡ length given₀) × (length floats ≡ length floats₀) × (length lent ≡ length lent₀) × (length out ≡ length out₀)
 
 abbrev μ-loop : tie.MeasureT-loop
-μ-loop input₀ given₀ floats₀ lent₀ sums₀ out₀ s₀ used₀ turns₀ input given floats lent sums out s used turns =
+μ-loop input₀ given₀ floats₀ lent₀ out₀ s₀ used₀ turns₀ input given floats lent out s used turns =
     turns
 
 carry-requires : tie.Need-carry-requires Inv-loop μ-loop
@@ -49,9 +49,6 @@ same-length-4 c = search needs
 same-length-5 : tie.Need-same-length-5 Inv-loop μ-loop
 same-length-5 c = search needs
 
-same-length-6 : tie.Need-same-length-6 Inv-loop μ-loop
-same-length-6 c = search needs
-
 returns : tie.Need-returns Inv-loop μ-loop
 returns c = search needs
 
@@ -73,5 +70,4 @@ serve-spec =
     same-length-3
     same-length-4
     same-length-5
-    same-length-6
     returns)

@@ -1,5 +1,5 @@
 -- `lent::lay` is safe and ends: the floats have room, and the length stays. Assumes nothing.
-use Prim.Native.Nat.{_+_, _-_, _≤_}
+use Prim.Native.Nat.{_-_, _≤_}
 use borrow.Author.Needs.{needs}
 use lib.ListN.{length, length-set}
 use mathlib.Core.Path.{_≡_}
@@ -8,19 +8,13 @@ use Rattle.ask.proofs.lent.lay.Statement.{statement}
 use Rattle.ask.proofs.lent.lay.Tie as tie
 
 abbrev Inv-loop : tie.InvT-loop
-Inv-loop room₀ at floats i₀ room i = (i ≤ length floats) × (at + length floats ≤ length room) × (length room ≡ length room₀)
+Inv-loop room₀ floats count i₀ room i = (i ≤ count) × (count ≤ length floats) × (count ≤ length room) × (length room ≡ length room₀)
 
 abbrev μ-loop : tie.MeasureT-loop
-μ-loop room₀ at floats i₀ room i = length floats - i
+μ-loop room₀ floats count i₀ room i = count - i
 
-returns : tie.Need-returns Inv-loop μ-loop
-returns c = search needs
-
-sub-if2 : tie.Need-sub-if2 Inv-loop μ-loop
-sub-if2 c = search needs
-
-returns-2 : tie.Need-returns-2 Inv-loop μ-loop
-returns-2 c = search needs
+least-requires : tie.Need-least-requires Inv-loop μ-loop
+least-requires c κs = search needs
 
 loop-holds : tie.Need-loop-holds Inv-loop μ-loop
 loop-holds c = search needs
@@ -30,9 +24,6 @@ mul-room c = search needs
 
 shared-slice-read-room : tie.Need-shared-slice-read-room Inv-loop μ-loop
 shared-slice-read-room c = search needs
-
-add-room : tie.Need-add-room Inv-loop μ-loop
-add-room c = search needs
 
 mul-room-2 : tie.Need-mul-room-2 Inv-loop μ-loop
 mul-room-2 c = search needs
@@ -47,13 +38,13 @@ loop-less : tie.Need-loop-less Inv-loop μ-loop
 loop-less c = search needs
 
 loop-again : tie.Need-loop-again Inv-loop μ-loop
-loop-again c = (omega arith, simp length-set (omega arith), simp length-set (omega arith))
+loop-again c = (omega arith, omega arith, simp length-set (omega arith), simp length-set (omega arith))
 
 same-length : tie.Need-same-length Inv-loop μ-loop
 same-length c = search needs
 
-returns-3 : tie.Need-returns-3 Inv-loop μ-loop
-returns-3 c = search needs
+returns : tie.Need-returns Inv-loop μ-loop
+returns c = search needs
 
 pub lay-spec : {M : Type 1} → statement M
 lay-spec =
@@ -61,17 +52,14 @@ lay-spec =
     (tie.spec
     Inv-loop
     μ-loop
-    returns
-    sub-if2
-    returns-2
+    least-requires
     loop-holds
     mul-room
     shared-slice-read-room
-    add-room
     mul-room-2
     slice-write-room
     add-i
     loop-less
     loop-again
     same-length
-    returns-3)
+    returns)
