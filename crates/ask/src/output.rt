@@ -64,6 +64,7 @@ pub(crate) fn run(
     let mut i = 0;
     while i < count {
         let v = value(letter, k, t, line, bytes, floats, i);
+        next = place(letter, out, next);
         next = unit(letter, v, out, next);
         i += 1;
     }
@@ -144,22 +145,22 @@ fn bar(byte: u8) -> u8 {
     byte
 }
 
+// The place for a value: where a piece has room, and after the blank that some letters ask for.
+fn place(letter: u8, out: &mut [u8], used: usize) -> usize {
+    let at = room(out, used);
+    match letter {
+        b'~' | b'*' | b'<' | b'>' => put(out, at, b' '),
+        _ => at,
+    }
+}
+
 // One value of a letter.
-fn unit(letter: u8, v: u64, out: &mut [u8], used: usize) -> usize {
-    let at = parted(letter, out, room(out, used));
+fn unit(letter: u8, v: u64, out: &mut [u8], at: usize) -> usize {
     match letter {
         b'#' | b'~' => end(text::decimal(out, at, v), at),
         b'$' | b'*' | b'<' | b'>' => end(text::hex_word(out, at, v), at),
         b'%' | b'&' => end(text::hex_byte(out, at, questions::byte(v)), at),
         b'!' => flush(out, at),
         _ => put(out, at, questions::byte(v)),
-    }
-}
-
-// The place after the blank that some letters ask for.
-fn parted(letter: u8, out: &mut [u8], at: usize) -> usize {
-    match letter {
-        b'~' | b'*' | b'<' | b'>' => put(out, at, b' '),
-        _ => at,
     }
 }

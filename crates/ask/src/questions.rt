@@ -119,11 +119,11 @@ pub(crate) fn least(a: usize, b: usize) -> usize
 fn in_numbers(q: Question, n: [u64; NUMBERS], roll: &[u8], floats: &[f64]) -> Told {
     match q {
         Question::Echo => answers::plain(answers::ECHO),
-        Question::Pair => shells::component(shells::pair(n), shells::PAIR),
-        Question::Four => shells::component(shells::four(n), Kind::ORDERS),
+        Question::Pair => shells::pair(n),
+        Question::Four => shells::four(n),
         Question::Open => rolls::opened(roll::open(roll)),
         Question::Check => rolls::opened(roll::check(roll)),
-        Question::Next => rolls::stepped(rolls::cursor(n).next(roll)),
+        Question::Next => rolls::next(n, roll),
         Question::Eval => values::value(roll, floats),
         Question::Table => values::table(n, floats),
         _ => answers::unknown(),
