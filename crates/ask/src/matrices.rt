@@ -104,14 +104,18 @@ fn lend(s: Sizes, floats: &mut [f64]) -> Told {
     summed(s, floats, &mut coulomb[0..j], &mut exchange[0..k])
 }
 
-// J and K take the place of I and D, where they have room if their lengths are right.
 fn summed(s: Sizes, floats: &mut [f64], j: &mut [f64], k: &mut [f64]) -> Told {
     let i = least(s.i, floats.len());
     let answer = jk::JK_inmem(s.n, &floats[0..i], &floats[i..], j, k);
+    lay(floats, j, k);
+    told(answer, j, k)
+}
+
+// J and K take the place of I and D, where they have room if their lengths are right.
+fn lay(floats: &mut [f64], j: &[f64], k: &[f64]) {
     let first = least(j.len(), floats.len());
     lent::lay(floats, j);
     lent::lay(&mut floats[first..], k);
-    told(answer, j, k)
 }
 
 // J and K, which are finite where they come back; a refusal changes no float.

@@ -3,7 +3,6 @@ use crate::floats;
 use crate::forms;
 use crate::questions;
 use forms::NUMBERS;
-use forms::OWN;
 use forms::Told;
 use kind::Kind;
 use libc::STDOUT_FILENO;
@@ -99,7 +98,7 @@ fn value(
     let entries = t.entries;
     match letter {
         b'#' | b'$' => number_at(numbers, k),
-        b'&' | b'~' => own_at(own, i) as u64,
+        b'&' | b'~' => byte_at(&own, i) as u64,
         b'%' => byte_at(bytes, sum(t.start, i)) as u64,
         b'|' => bar(byte_at(bytes, sum(t.start, i))) as u64,
         b'*' => bits_at(&entries, i),
@@ -113,13 +112,6 @@ fn value(
 fn number_at(numbers: [u64; NUMBERS], k: usize) -> u64 {
     if k < NUMBERS {
         return numbers[k];
-    }
-    0
-}
-
-fn own_at(own: [u8; OWN], i: usize) -> u8 {
-    if i < OWN {
-        return own[i];
     }
     0
 }
