@@ -131,20 +131,9 @@ fn more(input: &mut [u8], s: State) -> State {
     if n == 0 {
         return last(t);
     }
-    let end = n;
-    look(
-        input,
-        State {
-            found: Found::More,
-            start: 0,
-            stop: 0,
-            begun: t.begun,
-            seen: t.seen,
-            end,
-            lost: t.lost,
-            ended: false,
-        },
-    )
+    let mut longer = t;
+    longer.end = n;
+    look(input, longer)
 }
 
 // Reads once after the first `end` bytes, and answers how many there are then; nought where none came (D-50).

@@ -104,39 +104,38 @@ fn lend(s: Sizes, floats: &mut [f64]) -> Told {
     summed(s, floats, &mut coulomb[0..j], &mut exchange[0..k])
 }
 
-// J and K take the place of I and D, where they have room if their lengths are right.
 fn summed(s: Sizes, floats: &mut [f64], j: &mut [f64], k: &mut [f64]) -> Told {
     let i = least(s.i, floats.len());
     let answer = jk::JK_inmem(s.n, &floats[0..i], &floats[i..], j, k);
-    let first = least(j.len(), floats.len());
-    lent::lay(floats, j);
-    lent::lay(&mut floats[first..], k);
+    lay(floats, j, k);
     told(answer, j, k)
 }
 
+// J and K take the place of I and D, where they have room if their lengths are right.
+fn lay(floats: &mut [f64], j: &[f64], k: &[f64]) {
+    let first = least(j.len(), floats.len());
+    lent::lay(floats, j);
+    lent::lay(&mut floats[first..], k);
+}
+
+// J and K, which are finite where they come back; a refusal changes no float.
 fn told(answer: Answer, j: &[f64], k: &[f64]) -> Told {
     match answer {
-        Answer::Done => done(j, k),
-        Answer::Refused(refusal) => refused(j, k, refusal),
-    }
-}
-
-// The answer to a refusal, which changes no float.
-fn refused(j: &[f64], k: &[f64], refusal: u8) -> Told {
-    if lent::are_kept(j) {
-        if lent::are_kept(k) {
-            return answers::refused(refusal, 0);
+        Answer::Done => {
+            if geometry::all_finite(j) {
+                if geometry::all_finite(k) {
+                    return answers::floats(answers::MATRICES, j.len(), k.len());
+                }
+            }
+            answers::spoiled()
+        }
+        Answer::Refused(refusal) => {
+            if lent::are_kept(j) {
+                if lent::are_kept(k) {
+                    return answers::refused(refusal, 0);
+                }
+            }
+            answers::spoiled()
         }
     }
-    answers::spoiled()
-}
-
-// J and K, which are finite where they come back.
-fn done(j: &[f64], k: &[f64]) -> Told {
-    if geometry::all_finite(j) {
-        if geometry::all_finite(k) {
-            return answers::floats(answers::MATRICES, j.len(), k.len());
-        }
-    }
-    answers::spoiled()
 }

@@ -3,7 +3,6 @@ use crate::floats;
 use crate::forms;
 use crate::questions;
 use forms::NUMBERS;
-use forms::OWN;
 use forms::Told;
 use kind::Kind;
 use libc::STDOUT_FILENO;
@@ -64,6 +63,7 @@ pub(crate) fn run(
     let mut i = 0;
     while i < count {
         let v = value(letter, k, t, line, bytes, floats, i);
+        next = place(letter, out, next);
         next = unit(letter, v, out, next);
         i += 1;
     }
@@ -98,7 +98,7 @@ fn value(
     let entries = t.entries;
     match letter {
         b'#' | b'$' => number_at(numbers, k),
-        b'&' | b'~' => own_at(own, i) as u64,
+        b'&' | b'~' => byte_at(&own, i) as u64,
         b'%' => byte_at(bytes, sum(t.start, i)) as u64,
         b'|' => bar(byte_at(bytes, sum(t.start, i))) as u64,
         b'*' => bits_at(&entries, i),
@@ -112,13 +112,6 @@ fn value(
 fn number_at(numbers: [u64; NUMBERS], k: usize) -> u64 {
     if k < NUMBERS {
         return numbers[k];
-    }
-    0
-}
-
-fn own_at(own: [u8; OWN], i: usize) -> u8 {
-    if i < OWN {
-        return own[i];
     }
     0
 }
@@ -144,22 +137,22 @@ fn bar(byte: u8) -> u8 {
     byte
 }
 
+// The place for a value: where a piece has room, and after the blank that some letters ask for.
+fn place(letter: u8, out: &mut [u8], used: usize) -> usize {
+    let at = room(out, used);
+    match letter {
+        b'~' | b'*' | b'<' | b'>' => put(out, at, b' '),
+        _ => at,
+    }
+}
+
 // One value of a letter.
-fn unit(letter: u8, v: u64, out: &mut [u8], used: usize) -> usize {
-    let at = parted(letter, out, room(out, used));
+fn unit(letter: u8, v: u64, out: &mut [u8], at: usize) -> usize {
     match letter {
         b'#' | b'~' => end(text::decimal(out, at, v), at),
         b'$' | b'*' | b'<' | b'>' => end(text::hex_word(out, at, v), at),
         b'%' | b'&' => end(text::hex_byte(out, at, questions::byte(v)), at),
         b'!' => flush(out, at),
         _ => put(out, at, questions::byte(v)),
-    }
-}
-
-// The place after the blank that some letters ask for.
-fn parted(letter: u8, out: &mut [u8], at: usize) -> usize {
-    match letter {
-        b'~' | b'*' | b'<' | b'>' => put(out, at, b' '),
-        _ => at,
     }
 }

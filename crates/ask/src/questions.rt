@@ -4,7 +4,6 @@ use crate::answers;
 use crate::expands;
 use crate::forms;
 use crate::lent;
-use crate::lines;
 use crate::lists;
 use crate::matrices;
 use crate::rolls;
@@ -13,7 +12,6 @@ use crate::values;
 use crate::words;
 use forms::Told;
 use kind::Kind;
-use lines::State;
 use words::Asked;
 use words::NUMBERS;
 
@@ -87,13 +85,7 @@ fn buffer(usual: bool, size: usize, said: u64, start: u64) -> Lent {
 }
 
 // The answer to what is read; the roll and the floats are the first of those that are given.
-pub(crate) fn answer(
-    s: State,
-    asked: Asked,
-    given: &[u8],
-    floats: &mut [f64],
-    lent: &mut [u8],
-) -> Told {
+pub(crate) fn answer(asked: Asked, given: &[u8], floats: &mut [f64], lent: &mut [u8]) -> Told {
     let n = asked.numbers;
     let q = of(asked.question);
     let l = lends(q, asked.count, n);
@@ -103,7 +95,7 @@ pub(crate) fn answer(
     let roll = &given[0..bytes];
     let plain = in_numbers(q, n, roll, &floats[0..count]);
     let told = looked_at(q, n, l.start, roll, &mut lent[0..size], plain);
-    answers::heard(s, in_floats(q, n, &mut floats[0..count], told))
+    in_floats(q, n, &mut floats[0..count], told)
 }
 
 pub(crate) fn least(a: usize, b: usize) -> usize
@@ -119,11 +111,11 @@ pub(crate) fn least(a: usize, b: usize) -> usize
 fn in_numbers(q: Question, n: [u64; NUMBERS], roll: &[u8], floats: &[f64]) -> Told {
     match q {
         Question::Echo => answers::plain(answers::ECHO),
-        Question::Pair => shells::component(shells::pair(n), shells::PAIR),
-        Question::Four => shells::component(shells::four(n), Kind::ORDERS),
+        Question::Pair => shells::pair(n),
+        Question::Four => shells::four(n),
         Question::Open => rolls::opened(roll::open(roll)),
         Question::Check => rolls::opened(roll::check(roll)),
-        Question::Next => rolls::stepped(rolls::cursor(n).next(roll)),
+        Question::Next => rolls::next(n, roll),
         Question::Eval => values::value(roll, floats),
         Question::Table => values::table(n, floats),
         _ => answers::unknown(),
@@ -153,11 +145,12 @@ fn in_bytes(
     lent: &mut [u8],
     told: Told,
 ) -> Told {
+    let first = byte(n[0]);
     match q {
-        Question::Shell => shells::listed(shell::get_ijk_list(byte(n[0]), lent, start), start),
+        Question::Shell => shells::listed(shell::get_ijk_list(first, lent, start), start),
         Question::Expand => {
             expands::told(
-                expansion::expand(byte(n[0]), expands::orders(n), lent, start),
+                expansion::expand(first, expands::orders(n), lent, start),
                 start,
             )
         }

@@ -13,7 +13,6 @@ use roll::Cursor;
 use roll::Found;
 use roll::Opened;
 use roll::Opening;
-use roll::Step;
 use term::Term;
 use words::NUMBERS;
 
@@ -39,17 +38,15 @@ fn header(c: Cursor, orders: [u8; OWN]) -> Told {
     answers::own(answers::OPENED, numbers, orders, used_orders(c.kind))
 }
 
-// The cursor that is said, forged or not.
-pub(crate) fn cursor(n: [u64; NUMBERS]) -> Cursor {
-    Cursor {
+// A step of the cursor that is said, forged or not.
+pub(crate) fn next(n: [u64; NUMBERS], roll: &[u8]) -> Told {
+    let cursor = Cursor {
         place: n[3] as usize,
         left: word(n[2]),
         kind: byte(n[0]),
         l: byte(n[1]),
-    }
-}
-
-pub(crate) fn stepped(step: Step) -> Told {
+    };
+    let step = cursor.next(roll);
     let found = step.found;
     match found {
         Found::Term => term_told(step.term, step.next),

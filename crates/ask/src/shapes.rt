@@ -60,13 +60,20 @@ fn ended(a: Asked, end: usize) -> Asked {
 fn item(mark: u8, line: &[u8], a: Asked, bytes: &mut [u8], floats: &mut [f64]) -> Asked {
     match mark {
         b'\n' => ended(a, line.len()),
-        b'B' => words::number(line, a, 255),
-        b'W' => words::number(line, a, 4294967295),
-        b'P' => words::number(line, a, u64::MAX),
-        b'L' => words::number(line, a, lent::MOST as u64),
+        b'B' | b'W' | b'P' | b'L' => words::number(line, a, most(mark)),
         b'R' => words::roll(line, a, bytes),
         b'*' => words::floats(line, a, floats),
         b'^' => words::rest(line, a),
         _ => words::letter(line, a, mark),
+    }
+}
+
+// The most that a number's mark allows.
+fn most(mark: u8) -> u64 {
+    match mark {
+        b'B' => 255,
+        b'W' => 4294967295,
+        b'L' => lent::MOST as u64,
+        _ => u64::MAX,
     }
 }

@@ -4,6 +4,7 @@ use crate::forms;
 use crate::questions;
 use crate::words;
 use forms::Told;
+use kind::Kind;
 use questions::byte;
 use questions::word;
 use shell::Component;
@@ -12,7 +13,7 @@ use shell::Sought;
 use words::NUMBERS;
 
 // The orders of a pair of shells.
-pub(crate) const PAIR: usize = 6;
+const PAIR: usize = 6;
 
 // The list that was written from a place on.
 pub(crate) fn listed(answer: Listed, start: usize) -> Told {
@@ -27,16 +28,19 @@ pub(crate) fn listed(answer: Listed, start: usize) -> Told {
     }
 }
 
-pub(crate) fn pair(n: [u64; NUMBERS]) -> Component {
-    shell::get_shell2(byte(n[0]), byte(n[1]), word(n[2]))
+pub(crate) fn pair(n: [u64; NUMBERS]) -> Told {
+    component(shell::get_shell2(byte(n[0]), byte(n[1]), word(n[2])), PAIR)
 }
 
-pub(crate) fn four(n: [u64; NUMBERS]) -> Component {
-    shell::get_shell4(byte(n[0]), byte(n[1]), byte(n[2]), byte(n[3]), word(n[4]))
+pub(crate) fn four(n: [u64; NUMBERS]) -> Told {
+    component(
+        shell::get_shell4(byte(n[0]), byte(n[1]), byte(n[2]), byte(n[3]), word(n[4])),
+        Kind::ORDERS,
+    )
 }
 
 // The component's first `n` orders, or the refusal.
-pub(crate) fn component(c: Component, n: usize) -> Told {
+fn component(c: Component, n: usize) -> Told {
     let found = c.found;
     let orders = c.orders;
     match found {

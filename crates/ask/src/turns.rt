@@ -1,4 +1,5 @@
 // A turn: a line is read by the shapes of questions, answered, and its answer is printed by the forms of answers.
+use crate::answers;
 use crate::forms;
 use crate::lines;
 use crate::questions;
@@ -41,7 +42,7 @@ jkl P P P P P*
         given,
         floats,
     );
-    let told = questions::answer(s, asked, given, floats, lent);
+    let told = questions::answer(asked, given, floats, lent);
     forms::print(
         b"^
 ?
@@ -59,7 +60,7 @@ value $
 table*
 J< K>
 !",
-        told,
+        answers::heard(s, told),
         line,
         lent,
         floats,

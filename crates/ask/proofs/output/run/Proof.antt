@@ -21,6 +21,9 @@ loop-holds c = search needs
 value-requires : tie.Need-value-requires Inv-loop μ-loop
 value-requires c κs = search needs
 
+place-requires : tie.Need-place-requires Inv-loop μ-loop
+place-requires c κs = search needs
+
 unit-requires : tie.Need-unit-requires Inv-loop μ-loop
 unit-requires c κs = search needs
 
@@ -48,6 +51,7 @@ run-spec =
     times-requires
     loop-holds
     value-requires
+    place-requires
     unit-requires
     add-i
     loop-less
