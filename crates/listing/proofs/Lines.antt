@@ -2,7 +2,8 @@
 use Prim.Native.Nat.{ℕ, _+_, _-_, _≤_, _<_}
 use native.Mathlib.Numerals.{add-one}
 use native.Mathlib.Omega.{arith}
-use mathlib.Core.Path.{_≡_}
+use mathlib.Core.Path.{_≡_, refl, sym, _∙_}
+use mathlib.Core.Bool.{Bool, true, false}
 use mathlib.Core.List.{List, _++_}
 use borrow.Author.Tests.{eq-eqb, ne-eqb}
 use lib.ListN.{length, getD, take, drop, drop-of-length-le}
@@ -14,7 +15,7 @@ use Rattle.text.specs.declared.Written.{Written}
 use Rattle.text.specs.declared.Written.the-variants.{To}
 use Rattle.text.specs.Digits.{decimalOf}
 use Rattle.roll.specs.inner.Held.{fromHeld}
-use Rattle.listing.specs.Text.{blank, colon, feed, kindWord, ordersWord, termsWord, refusedWord, atWord, afterBlanks, kindText, headLine, termNumbers, termLine, refusalText}
+use Rattle.listing.specs.Text.{blank, colon, feed, kindWord, ordersWord, termsWord, refusedWord, atWord, afterBlanks, kindText, headLine, termNumbers, termLine, carriesPlace, refusalText}
 use Rattle.listing.specs.inner.Saying.{Said}
 use Rattle.listing.proofs.Saying.{Saying, said-both, saying-more, saying-done}
 
@@ -52,10 +53,24 @@ pub term-said : (room number : ℕ) (t : Held) (a b c d : List ℕ) (w p q r : W
 unfolding termLine
 term-said room number t a b c d w p q r one two three = let all : t .count - 0 ≡ t .count = omega arith in said-both one (said-both (rw all at two) three)
 
-pub refusal-placed : (room refusal place : ℕ) (a b c d : List ℕ) (p q r : Written) → refusal ≡ 7 → Said room a (To 0) (refusedWord ++ decimalOf refusal) p b → Said room b p (atWord ++ decimalOf place) q c → Said room c q feed r d → Said room a (To 0) (refusalText refusal place) r d
-unfolding refusalText
-refusal-placed room refusal place a b c d p q r is one two three = rw (eq-eqb refusal 7 is) (said-both one (said-both two three))
+-- ---- a refusal
 
-pub refusal-plain : (room refusal place : ℕ) (a b c : List ℕ) (p q : Written) → (refusal ≡ 7 → ⊥) → Said room a (To 0) (refusedWord ++ decimalOf refusal) p b → Said room b p feed q c → Said room a (To 0) (refusalText refusal place) q c
+pub seven-carries : (refusal : ℕ) → refusal ≡ 7 → true ≡ carriesPlace refusal
+unfolding carriesPlace
+seven-carries refusal is = sym (rw (eq-eqb refusal 7 is) refl)
+
+pub fourteen-carries : (refusal : ℕ) → (refusal ≡ 7 → ⊥) → refusal ≡ 14 → true ≡ carriesPlace refusal
+unfolding carriesPlace
+fourteen-carries refusal other is = sym (rw (ne-eqb refusal 7 other, eq-eqb refusal 14 is) refl)
+
+pub none-carried : (refusal : ℕ) → (refusal ≡ 7 → ⊥) → (refusal ≡ 14 → ⊥) → false ≡ carriesPlace refusal
+unfolding carriesPlace
+none-carried refusal other not = sym (rw (ne-eqb refusal 7 other, ne-eqb refusal 14 not) refl)
+
+pub refusal-placed : (room refusal place : ℕ) (a b c d : List ℕ) (p q r : Written) (t : Bool) → t ≡ carriesPlace refusal → t ≡ true → Said room a (To 0) (refusedWord ++ decimalOf refusal) p b → Said room b p (atWord ++ decimalOf place) q c → Said room c q feed r d → Said room a (To 0) (refusalText refusal place) r d
 unfolding refusalText
-refusal-plain room refusal place a b c p q is one two = rw (ne-eqb refusal 7 is) (said-both one two)
+refusal-placed room refusal place a b c d p q r t is on one two three = rw (sym is ∙ on) (said-both one (said-both two three))
+
+pub refusal-plain : (room refusal place : ℕ) (a b c : List ℕ) (p q : Written) (t : Bool) → t ≡ carriesPlace refusal → t ≡ false → Said room a (To 0) (refusedWord ++ decimalOf refusal) p b → Said room b p feed q c → Said room a (To 0) (refusalText refusal place) q c
+unfolding refusalText
+refusal-plain room refusal place a b c p q t is off one two = rw (sym is ∙ off) (said-both one two)

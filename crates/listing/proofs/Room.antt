@@ -5,7 +5,7 @@ use native.Mathlib.Omega.{arith}
 use mathlib.Core.Path.{_≡_, ap}
 use mathlib.Core.List.{List, [], _∷_, _++_}
 use borrow.Author.Tests.{ltb-true, ltb-false}
-use lib.Dec.{ltb, eqb}
+use lib.Dec.{ltb}
 use lib.ListN.{length, length-append}
 use Rattle.kind.specs.Limits.{mostOrder, requestOrders}
 use Rattle.kind.specs.Kinds.{numberOf, ordersOf, tableOf}
@@ -24,7 +24,7 @@ use Rattle.roll.specs.Reading.{got, Roll, rollAt}
 use Rattle.roll.specs.Fits.{CentresFit, Below, TermFits, TermsFit, RollFits}
 use Rattle.roll.proofs.Written.{roll-read}
 use Rattle.roll.proofs.Back.{most-boys}
-use Rattle.listing.specs.Text.{blank, afterBlanks, kindText, headLine, termNumbers, termLine, termLines, listingText, placeText, refusalText}
+use Rattle.listing.specs.Text.{blank, afterBlanks, kindText, headLine, termNumbers, termLine, termLines, listingText, carriesPlace, placeText, refusalText}
 
 -- ---- a number's decimal
 
@@ -190,7 +190,7 @@ twenty-digits n h =
 
 place-short : (refusal place : ℕ) → place < 2 ^ 64 → length (placeText refusal place) ≤ 24
 place-short refusal place small =
-    tested (eqb refusal 7)
+    tested (carriesPlace refusal)
     (λ t. rw t (omega (arith, twenty-digits place small)))
     (λ f. rw f (omega arith))
 

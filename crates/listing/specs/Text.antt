@@ -1,6 +1,6 @@
 -- 01, "The roll": the text of a roll's listing, and the line of a refusal, in ASCII.
 use Prim.Native.Nat.{ℕ, _+_}
-use mathlib.Core.Bool.{cond}
+use mathlib.Core.Bool.{Bool, cond, _||_}
 use mathlib.Core.List.{List, [], _∷_, _++_}
 use lib.Dec.{eqb}
 use lib.ListN.{length}
@@ -70,10 +70,13 @@ termLines number (t ∷ ts) = termLine number t ++ termLines (number + 1) ts
 unfoldable pub listingText : Roll → List ℕ
 listingText r = headLine (r .kind) (r .orders) (length (r .terms)) ++ termLines 1 (r .terms)
 
--- refusal 7 carries the place (D-75)
-abbrev pub placeText : ℕ → ℕ → List ℕ
-placeText refusal place = cond (eqb refusal 7) (atWord ++ decimalOf place) []
+-- refusals 7 and 14 carry the place (02, Q-5; D-75)
+unfoldable pub carriesPlace : ℕ → Bool
+carriesPlace refusal = eqb refusal 7 || eqb refusal 14
 
--- refused 7 at P; refused N for every other
+abbrev pub placeText : ℕ → ℕ → List ℕ
+placeText refusal place = cond (carriesPlace refusal) (atWord ++ decimalOf place) []
+
+-- refused 7 at P, refused 14 at P; refused N for every other
 unfoldable pub refusalText : ℕ → ℕ → List ℕ
 refusalText refusal place = (refusedWord ++ decimalOf refusal) ++ (placeText refusal place ++ feed)

@@ -8,7 +8,7 @@ ghost use lib.ListN.{length};
 ghost use Rattle.text.specs.Digits.{decimalOf};
 ghost use Rattle.roll.specs.inner.Held.{fromHeld};
 ghost use Rattle.roll.specs.inner.Judged.{Judged, leftOf, Readable};
-ghost use Rattle.listing.specs.Text.{afterBlanks, kindText, headLine, termNumbers, termLine, termLines, refusalText};
+ghost use Rattle.listing.specs.Text.{afterBlanks, kindText, headLine, termNumbers, termLine, termLines, carriesPlace, refusalText};
 ghost use Rattle.listing.specs.inner.Saying.{advanced, Said, Kept, textOf};
 ghost use Rattle.listing.specs.Answers.{TextTold, ListingTold};
 use kind::Kind;
@@ -200,18 +200,30 @@ pub fn listing(roll: &[u8], out: &mut [u8], start: usize) -> Listed
     }
 }
 
+fn carries_place(refusal: u8) -> bool
+    ensures { λ r. ⌜ r ≡ carriesPlace refusal ⌝ }
+{
+    if refusal == 7 {
+        return true;
+    }
+    if refusal == 14 {
+        return true;
+    }
+    false
+}
+
 fn say_refusal(out: &mut [u8], room: usize, refusal: u8, place: usize) -> Written
     ensures { λ r. ⌜ Said room (now (out .entry)) (Written.To 0) (refusalText refusal place) r (now (out .exit)) ⌝ }
 {
     let told = say_named(out, room, Written::To(0), b"refused ", refusal as u64);
-    if refusal == 7 {
+    if carries_place(refusal) {
         let placed = say_named(out, room, told, b" at ", place as u64);
         return say(out, room, placed, b"\n");
     }
     say(out, room, told, b"\n")
 }
 
-// The line that tells a refusal, and the place of refusal 7.
+// The line that tells a refusal, and the place of refusals 7 and 14.
 pub fn refusal_line(refusal: u8, place: usize, out: &mut [u8], start: usize) -> Listed
     ensures { λ r. ⌜ TextTold (refusalText refusal place) (now (out .entry)) start r (now (out .exit)) ⌝ }
 {

@@ -61,10 +61,10 @@ Bytes s = (i : ℕ) → getD s i 0 < 256
 unfoldable pub readAt : List ℕ → ℕ → Number
 readAt s at = readFrom (drop at s) at
 
--- 01's refusal number for each case: 0 is none, and the roll breaks a rule (7) whatever the reason (D-13, D-37)
+-- the refusal number of each case: 0 is none; 02, Q-5: 14 where the input ends before the number does, 7 for all else (D-13, D-37)
 abbrev pub refusalOf : Number → ℕ
 refusalOf (Is n next) = 0
-refusalOf Ended = 7
+refusalOf Ended = 14
 refusalOf NotShortest = 7
 refusalOf TooLarge = 7
 

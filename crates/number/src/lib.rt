@@ -95,7 +95,7 @@ pub fn refusal_of(n: Number) -> u8
 {
     match n {
         Number::Is(_, _) => 0,
-        Number::Ended => 7,
+        Number::Ended => 14,
         Number::NotShortest => 7,
         Number::TooLarge => 7,
     }

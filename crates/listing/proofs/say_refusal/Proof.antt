@@ -10,6 +10,9 @@ slice-aggregate-say-named c = search needs
 say-named-requires : tie.Need-say-named-requires
 say-named-requires c κs = search needs
 
+carries-place-requires : tie.Need-carries-place-requires
+carries-place-requires c = search needs
+
 slice-aggregate-say-named-2 : tie.Need-slice-aggregate-say-named-2
 slice-aggregate-say-named-2 c = search needs
 
@@ -46,6 +49,7 @@ say-refusal-spec =
     (tie.spec
     slice-aggregate-say-named
     say-named-requires
+    carries-place-requires
     slice-aggregate-say-named-2
     say-named-requires-2
     slice-aggregate-say
