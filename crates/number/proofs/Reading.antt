@@ -1,7 +1,7 @@
 -- What the reader meets at a place, one law for each way out of `higher` and `readAt`; and how large a number can be.
 use Prim.Native.Nat.{ℕ, zero, suc, zero-le, _+_, _*_, _-_, _%_, _^_, _≤_, _<_}
 use mathlib.Core.Path.{_≡_, refl, sym, ap, _∙_}
-use mathlib.Core.List.{List, [], _∷_}
+use mathlib.Core.List.{List, [], _∷_, _++_}
 use mathlib.Core.Bool.{true, false, Bool, cond}
 use native.Mathlib.Omega.{arith}
 use native.Mathlib.Nat.{pow-suc, pow-le-pow-right, mod-lt}
@@ -206,3 +206,29 @@ read-alike s t at n next e alike =
     let size : at + (next - at) ≡ next = omega (arith, i .0) in
     let whole : take (at + (next - at)) t ≡ take (at + (next - at)) s = rw size alike in
     from-alike (drop at s) (drop at t) at n next e (sym (drop-take at (next - at) t) ∙ ap (drop at) whole ∙ drop-take at (next - at) s)
+
+-- ---- whatever follows: what is read stays, unless the bytes ended
+
+higher-stays : (more : ℕ) (l t : List ℕ) (at : ℕ) → (higher l at more ≡ Ended → ⊥) → higher (l ++ t) at more ≡ higher l at more
+unfolding higher
+higher-stays more [] t at some = absurd (some (none-ended more at))
+higher-stays zero (b ∷ l) t at some = refl
+higher-stays (suc more) (b ∷ l) t at some = by (ltb b 128) refl (higher-stays more l t (at + 1))
+  where
+    by : (q : Bool) → ltb b 128 ≡ q → ((higher l (at + 1) more ≡ Ended → ⊥) → higher (l ++ t) (at + 1) more ≡ higher l (at + 1) more)
+        → cond (ltb b 128) (last b at) (above (b % 128) (higher (l ++ t) (at + 1) more)) ≡ cond (ltb b 128) (last b at) (above (b % 128) (higher l (at + 1) more))
+    by true lt rest = rw lt refl
+    by false ge rest = rw ge (ap (above (b % 128)) (rest (λ e. some (rw ge (ap (above (b % 128)) e)))))
+
+from-stays : (l t : List ℕ) (at : ℕ) → (readFrom l at ≡ Ended → ⊥) → readFrom (l ++ t) at ≡ readFrom l at
+unfolding readFrom
+from-stays [] t at some = absurd (some refl)
+from-stays (b ∷ l) t at some = by (ltb b 128) refl
+  where
+    by : (q : Bool) → ltb b 128 ≡ q → cond (ltb b 128) (Is b (at + 1)) (above (b % 128) (higher (l ++ t) (at + 1) 3)) ≡ cond (ltb b 128) (Is b (at + 1)) (above (b % 128) (higher l (at + 1) 3))
+    by true lt = rw lt refl
+    by false ge = rw ge (ap (above (b % 128)) (higher-stays 3 l t (at + 1) (λ e. some (rw ge (ap (above (b % 128)) e)))))
+
+pub read-stays : (s t : List ℕ) (at : ℕ) → drop at (s ++ t) ≡ drop at s ++ t → (readAt s at ≡ Ended → ⊥) → readAt (s ++ t) at ≡ readAt s at
+unfolding readAt
+read-stays s t at is some = ap (λ (l : List ℕ). readFrom l at) is ∙ from-stays (drop at s) t at some

@@ -2,6 +2,7 @@ pub mod AgainLaws
 pub mod Back
 pub mod Checked
 pub mod CursorLaws
+pub mod CutOrWrong
 pub mod FieldLaws
 pub mod Filling
 pub mod HeaderLaws

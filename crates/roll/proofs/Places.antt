@@ -93,7 +93,7 @@ boys-broken k l scale s at r p e =
     broken-onward (λ boys next t. countAt t next k l scale boys) s at 0 (mostBoys k l) r p (omega arith) zero-le (count-some k l scale 0)
     (λ boys next is e. count-broken k l scale boys s next r p e) e
 
-term-kept : (k : Kind) (l : ℕ) (s : List ℕ) (at : ℕ) (u : Term) (end : ℕ) → termAt s at k l ≡ got u end → Kept (λ t. termAt t at k l) s at end
+pub term-kept : (k : Kind) (l : ℕ) (s : List ℕ) (at : ℕ) (u : Term) (end : ℕ) → termAt s at k l ≡ got u end → Kept (λ t. termAt t at k l) s at end
 unfolding termAt
 term-kept k l s at u end e = kept-onward (λ scale next t. boysAt t next k l scale) s at 1 mostScale end u (λ scale next is e. boys-kept k l scale s next u end e) e
 
@@ -186,11 +186,11 @@ known (suc (suc (suc zero))) most e = clash (cc)
 known (suc (suc (suc (suc zero)))) most e = clash (cc)
 known (suc (suc (suc (suc (suc n))))) most e = omega (arith, most)
 
-header-kept : (s : List ℕ) (h : Header) (end : ℕ) → headerAt s ≡ got h end → Kept headerAt s 0 end
+pub header-kept : (s : List ℕ) (h : Header) (end : ℕ) → headerAt s ≡ got h end → Kept headerAt s 0 end
 unfolding headerAt
 header-kept s h end e = kept-onward (λ n next t. ofKind t next (kindOf n)) s 0 0 (numberOf Coulomb) end h (λ n next is e. kind-kept (kindOf n) s next h end e) e
 
-header-broken : (s : List ℕ) (r p : ℕ) → headerAt s ≡ refused r p → Broken headerAt s 0 r p
+pub header-broken : (s : List ℕ) (r p : ℕ) → headerAt s ≡ refused r p → Broken headerAt s 0 r p
 unfolding headerAt
 header-broken s r p e =
     broken-onward (λ n next t. ofKind t next (kindOf n)) s 0 0 (numberOf Coulomb) r p (omega arith) zero-le (kind-some Overlap)
@@ -255,7 +255,7 @@ terms-end (suc left) k l s at r p small e = by (termAt s at k l) refl e (λ next
 
 -- ---- the roll
 
-roll-end : (s : List ℕ) (r p : ℕ) → rollAt s ≡ refused r p → Cut rollAt s 0 r p ⊎ Long rollAt s 0 r p
+pub roll-end : (s : List ℕ) (r p : ℕ) → rollAt s ≡ refused r p → Cut rollAt s 0 r p ⊎ Long rollAt s 0 r p
 unfolding rollAt
 roll-end s r p e = by (headerAt s) refl e
   where

@@ -1,0 +1,131 @@
+-- 02, Q-5: cut or wrong? What may be concluded from refusal 14 and from 7, of the header (`open`) and of the whole roll (`check`), over the kind.
+-- A roll that reads, cut anywhere, is refused 14; what is refused 7 stays refused 7 at its place, whatever follows; and no roll begins another.
+use Prim.Native.Nat.{ℕ, zero, suc, zero-le, _+_, _≤_, _<_}
+use mathlib.Core.Path.{_≡_, refl, sym, ap, _∙_}
+use mathlib.Core.Bool.{Bool, true, false, cond}
+use mathlib.Core.List.{List, [], _∷_, _++_, append-assoc}
+use mathlib.Core.Logic.{_⊎_, inl, inr}
+use native.Mathlib.Omega.{arith}
+use borrow.Author.Tests.{ne-eqb, eqb-true, eqb-false}
+use lib.Dec.{eqb}
+use lib.ListN.{length, take, drop, length-take, length-append, take-append-drop}
+use lib.Seq.{length-take-le, take-at, drop-at}
+use Rattle.laws.proofs.Cases.{clash, tested}
+use Rattle.laws.specs.Total.{total}
+use Rattle.kind.specs.declared.Kind.{Kind}
+use Rattle.term.specs.Terms.{Term}
+use Rattle.number.specs.declared.Number.the-variants as number
+use Rattle.number.specs.Numbers.{readAt, refusalOf}
+use Rattle.number.proofs.Reading.{read-stays}
+use Rattle.roll.specs.declared.header.Opening.the-variants as opening
+use Rattle.roll.specs.declared.header.Opened.{Opened}
+use Rattle.roll.specs.Reading.{Reading, got, refused, andThen, before, termAt, termsAt, Header, headerAt, Roll, rollAt}
+use Rattle.roll.specs.Header.{refusedOpened, heldHeader, openOf, judged, checked, checkOf}
+use Rattle.roll.proofs.Filling.{andThen-is}
+use Rattle.roll.proofs.Inside.{term-inside}
+use Rattle.roll.proofs.Mending.{Alike, leads-le, leads-inside, Broken, Cut, Long, made-got}
+use Rattle.roll.proofs.Places.{term-kept, header-kept, header-broken, roll-end, place-inside}
+
+-- ---- bytes after bytes
+
+module _ (s t : List ℕ) (p : ℕ) (inside : p ≤ length s) where
+  parted : s ++ t ≡ take p s ++ (drop p s ++ t)
+  parted = ap (λ (l : List ℕ). l ++ t) (sym (take-append-drop p s)) ∙ append-assoc (take p s) (drop p s) t
+
+  begins-alike : Alike p s (s ++ t)
+  begins-alike = ap (take p) parted ∙ take-at (take p s) (drop p s ++ t) p (length-take-le p s inside)
+
+  drop-more : drop p (s ++ t) ≡ drop p s ++ t
+  drop-more = ap (drop p) parted ∙ drop-at (take p s) (drop p s ++ t) p (length-take-le p s inside)
+
+-- ---- wrong stays wrong
+
+-- what is refused for another reason than its end has a number there, which stays whatever follows
+header-stays : (s t : List ℕ) (r p : ℕ) → (r ≡ refusalOf number.Ended → ⊥) → headerAt s ≡ refused r p → headerAt (s ++ t) ≡ refused r p
+header-stays s t r p other e =
+    let b = header-broken s r p e in
+    let inside : p ≤ length s = leads-inside zero-le (b .leads) in
+    b .same (s ++ t) (begins-alike s t p inside)
+    (read-stays s t p (drop-more s t p inside) (λ ended. other (let m = b .missing s refl ended in cc)))
+
+roll-stays : (s t : List ℕ) (r p : ℕ) → (r ≡ refusalOf number.Ended → ⊥) → rollAt s ≡ refused r p → rollAt (s ++ t) ≡ refused r p
+roll-stays s t r p other e = by (roll-end s r p e)
+  where
+    by : Cut rollAt s 0 r p ⊎ Long rollAt s 0 r p → rollAt (s ++ t) ≡ refused r p
+    by (inl b) =
+        let inside : p ≤ length s = leads-inside zero-le (b .leads) in
+        b .same (s ++ t) (begins-alike s t p inside)
+        (read-stays s t p (drop-more s t p inside) (λ ended. other (let m = b .missing s refl ended in cc)))
+    by (inr b) =
+        let inside : p ≤ length s = leads-inside zero-le (b .leads) in
+        let follow = b .follow in
+        b .more (s ++ t) (begins-alike s t p inside) (λ end. follow (omega (arith, inside, length-append s t)))
+
+-- ---- a roll begins no other
+
+terms-longer : (left : ℕ) (k : Kind) (l : ℕ) (s t : List ℕ) (at : ℕ) (us : List Term) (end : ℕ) → 0 < length t → termsAt s at left k l ≡ got us end → termsAt (s ++ t) at left k l ≡ refused 7 (length s)
+unfolding termsAt
+terms-longer zero k l s t at us end some e = by (eqb at (length s)) refl e
+  where
+    by : (b : Bool) → eqb at (length s) ≡ b → cond {A = Reading (List Term)} b (got [] at) (refused 7 at) ≡ got us end → cond {A = Reading (List Term)} (eqb at (length (s ++ t))) (got [] at) (refused 7 at) ≡ refused 7 (length s)
+    by true is e =
+        let here : at ≡ length s = eqb-true at (length s) is in
+        rw (ne-eqb at (length (s ++ t)) (λ same. omega (arith, here, same, some, length-append s t))) (ap (refused 7) here)
+    by false is e = absurd (clash (cc))
+terms-longer (suc left) k l s t at us end some e =
+    let x = andThen-is (termAt s at k l) (λ u next. before (u ∷ []) (termsAt s next left k l)) us end e in
+    let u = x .0 in
+    let next = x .1 in
+    let kept = term-kept k l s at u next (x .2) in
+    let m = made-got (λ vs. (u ∷ []) ++ vs) (termsAt s next left k l) us end (x .3) in
+    let again : termAt (s ++ t) at k l ≡ got u next = kept .same (s ++ t) (begins-alike s t next (term-inside k l s at u next (x .2))) ∙ x .2 in
+    ap (λ (y : Reading Term). andThen y (λ u next. before (u ∷ []) (termsAt (s ++ t) next left k l))) again
+    ∙ ap (before (u ∷ [])) (terms-longer left k l s t next (m .0) end some (m .1))
+
+roll-longer : (s t : List ℕ) (r : Roll) (end : ℕ) → 0 < length t → rollAt s ≡ got r end → rollAt (s ++ t) ≡ refused 7 (length s)
+unfolding rollAt
+roll-longer s t r end some e =
+    let x = andThen-is (headerAt s) (terms s) r end e in
+    let h = x .0 in
+    let next = x .1 in
+    let kept = header-kept s h next (x .2) in
+    let y = andThen-is (termsAt s next (h .terms) (h .kind) (total (h .orders))) (made h) r end (x .3) in
+    let again : headerAt (s ++ t) ≡ got h next = kept .same (s ++ t) (begins-alike s t next (leads-inside zero-le (kept .leads))) ∙ x .2 in
+    ap (λ (z : Reading Header). andThen z (terms (s ++ t))) again
+    ∙ ap (λ (z : Reading (List Term)). andThen z (made h)) (terms-longer (h .terms) (h .kind) (total (h .orders)) s t next (y .0) (y .1) some (y .2))
+  where
+    made : Header → List Term → ℕ → Reading Roll
+    made h ts end = got (record { kind = h .kind; orders = h .orders; terms = ts }) end
+
+    terms : List ℕ → Header → ℕ → Reading Roll
+    terms t h next = andThen (termsAt t next (h .terms) (h .kind) (total (h .orders))) (λ ts end. got (record { kind = h .kind; orders = h .orders; terms = ts }) end)
+
+-- ---- what a technician may conclude
+
+-- 3: a roll is never a beginning of another roll that reads; the first byte too many is refused 7
+pub begins-no-other : (s t : List ℕ) (r q : Roll) (end last : ℕ) → rollAt s ≡ got r end → rollAt (s ++ t) ≡ got q last → t ≡ []
+begins-no-other s [] r q end last e f = refl
+begins-no-other s (b ∷ t) r q end last e f = let wrong = roll-longer s (b ∷ t) r end (omega arith) e in absurd (clash (cc))
+
+-- refused 14 at a place that is at most so far
+abbrev Ends : ℕ → {A : Type 0} → Reading A → Type 0
+Ends n x = (p : ℕ) × (x ≡ refused 14 p) × (p ≤ n)
+
+-- 1: cut is always 14
+pub roll-cut : (s : List ℕ) (r : Roll) (end n : ℕ) → rollAt s ≡ got r end → n < length s → Ends n (rollAt (take n s))
+roll-cut s r end n e less = by (rollAt (take n s)) refl
+  where
+    whole : take n s ++ drop n s ≡ s
+    whole = take-append-drop n s
+
+    by : (x : Reading Roll) → rollAt (take n s) ≡ x → Ends n (rollAt (take n s))
+    by (got q last) is =
+        let nothing = begins-no-other (take n s) (drop n s) q r last end is (rw whole e) in
+        absurd (omega (arith, less, ap length whole, length-append (take n s) (drop n s), ap length nothing, length-take n s))
+    by (refused q p) is = tested (eqb q 14) on off
+      where
+        on : eqb q 14 ≡ true → Ends n (rollAt (take n s))
+        on t = let same : q ≡ 14 = eqb-true q 14 t in (p, rw same at is, omega (arith, place-inside (take n s) q p is, length-take n s))
+
+        off : eqb q 14 ≡ false → Ends n (rollAt (take n s))
+        off f = let wrong = rw whole at (roll-stays (take n s) (drop n s) q p (eqb-false q 14 f) is) in absurd (clash (cc))
