@@ -21,6 +21,7 @@ use Rattle.roll.specs.declared.header.Opening.the-variants as opening
 use Rattle.roll.specs.declared.header.Opened.{Opened}
 use Rattle.roll.specs.Reading.{Reading, got, refused, andThen, before, termAt, termsAt, Header, headerAt, Roll, rollAt}
 use Rattle.roll.specs.Header.{refusedOpened, heldHeader, openOf, judged, checked, checkOf}
+use Rattle.roll.proofs.Checked.{reads-checked, checked-reads}
 use Rattle.roll.proofs.Filling.{andThen-is}
 use Rattle.roll.proofs.Inside.{term-inside}
 use Rattle.roll.proofs.Mending.{Alike, leads-le, leads-inside, Broken, Cut, Long, made-got}
@@ -129,3 +130,93 @@ roll-cut s r end n e less = by (rollAt (take n s)) refl
 
         off : eqb q 14 ≡ false → Ends n (rollAt (take n s))
         off f = let wrong = rw whole at (roll-stays (take n s) (drop n s) q p (eqb-false q 14 f) is) in absurd (clash (cc))
+
+header-cut : (s : List ℕ) (h : Header) (next n : ℕ) → headerAt s ≡ got h next → n < next → Ends n (headerAt (take n s))
+header-cut s h next n e less = by (headerAt (take n s)) refl
+  where
+    whole : take n s ++ drop n s ≡ s
+    whole = take-append-drop n s
+
+    by : (x : Reading Header) → headerAt (take n s) ≡ x → Ends n (headerAt (take n s))
+    by (got g m) is =
+        let kept = header-kept (take n s) g m is in
+        let inside : m ≤ length (take n s) = leads-inside zero-le (kept .leads) in
+        let again : headerAt s ≡ got g m = rw whole at (kept .same (take n s ++ drop n s) (begins-alike (take n s) (drop n s) m inside) ∙ is) in
+        let same : m ≡ next = cc in
+        absurd (omega (arith, less, inside, same, length-take n s))
+    by (refused q p) is = tested (eqb q 14) on off
+      where
+        on : eqb q 14 ≡ true → Ends n (headerAt (take n s))
+        on t =
+            let same : q ≡ 14 = eqb-true q 14 t in
+            (p, rw same at is, omega (arith, leads-inside {at = 0} zero-le (header-broken (take n s) q p is .leads), length-take n s))
+
+        off : eqb q 14 ≡ false → Ends n (headerAt (take n s))
+        off f = let wrong = rw whole at (header-stays (take n s) (drop n s) q p (eqb-false q 14 f) is) in absurd (clash (cc))
+
+-- ---- as `open` and `check` tell it
+
+-- what `check` refuses is what does not read, and where
+checked-refused : (s : List ℕ) (r p : ℕ) → rollAt s ≡ refused r p → checkOf s ≡ refusedOpened r p
+unfolding rollAt checkOf
+checked-refused s r p e = by-header (headerAt s) refl e
+  where
+    made : Header → List Term → ℕ → Reading Roll
+    made h ts end = got (record { kind = h .kind; orders = h .orders; terms = ts }) end
+
+    by-terms : (h : Header) (next : ℕ) (x : Reading (List Term)) → andThen x (made h) ≡ refused r p → judged (heldHeader (got h next)) x ≡ refusedOpened r p
+    by-terms h next (got ts end) e = absurd (clash (cc))
+    by-terms h next (refused q o) e = let number : q ≡ r = cc in let there : o ≡ p = cc in rw (number, there) refl
+
+    by-header : (x : Reading Header) → headerAt s ≡ x → andThen x (λ h next. andThen (termsAt s next (h .terms) (h .kind) (total (h .orders))) (made h)) ≡ refused r p → checked s x ≡ refusedOpened r p
+    by-header (got h next) is e = by-terms h next (termsAt s next (h .terms) (h .kind) (total (h .orders))) e
+    by-header (refused q o) is e = let number : q ≡ r = cc in let there : o ≡ p = cc in rw (number, there) refl
+
+refused-reads : (s : List ℕ) (r p : ℕ) → checkOf s .found ≡ opening.Refused r p → rollAt s ≡ refused r p
+refused-reads s r p e = by (rollAt s) refl
+  where
+    by : (x : Reading Roll) → rollAt s ≡ x → rollAt s ≡ refused r p
+    by (got q end) is = let reads = reads-checked s q end is .1 in absurd (clash (cc))
+    by (refused q o) is =
+        let told = ap (λ (x : Opened). x .found) (checked-refused s q o is) in
+        let number : q ≡ r = cc in
+        let there : o ≡ p = cc in
+        rw (number, there) at is
+
+-- 1: of a roll that is one, every shorter beginning is refused 14, at a place within it
+pub check-cut : (s : List ℕ) (n : ℕ) → checkOf s .found ≡ opening.Roll → n < length s → (p : ℕ) × (checkOf (take n s) ≡ refusedOpened 14 p) × (p ≤ n)
+check-cut s n found less =
+    let reads = checked-reads s found in
+    let cut = roll-cut s (reads .0) (reads .1) n (reads .2) less in
+    (cut .0, checked-refused (take n s) 14 (cut .0) (cut .1), cut .2)
+
+-- 2: what is refused 7 is refused 7 at the same place whatever bytes are put after it
+pub check-wrong : (s t : List ℕ) (p : ℕ) → checkOf s .found ≡ opening.Refused 7 p → checkOf (s ++ t) ≡ refusedOpened 7 p
+check-wrong s t p found = checked-refused (s ++ t) 7 p (roll-stays s t 7 p (λ e. clash (cc)) (refused-reads s 7 p found))
+
+-- 3: what is a roll begins no other
+pub check-begins-no-other : (s t : List ℕ) → checkOf s .found ≡ opening.Roll → checkOf (s ++ t) .found ≡ opening.Roll → t ≡ []
+check-begins-no-other s t one two =
+    let a = checked-reads s one in
+    let b = checked-reads (s ++ t) two in
+    begins-no-other s t (a .0) (b .0) (a .1) (b .1) (a .2) (b .2)
+
+-- the same of the header: cut before its end it is 14, and wrong stays wrong
+pub open-cut : (s : List ℕ) (n : ℕ) → openOf s .found ≡ opening.Roll → n < openOf s .cursor .place → (p : ℕ) × (openOf (take n s) ≡ refusedOpened 14 p) × (p ≤ n)
+unfolding openOf
+open-cut s n found less = by (headerAt s) refl found less
+  where
+    by : (x : Reading Header) → headerAt s ≡ x → heldHeader x .found ≡ opening.Roll → n < heldHeader x .cursor .place → (p : ℕ) × (heldHeader (headerAt (take n s)) ≡ refusedOpened 14 p) × (p ≤ n)
+    by (got h next) is found less = let cut = header-cut s h next n is less in (cut .0, ap heldHeader (cut .1), cut .2)
+    by (refused r p) is found less = absurd (clash (cc))
+
+pub open-wrong : (s t : List ℕ) (p : ℕ) → openOf s .found ≡ opening.Refused 7 p → openOf (s ++ t) ≡ refusedOpened 7 p
+unfolding openOf
+open-wrong s t p found = by (headerAt s) refl found
+  where
+    by : (x : Reading Header) → headerAt s ≡ x → heldHeader x .found ≡ opening.Refused 7 p → heldHeader (headerAt (s ++ t)) ≡ refusedOpened 7 p
+    by (got h next) is found = absurd (clash (cc))
+    by (refused r o) is found =
+        let number : r ≡ 7 = cc in
+        let there : o ≡ p = cc in
+        ap heldHeader (header-stays s t 7 p (λ e. clash (cc)) (rw (number, there) at is))
