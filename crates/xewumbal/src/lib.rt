@@ -9,7 +9,7 @@ ghost use Rattle.xewumbal.specs.Answers.{prefactorsAnswer, evaluateAnswe
 use kind::Kind;
 
 // Raised when a struct, a meaning or an answer changes. The header and the binding have the same (D-85).
-pub const VERSION: u32 = 1;
+pub const VERSION: u32 = 2;
 
 #[repr(C)]
 pub struct xew_centre {
