@@ -24,7 +24,7 @@ inputsFinite k a b c d aux boys = usedFinite k a b c d && (finite aux && allFini
 unfoldable pub boysCounted : Kind → ℕ → ℕ → Bool
 boysCounted k l count = eqb count (cond (usesBoys k) (l + 1) 0)
 
--- beside a refusal other than 7 the place is 0 (D-2)
+-- beside a refusal other than 7 and 14 the place is 0 (D-2)
 unfoldable pub refusedUnless : Bool → ℕ → Value → Value
 refusedUnless true number v = v
 refusedUnless false number v = Refused number 0

@@ -137,7 +137,7 @@ fn from_cursor(
     }
 }
 
-// The integral of a roll with the host's numbers, or 7 with its place, 8, 9, 10 or 11 (D-62).
+// The integral of a roll with the host's numbers, or 7 or 14 with its place, 8, 9, 10 or 11 (D-62).
 pub fn evaluate(
     roll: &[u8],
     a: Centre,

@@ -8,7 +8,7 @@ use Rattle.kind.specs.Limits.{mostListed}
 use Rattle.roll.specs.Reading.{Reading, got, refused, Roll, rollAt}
 use Rattle.listing.specs.Text.{listingText, refusalText}
 
--- a bad roll is 7 at its place, and nothing else
+-- a bad roll is 7 or 14 at its place, and nothing else
 abbrev pub readOutput : Reading Roll → List ℕ
 readOutput (got r end) = listingText r
 readOutput (refused n place) = refusalText n place

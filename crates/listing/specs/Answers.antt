@@ -24,7 +24,7 @@ pub record TextTold (text before : List ℕ) (start : ℕ) (r : Listed) (after :
   pub answer : r ≡ textAt text before start
   pub out : after ≡ placedWhereFits before start text
 
--- a roll that breaks a rule is 7 with its place
+-- a roll that breaks a rule is 7, one that ends before a number does 14, with the place
 abbrev pub readAnswer : Reading Roll → List ℕ → ℕ → Listed
 readAnswer (got r end) out start = textAt (listingText r) out start
 readAnswer (refused n place) out start = listed.Refused n place

@@ -1,4 +1,4 @@
--- 01, "The roll": the place of refusal 7 is where the number that is missing, cut or wrong begins, or the first byte too many.
+-- 01, "The roll": the place of refusal 7 (since 02, Q-5: and 14) is where the number that is missing, cut or wrong begins, or the first byte too many.
 -- Said of the place alone, so that it can be held against the reading: everything before it is in order, and the fault begins there.
 use Prim.Native.Nat.{ℕ, _≤_, _<_}
 use mathlib.Core.Path.{_≡_}
