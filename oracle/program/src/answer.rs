@@ -44,7 +44,7 @@ pub fn answer_line(line: &[u8], out: &mut Vec<u8>) {
 fn write_refusal(out: &mut Vec<u8>, refusal: Refusal) {
     out.clear();
     write(out, &format!("refused {}", refusal.number));
-    if refusal.number == 7 {
+    if refusal.carries_place() {
         write(out, &format!(" at {}", refusal.place));
     }
 }

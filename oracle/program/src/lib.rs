@@ -1,5 +1,5 @@
 //! The judge: answers the question language from the unchanged Rust and, where the Rust
-//! knows nothing, from a second reading of document 01.
+//! knows nothing, from a second reading of documents 01 and 02.
 
 pub mod answer;
 pub mod diff;

@@ -23,6 +23,10 @@ pub const KINDS: [&str; 11] = [
     "jkl",
 ];
 
+/// From this count on every roll that is tried one by one comes up; below it at most half of the
+/// questions are about these.
+const ALL_TRIED: u64 = 50_000;
+
 /// Writes `count` questions of a kind; false where there is no such kind. `component` has all
 /// 50,625 components of four shells of order 4 on top.
 pub fn write_all(kind: &str, count: u64, seed: u64, out: &mut dyn Write) -> io::Result<bool> {
@@ -35,15 +39,15 @@ pub fn write_all(kind: &str, count: u64, seed: u64, out: &mut dyn Write) -> io::
         }
     }
     let one_by_one = match kind {
-        "list" | "open" | "check" | "next" => rolls::tried_one_by_one(),
+        "list" | "open" | "check" | "next" | "eval" => rolls::tried_one_by_one(),
         _ => Vec::new(),
     };
+    let most_tried = if count < ALL_TRIED { count / 2 } else { count };
     let mut random = Random::new(seed);
     for at in 0..count {
-        // Half of the questions at most are about the small rolls' bytes one by one.
-        let tried = one_by_one.get(at as usize).filter(|_| at < count / 2);
+        let tried = one_by_one.get(at as usize).filter(|_| at < most_tried);
         let mut line = match tried {
-            Some(roll) => about_roll(&mut random, kind, roll),
+            Some(roll) => about_roll(&mut random, kind, roll, Walk::ToTheStop),
             None => match at_a_limit(kind, count - at) {
                 Some(line) => line,
                 None => question(&mut random, kind, at),
@@ -83,7 +87,7 @@ fn question(random: &mut Random, kind: &str, at: u64) -> Vec<u8> {
         "component" => component(random),
         "list" | "open" | "check" | "next" => {
             let roll = rolls::any(random);
-            about_roll(random, kind, &roll)
+            about_roll(random, kind, &roll, Walk::Anywhere)
         }
         "eval" => eval(random),
         "table" => table(random),
@@ -98,9 +102,17 @@ fn question(random: &mut Random, kind: &str, at: u64) -> Vec<u8> {
     }
 }
 
-fn about_roll(random: &mut Random, kind: &str, roll: &[u8]) -> Vec<u8> {
+/// Where the cursor of a question stands: where the reading stops, or anywhere, forged or not.
+#[derive(Clone, Copy, PartialEq)]
+enum Walk {
+    ToTheStop,
+    Anywhere,
+}
+
+fn about_roll(random: &mut Random, kind: &str, roll: &[u8], walk: Walk) -> Vec<u8> {
     match kind {
-        "next" => next(random, roll),
+        "next" => next(random, roll, walk),
+        "eval" => eval_of(random, roll, Taste::Ordinary, true),
         _ => with_roll(kind, roll),
     }
 }
@@ -193,7 +205,7 @@ fn roll_length(kind: u8, orders: &[u8; 12]) -> u64 {
 }
 
 /// A cursor that comes from reading, or a forged one.
-fn next(random: &mut Random, roll: &[u8]) -> Vec<u8> {
+fn next(random: &mut Random, roll: &[u8], walk: Walk) -> Vec<u8> {
     let length = roll.len() as u64;
     let (mut kind, mut l, mut left, mut place) = match second::open(roll) {
         Ok(header) => {
@@ -204,6 +216,7 @@ fn next(random: &mut Random, roll: &[u8]) -> Vec<u8> {
                 place: header.place as u64,
             };
             let steps = match random.below(4) {
+                _ if walk == Walk::ToTheStop => u64::from(header.count),
                 0 => u64::from(header.count),
                 1 => 0,
                 _ => random.below(u64::from(header.count) + 1),
@@ -228,7 +241,7 @@ fn next(random: &mut Random, roll: &[u8]) -> Vec<u8> {
             random.below(length + 1),
         ),
     };
-    if random.once_in(2) {
+    if walk == Walk::Anywhere && random.once_in(2) {
         match random.below(5) {
             0 => kind = random.one_of(&[0, 1, 2, 3, 4, 5, 6, 128, 255]),
             1 => l = random.one_of(&[0, 1, 7, 8, 9, 11, 12, 13, 15, 16, 17, 128, 255]),
@@ -269,13 +282,18 @@ fn eval(random: &mut Random) -> Vec<u8> {
     if way <= 10 && random.once_in(2) {
         taste = Taste::Ordinary;
     }
-    let (kind, l) = match second::open(&roll) {
+    eval_of(random, &roll, taste, way <= 10)
+}
+
+/// An evaluation of a roll, mostly with the Rust's own aux where that is wanted.
+fn eval_of(random: &mut Random, roll: &[u8], taste: Taste, own: bool) -> Vec<u8> {
+    let (kind, l) = match second::open(roll) {
         Ok(header) => (header.kind, header.l),
         Err(_) => (random.below(5) as u8, random.below(17) as u8),
     };
     let centres = floats::centres_for(random, taste, kind);
     let own_aux = rust_side::aux(kind, &centres);
-    let aux = if way <= 10 && !random.once_in(5) {
+    let aux = if own && !random.once_in(5) {
         own_aux
     } else {
         floats::float(random, taste)
@@ -290,7 +308,7 @@ fn eval(random: &mut Random) -> Vec<u8> {
         2 => random.index(20),
         _ => right,
     };
-    let mut line = with_roll("eval", &roll);
+    let mut line = with_roll("eval", roll);
     append_centres(random, &mut line, &centres);
     append_float(random, &mut line, aux);
     let boys_taste = if random.once_in(2) {

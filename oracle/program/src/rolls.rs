@@ -288,9 +288,36 @@ const SMALL: [(u8, [u8; 12]); 5] = [
     (4, [0, 0, 0, 0, 0, 0, 1, 0, 0, 0, 0, 0]),
 ];
 
-/// Each small roll, cut at each place, and with each byte set to each value.
+/// What is cut everywhere: this many rolls, none longer than this. They are the same in every run.
+const CUT: usize = 200;
+const LONGEST_CUT: usize = 64;
+
+/// Rolls to be cut: fresh and legal ones, and some that a number spoils.
+pub fn to_be_cut() -> Vec<Vec<u8>> {
+    let mut random = Random::new(5);
+    let mut rolls = Vec::new();
+    while rolls.len() < CUT {
+        let roll = match rolls.len() % 5 {
+            0 | 1 => fresh(&mut random),
+            2 | 3 => legal(&mut random),
+            _ => one_long_number(&mut random),
+        };
+        if roll.len() <= LONGEST_CUT {
+            rolls.push(roll);
+        }
+    }
+    rolls
+}
+
+/// Each roll to be cut, cut at each place; each small roll, cut at each place, and with each
+/// byte set to each value.
 pub fn tried_one_by_one() -> Vec<Vec<u8>> {
     let mut rolls = Vec::new();
+    for roll in to_be_cut() {
+        for cut in 0..roll.len() {
+            rolls.push(roll[..cut].to_vec());
+        }
+    }
     for (kind, orders) in &SMALL {
         let roll = rust_side::roll(*kind, orders);
         for cut in 0..=roll.len() {

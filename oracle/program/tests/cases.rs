@@ -1,6 +1,8 @@
-//! Document 01's cases, and the lines that are no question.
+//! Document 01's cases, those of 02, and the lines that are no question.
 
 use oracle::answer::answer_line;
+use oracle::rolls;
+use oracle::second::{check, read_number, Unread};
 
 fn ask(question: &str) -> String {
     let mut answer = Vec::new();
@@ -121,10 +123,10 @@ fn reading() {
         ("open 8000", "refused 7 at 0"),
         ("check 8000", "refused 7 at 0"),
         ("list 8000", "refused 7 at 0"),
-        ("open -", "refused 7 at 0"),
+        ("open -", "refused 14 at 0"),
         ("open 05", "refused 7 at 0"),
         ("open 0000000000000001", "opened 0 0 1 0 0 0 0 0 0 place 8"),
-        ("check 0000000000000001", "refused 7 at 8"),
+        ("check 0000000000000001", "refused 14 at 8"),
         (
             "check 0000000000000001010000",
             "opened 0 0 1 0 0 0 0 0 0 place 8",
@@ -145,6 +147,8 @@ fn reading() {
         ("next 0 0 1 8 0000000000000001010000", "term 1 0 next 11 0"),
         ("next 0 0 0 11 0000000000000001010000", "end"),
         ("next 0 0 0 10 0000000000000001010000", "refused 7 at 10"),
+        ("next 0 0 1 11 0000000000000001010000", "refused 14 at 11"),
+        ("next 0 0 1 12 0000000000000001010000", "refused 7 at 12"),
         ("next 0 0 0 12 0000000000000001010000", "refused 7 at 12"),
         ("next 5 0 0 11 0000000000000001010000", "refused 7 at 11"),
         ("next 0 9 0 11 0000000000000001010000", "refused 7 at 11"),
@@ -152,6 +156,99 @@ fn reading() {
     for (question, expected) in cases {
         assert_eq!(ask(question), expected, "{}", question);
     }
+}
+
+/// the three things that the reader of one number tells apart.
+#[test]
+fn the_reader_of_one_number() {
+    let large = [0xff, 0xff, 0xff, 0xff];
+    let with = |fifth: &[u8]| [&large[..], fifth].concat();
+    let cases = [
+        (vec![], Err(Unread::Ended)),
+        (vec![0x80], Err(Unread::Ended)),
+        (large.to_vec(), Err(Unread::Ended)),
+        (vec![0x80, 0], Err(Unread::NotShortest)),
+        (vec![0x80, 0x80, 0x80, 0x80, 0], Err(Unread::NotShortest)),
+        (with(&[15]), Ok((u32::MAX, 5))),
+        (with(&[16]), Err(Unread::TooLarge)),
+        (with(&[0x80]), Err(Unread::TooLarge)),
+        (with(&[0x90]), Err(Unread::TooLarge)),
+        (with(&[0x90, 0]), Err(Unread::TooLarge)),
+        (vec![0x80, 1, 0xff], Ok((128, 2))),
+    ];
+    for (bytes, expected) in cases {
+        assert_eq!(read_number(&bytes), expected, "{:?}", bytes);
+    }
+}
+
+/// everything that reads a roll says 14 where the input ended, 7 else, at the same place.
+#[test]
+fn cut_or_wrong() {
+    let floats = " 3ff0000000000000".repeat(17);
+    let whole = "0000000000000001010000";
+    let cases = [
+        ("-", "14 at 0"),
+        ("80", "14 at 0"),
+        ("8000", "7 at 0"),
+        ("ffffffff", "14 at 0"),
+        ("ffffffff90", "7 at 0"),
+        ("ffffffff80", "7 at 0"),
+        ("ffffffff0f", "7 at 0"),
+        ("05", "7 at 0"),
+        ("0001", "14 at 2"),
+        ("0000000000000081", "14 at 7"),
+        ("0000000000000080808000", "7 at 7"),
+    ];
+    for (roll, expected) in cases {
+        let expected = format!("refused {}", expected);
+        for word in ["open", "check", "list"] {
+            assert_eq!(ask(&format!("{} {}", word, roll)), expected, "{}", roll);
+        }
+        assert_eq!(ask(&format!("eval {}{}", roll, floats)), expected);
+    }
+    // What follows a whole roll stays 7, and so does a term's number beyond its limit.
+    let terms = [
+        (format!("{}80", whole), "7 at 11"),
+        (whole[..20].to_string(), "14 at 10"),
+        (format!("{}8080", &whole[..16]), "14 at 8"),
+        (format!("{}808000", &whole[..16]), "7 at 8"),
+        (format!("{}ffffffff90", &whole[..16]), "7 at 8"),
+        (format!("{}02", &whole[..20]), "7 at 10"),
+    ];
+    for (roll, expected) in terms {
+        let expected = format!("refused {}", expected);
+        assert!(ask(&format!("open {}", roll)).starts_with("opened"));
+        for word in ["check", "list"] {
+            assert_eq!(ask(&format!("{} {}", word, roll)), expected, "{}", roll);
+        }
+        assert_eq!(ask(&format!("eval {}{}", roll, floats)), expected);
+    }
+    assert_eq!(ask("next 0 0 1 0 -"), "refused 14 at 0");
+    assert_eq!(ask("next 0 0 1 0 80"), "refused 14 at 0");
+    assert_eq!(ask("next 0 0 1 0 8000"), "refused 7 at 0");
+    assert_eq!(ask("next 0 0 1 1 -"), "refused 7 at 1");
+    assert_eq!(ask("next 5 0 1 0 -"), "refused 7 at 0");
+    assert_eq!(ask("next 0 0 1 1 0101"), "refused 14 at 2");
+}
+
+/// A roll that reads is refused by 14 at each cut, where the number begins that the cut leaves out
+/// or parts.
+#[test]
+fn each_cut_of_a_good_roll_is_14() {
+    let mut good = 0;
+    for roll in rolls::to_be_cut() {
+        if check(&roll).is_err() {
+            continue;
+        }
+        good += 1;
+        for cut in 0..roll.len() {
+            let refused = check(&roll[..cut]).expect_err("a cut roll does not read");
+            let parted = roll[..cut].iter().rev().take_while(|&&b| b > 127).count();
+            let expected = (14, (cut - parted) as u64);
+            assert_eq!((refused.number, refused.place), expected, "{:?}", roll);
+        }
+    }
+    assert_eq!(good, 160);
 }
 
 #[test]

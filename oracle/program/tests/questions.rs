@@ -2,7 +2,9 @@
 
 use oracle::answer::answer_all;
 use oracle::diff::class;
+use oracle::parse::write_roll;
 use oracle::questions::{write_all, write_every_request, KINDS};
+use oracle::rolls::{to_be_cut, tried_one_by_one};
 use std::collections::BTreeSet;
 
 fn questions(kind: &str, count: u64, seed: u64) -> Vec<u8> {
@@ -37,9 +39,9 @@ fn every_kind_of_answer_comes_up() {
                 "refused  5",
                 "refused  6",
             ],
-            "list" => &["listing", "refused  6", "refused  7"],
-            "open" | "check" => &["opened", "refused  7"],
-            "next" => &["term", "end", "refused  7"],
+            "list" => &["listing", "refused  6", "refused  7", "refused 14"],
+            "open" | "check" => &["opened", "refused  7", "refused 14"],
+            "next" => &["term", "end", "refused  7", "refused 14"],
             "eval" => &[
                 "value",
                 "refused  7",
@@ -47,6 +49,7 @@ fn every_kind_of_answer_comes_up() {
                 "refused  9",
                 "refused 10",
                 "refused 11",
+                "refused 14",
             ],
             "table" => &[
                 "table",
@@ -66,6 +69,22 @@ fn every_kind_of_answer_comes_up() {
         let both = ["?", "the same line"];
         let expected = expected.iter().chain(&both).map(|word| word.to_string());
         assert_eq!(found, expected.collect(), "{}", kind);
+    }
+}
+
+/// checks/questions counts on this number.
+#[test]
+fn rolls_that_are_tried_one_by_one() {
+    let tried = tried_one_by_one();
+    let cut: usize = to_be_cut().iter().map(Vec::len).sum();
+    assert_eq!((to_be_cut().len(), cut), (200, 6_657));
+    assert_eq!(tried.len(), cut + 22_364);
+    let asked = questions("check", 50_000, 1);
+    let mut line = b"check ".to_vec();
+    for (asked, roll) in lines(&asked).into_iter().zip(&tried) {
+        line.truncate(6);
+        write_roll(&mut line, roll);
+        assert!(asked == line);
     }
 }
 

@@ -111,7 +111,7 @@ fn check_exponents(kind: u8, centres: &[Centre; 4]) -> Result<(), Refusal> {
     Ok(())
 }
 
-/// Evaluation after 7: 8, 9, 10. 11 is for geometry, table and result.
+/// Evaluation after 7 and 14: 8, 9, 10. 11 is for geometry, table and result.
 pub fn check_evaluation(
     header: &Header,
     centres: &[Centre; 4],

@@ -1,4 +1,4 @@
-//! A second, independent reading of document 01, in plain Rust.
+//! A second, independent reading of documents 01 and 02, in plain Rust.
 //!
 //! Everything that os86.rs, shell.rs and basis.rs do not know stands here: limits and
 //! refusals, the roll and its reader, the cursor, the listing, the capped count of histories
@@ -19,5 +19,5 @@ pub use geometry::geometry_and_table;
 pub use limits::{orders_used, table_size, MOST_TERMS};
 pub use listing::listing;
 pub use refusal::{refusal, Refusal};
-pub use roll::{check, next, open, write_number, write_roll, Header, Step};
+pub use roll::{check, next, open, read_number, write_number, write_roll, Header, Step, Unread};
 pub use steps::{count_histories, terms, Term};

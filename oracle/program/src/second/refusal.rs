@@ -1,6 +1,6 @@
 //! A refusal: its number and its place.
 
-/// A refusal's number, and the place that 7 carries.
+/// A refusal's number, and the place that 7 and 14 carry.
 #[derive(Clone, Copy, Debug, PartialEq)]
 pub struct Refusal {
     pub number: u8,
@@ -12,9 +12,24 @@ pub fn refusal(number: u8) -> Refusal {
     Refusal { number, place: 0 }
 }
 
+/// 7: a rule of the roll is broken.
 pub fn fault(place: usize) -> Refusal {
     Refusal {
         number: 7,
         place: place as u64,
+    }
+}
+
+/// 14: the roll ends before a number does.
+pub fn cut(place: usize) -> Refusal {
+    Refusal {
+        number: 14,
+        place: place as u64,
+    }
+}
+
+impl Refusal {
+    pub fn carries_place(self) -> bool {
+        self.number == 7 || self.number == 14
     }
 }

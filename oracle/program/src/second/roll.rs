@@ -2,7 +2,7 @@
 
 use super::limits::{most_boys, most_l, most_prefactors, orders_used, table_size};
 use super::limits::{MOST_SCALE, MOST_TERMS, ORDER_SUM};
-use super::refusal::{fault, Refusal};
+use super::refusal::{cut, fault, Refusal};
 use super::steps::Term;
 use crate::parse::Cursor;
 
@@ -37,7 +37,7 @@ pub fn write_roll(kind: u8, orders: &[u8; 12], terms: &[Term]) -> Vec<u8> {
     out
 }
 
-/// Reads numbers one after another; the place of a fault is where the number begins.
+/// Reads numbers one after another; the place of a refusal is where the number begins.
 struct Reader<'a> {
     roll: &'a [u8],
     place: usize,
@@ -47,11 +47,12 @@ impl<'a> Reader<'a> {
     /// A number from `least` to `most`.
     fn number(&mut self, least: u32, most: u32) -> Result<u32, Refusal> {
         match read_number(&self.roll[self.place..]) {
-            Some((number, length)) if (least..=most).contains(&number) => {
+            Ok((number, length)) if (least..=most).contains(&number) => {
                 self.place += length;
                 Ok(number)
             }
-            _ => Err(fault(self.place)),
+            Err(Unread::Ended) => Err(cut(self.place)),
+            Ok(_) | Err(Unread::NotShortest) | Err(Unread::TooLarge) => Err(fault(self.place)),
         }
     }
 
@@ -71,23 +72,33 @@ impl<'a> Reader<'a> {
     }
 }
 
-/// The number at the beginning and its length; None where the bytes end before it does,
-/// where it is not the shortest form or where it is 2^32 and above.
-fn read_number(bytes: &[u8]) -> Option<(u32, usize)> {
+/// Why there is no number, the three things that 02 tells apart.
+#[derive(Clone, Copy, Debug, PartialEq)]
+pub enum Unread {
+    /// The input ended before the number did.
+    Ended,
+    NotShortest,
+    /// 2^32 and above.
+    TooLarge,
+}
+
+/// The number at the beginning and its length. At most five bytes belong to it: a fifth above
+/// 15, its high bit included, is 2^32 and above whatever follows.
+pub fn read_number(bytes: &[u8]) -> Result<(u32, usize), Unread> {
     let mut number = 0;
     for (at, &byte) in bytes.iter().enumerate() {
         if at == 4 && byte > 15 {
-            return None;
+            return Err(Unread::TooLarge);
         }
         number |= u32::from(byte & 127) << (7 * at);
         if byte < 128 {
             if at > 0 && byte == 0 {
-                return None;
+                return Err(Unread::NotShortest);
             }
-            return Some((number, at + 1));
+            return Ok((number, at + 1));
         }
     }
-    None
+    Err(Unread::Ended)
 }
 
 /// What a header says, and the place after it.
