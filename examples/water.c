@@ -42,6 +42,7 @@ static void accept(uint8_t refusal, size_t place)
         "a used exponent is 0 or less", "Boys numbers are not exactly L+1 (kinds 2, 4) or 0 (others)",
         "a geometry number, table entry or result is not finite",
         "matrix size out of range, or a slice length wrong for it", "component number not below the count",
+        "the roll ends before a number does; carries the place",
     };
     if (refusal == 0) return;
     fprintf(stderr, "water: refused %d, place %zu: %s\n", refusal, place, words[refusal]);

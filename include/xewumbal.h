@@ -6,9 +6,9 @@
  * of length 0 may have a null pointer; a pointer with no length beside it must point to what it says.
  *
  * Every call answers every input. refusal is 0 for success, or one of these numbers; beside a refusal every other
- * number and array of the answer is 0 (7 also has its place), and no lent byte or float has changed. On success only
- * the bytes or floats of the output itself change. Where several refusals apply, the one told is the first in the order
- * that stands at the call.
+ * number and array of the answer is 0 (7 and 14 also have their place), and no lent byte or float has changed. On
+ * success only the bytes or floats of the output itself change. Where several refusals apply, the one told is the
+ * first in the order that stands at the call; 7 and 14 never apply at once.
  *
  *    1  kind above 4
  *    2  an order sum the kind uses, or a shell's order, above 4
@@ -23,8 +23,10 @@
  *   11  a geometry number, table entry or result is not finite
  *   12  matrix size out of range, or a slice length wrong for it
  *   13  component number not below the count
+ *   14  the roll ends before a number does; carries the place
  *
- * These are the words of docs/01-scope.md, which has the rules of a roll; the listing is not exported.
+ * These are the words of docs/01-scope.md, which has the rules of a roll, and for 14 of docs/requests/Q-5.md; the
+ * listing is not exported.
  *
  * Kinds: 0 overlap, 1 kinetic, 2 nuclear, 3 moment, 4 Coulomb. Orders stand by centre, x y z each: A, B; for kind 3
  * then the operator; for kind 4 then C, D. L is the sum of all orders. docs/01-scope.md defines terms and rolls.
@@ -40,7 +42,7 @@ extern "C" {
 #endif
 
 /* Raised when a struct, a meaning or an answer changes. */
-#define XEW_VERSION 1
+#define XEW_VERSION 2
 
 #define XEW_KINDS 5           /* kinds are 0 to 4 */
 #define XEW_ORDERS 12         /* orders of a request */
@@ -120,22 +122,23 @@ xew_component xew_shell2(uint8_t a, uint8_t b, uint32_t number);
 /* A component of four shells. Refusals: 2, 13. */
 xew_component xew_shell4(uint8_t a, uint8_t b, uint8_t c, uint8_t d, uint32_t number);
 
-/* The header of a roll alone: it says nothing of the terms. roll is exactly the roll's bytes. Refusal: 7. */
+/* The header of a roll alone: it says nothing of the terms. roll is exactly the roll's bytes. Refusals: 7 or 14. */
 xew_opened xew_open(const uint8_t *roll, size_t roll_len);
 
 /* The whole roll judged: the same answer as xew_open where every term reads and nothing follows. Call it before
- * stepping through a roll that came from elsewhere, or summing over one: an unfinished roll opens. Refusal: 7. */
+ * stepping through a roll that came from elsewhere, or summing over one: an unfinished roll opens. 14 says that the
+ * roll may still be on its way, 7 that it is bad whatever follows. Refusals: 7 or 14. */
 xew_opened xew_check(const uint8_t *roll, size_t roll_len);
 
 /* The term at a cursor of xew_open or xew_check, and the cursor for the next call. A cursor that was made up is
- * answered too: by what stands at its place, or by 7. Refusal: 7. */
+ * answered too: by what stands at its place, or by 7. Refusals: 7 or 14. */
 xew_step xew_next(xew_cursor cursor, const uint8_t *roll, size_t roll_len);
 
 /* The prefactor table of a kind, as the sums use it. Refusals: 1, 8, 9, 11. */
 xew_table xew_prefactors(uint8_t kind, xew_centre a, xew_centre b, xew_centre c, xew_centre d);
 
 /* The integral over a roll, which is judged whole first. aux is the factor of every term (Coulomb: s); boys are F(0) to
- * F(L) for kinds 2 and 4, and none for the others. Refusals: 7, 8, 9, 10, 11. */
+ * F(L) for kinds 2 and 4, and none for the others. Refusals: 7 or 14, 8, 9, 10, 11. */
 xew_value xew_evaluate(const uint8_t *roll, size_t roll_len, xew_centre a, xew_centre b, xew_centre c, xew_centre d,
                        double aux, const double *boys, size_t boys_len);
 

@@ -30,7 +30,7 @@ pub use raw::{Centre, Cursor};
 pub use refusal::Refusal;
 
 /// The version of include/xewumbal.h.
-pub const VERSION: u32 = 1;
+pub const VERSION: u32 = 2;
 
 /// Kinds are 0 to 4.
 pub const KINDS: u8 = 5;
@@ -95,7 +95,7 @@ pub enum Opened {
     /// The cursor at the first term, and the roll's orders, zeros after those that its kind uses.
     #[allow(missing_docs)]
     Roll { cursor: Cursor, orders: [u8; ORDERS] },
-    /// By 7.
+    /// By 7 or 14.
     Refused(Refusal),
 }
 
@@ -125,7 +125,7 @@ pub enum Step {
     Term { term: Term, next: Cursor },
     /// No term is left, and nothing follows.
     End,
-    /// By 7.
+    /// By 7 or 14.
     Refused(Refusal),
 }
 
@@ -143,7 +143,7 @@ pub enum Table {
 pub enum Value {
     /// The integral.
     Is(f64),
-    /// By 7, 8, 9, 10 or 11.
+    /// By 7 or 14, 8, 9, 10 or 11.
     Refused(Refusal),
 }
 
@@ -204,7 +204,8 @@ pub fn open(roll: &[u8]) -> Opened {
 }
 
 /// Judges the whole roll: the same answer as [`open`] where every term reads and nothing follows. Call it before
-/// stepping through a roll that came from elsewhere, or summing over one: an unfinished roll opens.
+/// stepping through a roll that came from elsewhere, or summing over one: an unfinished roll opens. 14 says that the
+/// roll may still be on its way, 7 that it is bad whatever follows.
 pub fn check(roll: &[u8]) -> Opened {
     opened(raw::check(roll))
 }

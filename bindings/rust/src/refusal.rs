@@ -1,4 +1,4 @@
-//! The thirteen refusals, by document 01's numbers and words (D-86).
+//! The refusals, by the numbers and words of documents 01 and 02 (D-86).
 use core::fmt;
 
 /// Why a call refused. Nothing that was lent has changed then.
@@ -10,7 +10,7 @@ pub enum Refusal {
     TooManyTerms,
     StartBeyondEnd,
     NoRoom,
-    /// The place in the roll of the number that is missing, cut or wrong, or of the first byte too many.
+    /// The place in the roll of the number that is wrong, or of the first byte too many.
     BadRoll {
         place: usize,
     },
@@ -20,15 +20,19 @@ pub enum Refusal {
     ResultNotFinite,
     MatrixSize,
     ComponentNumber,
+    /// The place in the roll of the number that is missing or cut.
+    CutRoll {
+        place: usize,
+    },
 }
 
 impl Refusal {
-    /// Document 01's number.
+    /// Its number in document 01 or 02.
     pub const fn number(self) -> u8 {
         self.both().0
     }
 
-    /// Document 01's words.
+    /// Its words there.
     pub const fn words(self) -> &'static str {
         self.both().1
     }
@@ -50,6 +54,7 @@ impl Refusal {
             Refusal::ResultNotFinite => (11, "a geometry number, table entry or result is not finite"),
             Refusal::MatrixSize => (12, "matrix size out of range, or a slice length wrong for it"),
             Refusal::ComponentNumber => (13, "component number not below the count"),
+            Refusal::CutRoll { .. } => (14, "the roll ends before a number does; carries the place"),
         }
     }
 
@@ -70,6 +75,7 @@ impl Refusal {
             11 => Refusal::ResultNotFinite,
             12 => Refusal::MatrixSize,
             13 => Refusal::ComponentNumber,
+            14 => Refusal::CutRoll { place },
             _ => panic!("libxewumbal.a is not of this binding's version: refusal {number}"),
         })
     }

@@ -1,4 +1,4 @@
-//! The binding's answers are document 01's.
+//! The binding's answers are those of documents 01 and 02.
 use xewumbal::*;
 
 const HEADER: &str = include_str!("../../../include/xewumbal.h");
@@ -70,14 +70,55 @@ fn open_and_check() {
     assert_eq!(check(&ROLL), Opened::Roll { cursor, orders: ROLL_ORDERS });
     assert_eq!(open(&ROLL), check(&ROLL));
     assert_eq!(open(&ROLL[..16]), open(&ROLL));
-    assert_eq!(check(&ROLL[..16]), Opened::Refused(Refusal::BadRoll { place: 16 }));
+    assert_eq!(check(&ROLL[..16]), Opened::Refused(Refusal::CutRoll { place: 16 }));
     assert_eq!(check(&[0x80, 0]), Opened::Refused(Refusal::BadRoll { place: 0 }));
+}
+
+/// Every byte of the roll is a number, so a cut roll is refused where it ends.
+#[test]
+fn each_cut_of_a_roll() {
+    for cut in 0..ROLL.len() {
+        let (roll, cut_there) = (&ROLL[..cut], Refusal::CutRoll { place: cut });
+        assert_eq!(check(roll), Opened::Refused(cut_there));
+        assert_eq!(evaluate(roll, UNIT, UNIT, UNIT, UNIT, 1.0, &[]), Value::Refused(cut_there));
+        match open(roll) {
+            Opened::Roll { mut cursor, .. } => {
+                assert!(cut >= 8);
+                while let Step::Term { next, .. } = cursor.next(roll) {
+                    cursor = next;
+                }
+                assert_eq!(cursor.next(roll), Step::Refused(cut_there));
+            }
+            Opened::Refused(refusal) => assert_eq!((refusal, cut < 8), (cut_there, true)),
+        }
+    }
+}
+
+#[test]
+fn cut_or_wrong() {
+    let (cut, wrong) = (Refusal::CutRoll { place: 0 }, Refusal::BadRoll { place: 0 });
+    let cases: [(&[u8], Refusal); 6] = [
+        (&[], cut),
+        (&[0x80], cut),
+        (&[0x80, 0], wrong),
+        (&[0xff; 4], cut),
+        (&[0xff, 0xff, 0xff, 0xff, 0x90], wrong),
+        (&[0xff; 6], wrong),
+    ];
+    for (roll, expected) in cases {
+        assert_eq!(open(roll), Opened::Refused(expected), "{roll:?}");
+        assert_eq!(check(roll), Opened::Refused(expected), "{roll:?}");
+        assert_eq!(Cursor { place: 0, left: 1, kind: OVERLAP, l: 0 }.next(roll), Step::Refused(expected), "{roll:?}");
+    }
+    let too_many = [&ROLL[..], &[0x80]].concat();
+    assert_eq!(check(&too_many), Opened::Refused(Refusal::BadRoll { place: 17 }));
 }
 
 #[test]
 fn a_cursor_that_was_made_up() {
     let made_up = |place, left, kind| Cursor { place, left, kind, l: 2 }.next(&ROLL);
     assert_eq!(made_up(18, 1, OVERLAP), Step::Refused(Refusal::BadRoll { place: 18 }));
+    assert_eq!(made_up(17, 1, OVERLAP), Step::Refused(Refusal::CutRoll { place: 17 }));
     assert_eq!(made_up(16, 0, OVERLAP), Step::Refused(Refusal::BadRoll { place: 16 }));
     assert_eq!(made_up(3, 1, 5), Step::Refused(Refusal::BadRoll { place: 3 }));
     assert_eq!(made_up(17, 0, OVERLAP), Step::End);
@@ -127,7 +168,7 @@ macro_rules! refusal {
 }
 
 /// A call for each refusal.
-fn refusals() -> [(u8, Refusal); 13] {
+fn refusals() -> [(u8, Refusal); 14] {
     let mut room = [UNTOUCHED; 10];
     let mut request = |kind, orders, start| refusal!(Expanded, expand(kind, &orders, &mut room, start));
     let sum = |roll, a, boys| refusal!(Value, evaluate(roll, a, UNIT, UNIT, UNIT, 1.0, boys));
@@ -138,13 +179,14 @@ fn refusals() -> [(u8, Refusal); 13] {
         (4, request(COULOMB, [4, 0, 0, 4, 0, 0, 4, 0, 0, 4, 0, 0], 0)),
         (5, request(OVERLAP, [0; ORDERS], 11)),
         (6, request(OVERLAP, [0; ORDERS], 10)),
-        (7, sum(&ROLL[..16], UNIT, &[])),
+        (7, sum(&[5], UNIT, &[])),
         (8, sum(&ROLL, Centre { x: f64::NAN, ..UNIT }, &[])),
         (9, sum(&ROLL, Centre { exponent: -0.0, ..UNIT }, &[])),
         (10, sum(&ROLL, UNIT, &[1.0])),
         (11, sum(&ROLL, Centre { x: 1e155, ..UNIT }, &[])),
         (12, refusal!(Matrices, jk(0, &[], &[], &mut [], &mut []))),
         (13, refusal!(Component, shell2(0, 0, 1))),
+        (14, sum(&ROLL[..16], UNIT, &[])),
     ];
     assert_eq!(room, [UNTOUCHED; 10]);
     found
@@ -157,7 +199,8 @@ fn each_refusal_comes_up_with_the_words_of_the_header() {
         assert!(HEADER.contains(&format!("\n *   {number:2}  {refusal}\n")), "{number} {refusal}");
         assert_eq!(refusal.words(), refusal.to_string());
     }
-    assert_eq!(refusals()[6].1, Refusal::BadRoll { place: 16 });
+    assert_eq!(refusals()[6].1, Refusal::BadRoll { place: 0 });
+    assert_eq!(refusals()[13].1, Refusal::CutRoll { place: 16 });
 }
 
 #[test]
@@ -169,6 +212,6 @@ fn the_other_ways_to_refuse() {
     assert_eq!(room, [UNTOUCHED; 18]);
     assert_eq!(prefactors(5, UNIT, UNIT, UNIT, UNIT), Table::Refused(Refusal::Kind));
     assert_eq!(shell4(4, 4, 4, 4, 50625), Component::Refused(Refusal::ComponentNumber));
-    assert_eq!(open(&[]), Opened::Refused(Refusal::BadRoll { place: 0 }));
+    assert_eq!(open(&[]), Opened::Refused(Refusal::CutRoll { place: 0 }));
     assert_eq!(expand(OVERLAP, &[0; ORDERS], &mut [], 0), Expanded::Refused(Refusal::NoRoom));
 }
