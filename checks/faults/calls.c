@@ -157,6 +157,9 @@ static void play(void)
     try_evaluate(roll, checked);
     try_evaluate(roll, checked);
 
+    if (once_in(100))
+        try_cuts(bytes, good_roll(bytes, 400));
+
     const struct request *known = known_request();
     size_t need = known->length;
     size_t length = (size_t[]){ need, need, need + below(200), need - 1, below(need), 0, 1 }[below(7)];

@@ -1,5 +1,5 @@
-/* What a call must answer, by docs/01-scope.md alone: everything but the terms of an expansion, the floats of a result
- * and whether they are finite. */
+/* What a call must answer, by docs/01-scope.md and docs/02-change-requests.md alone: everything but the terms of an
+ * expansion, the floats of a result and whether they are finite. */
 #include "faults.h"
 #include <math.h>
 #include <string.h>
@@ -52,22 +52,25 @@ xew_component expected_component(const uint8_t *shells, int count, uint32_t numb
     return answer;
 }
 
-/* Reads a number and moves on; stays where it is and answers false if there is none from least to most. */
-static bool number(const uint8_t *roll, size_t length, size_t *at, uint64_t least, uint64_t most, uint64_t *value)
+/* Reads a number from least to most and moves on. Where there is none it stays, and answers 14 if the roll ends before
+ * the number does, else 7: not the shortest form, 2^32 and above (a fifth byte above 15), or out of the limits. */
+static uint8_t number(const uint8_t *roll, size_t length, size_t *at, uint64_t least, uint64_t most, uint64_t *value)
 {
     uint64_t sum = 0;
-    for (size_t i = 0; i < 5 && i < length - *at; i++) {
+    for (size_t i = 0; i < length - *at; i++) {
         uint8_t byte = roll[*at + i];
+        if (i == 4 && byte > 15)
+            return 7;
         sum += (uint64_t)(byte % 128) << 7 * i;
         if (byte >= 128)
             continue;
-        if ((byte == 0 && i > 0) || sum >= (uint64_t)1 << 32 || sum < least || sum > most)
-            return false;
+        if ((byte == 0 && i > 0) || sum < least || sum > most)
+            return 7;
         *at += i + 1;
         *value = sum;
-        return true;
+        return 0;
     }
-    return false;
+    return 14;
 }
 
 xew_opened expected_open(const uint8_t *roll, size_t length)
@@ -75,26 +78,27 @@ xew_opened expected_open(const uint8_t *roll, size_t length)
     xew_opened opened = { 0 }, refused = { 0 };
     size_t at = 0;
     uint64_t value, room = 0;
-    refused.refusal = 7;
-    bool good = number(roll, length, &at, 0, 4, &value);
-    if (good)
+    uint8_t bad = number(roll, length, &at, 0, 4, &value);
+    if (!bad)
         opened.cursor.kind = (uint8_t)value;
-    for (int i = 0; good && i < orders_used[opened.cursor.kind]; i++) {
+    for (int i = 0; !bad && i < orders_used[opened.cursor.kind]; i++) {
         room = i % 3 ? room : 4;
-        good = number(roll, length, &at, 0, room, &value);
-        if (good) {
+        bad = number(roll, length, &at, 0, room, &value);
+        if (!bad) {
             opened.orders[i] = (uint8_t)value;
             opened.cursor.l = (uint8_t)(opened.cursor.l + value);
             room -= value;
         }
     }
-    if (good && number(roll, length, &at, 1, XEW_MOST_TERMS, &value)) {
-        opened.cursor.left = (uint32_t)value;
-        opened.cursor.place = at;
-        return opened;
-    }
+    if (!bad)
+        bad = number(roll, length, &at, 1, XEW_MOST_TERMS, &value);
     refused.place = at;
-    return refused;
+    refused.refusal = bad;
+    if (bad)
+        return refused;
+    opened.cursor.left = (uint32_t)value;
+    opened.cursor.place = at;
+    return opened;
 }
 
 xew_step expected_next(xew_cursor cursor, const uint8_t *roll, size_t length)
@@ -111,24 +115,25 @@ xew_step expected_next(xew_cursor cursor, const uint8_t *roll, size_t length)
         return step;
     }
     bool has_boys = cursor.kind == 2 || cursor.kind == 4;
-    bool good = number(roll, length, &at, 1, XEW_MOST_SCALE, &value);
-    if (good) {
+    uint8_t bad = number(roll, length, &at, 1, XEW_MOST_SCALE, &value);
+    if (!bad) {
         step.scale = (uint32_t)value;
-        good = number(roll, length, &at, 0, has_boys ? cursor.l : 0, &value);
+        bad = number(roll, length, &at, 0, has_boys ? cursor.l : 0, &value);
     }
-    if (good) {
+    if (!bad) {
         step.boys = (uint8_t)value;
-        good = number(roll, length, &at, 0, (uint64_t)cursor.l + (cursor.kind == 1), &value);
+        bad = number(roll, length, &at, 0, (uint64_t)cursor.l + (cursor.kind == 1), &value);
     }
-    if (good)
+    if (!bad)
         step.count = (uint8_t)value;
-    for (int i = 0; good && i < step.count; i++) {
-        good = number(roll, length, &at, 0, table_size[cursor.kind] - 1u, &value);
-        if (good)
+    for (int i = 0; !bad && i < step.count; i++) {
+        bad = number(roll, length, &at, 0, table_size[cursor.kind] - 1u, &value);
+        if (!bad)
             step.prefactors[i] = (uint8_t)value;
     }
     refused.place = at;
-    if (!good)
+    refused.refusal = bad;
+    if (bad)
         return refused;
     step.found = 1;
     step.next = cursor;
@@ -192,7 +197,7 @@ uint8_t expected_value(xew_opened checked, const xew_centre *centres, double aux
 {
     uint8_t kind = checked.cursor.kind;
     if (checked.refusal)
-        return 7;
+        return checked.refusal;
     if (!centres_finite(kind, centres) || !isfinite(aux) || !all_finite(boys, boys_length))
         return 8;
     if (!exponents_positive(kind, centres))

@@ -61,6 +61,7 @@ const struct request *known_request(void);
 const struct request *largest_request(void);
 void any_request(struct request *request);
 size_t any_roll(uint8_t *out); /* at most MOST_BYTES */
+size_t good_roll(uint8_t *out, size_t most); /* one that reads, of at most so many bytes */
 size_t any_start(size_t length, size_t need);
 xew_cursor any_cursor(xew_cursor cursor, size_t length);
 
@@ -69,7 +70,7 @@ double any_float(void);
 void any_floats(double *out, size_t count);
 void any_centres(xew_centre centres[4]);
 
-/* expected.c: what a call must answer, by docs/01-scope.md alone. */
+/* expected.c: what a call must answer, by docs/01-scope.md and docs/02-change-requests.md alone. */
 extern const uint8_t orders_used[XEW_KINDS], table_size[XEW_KINDS], most_l[XEW_KINDS];
 extern const size_t longest_roll[XEW_KINDS]; /* by the unchanged Rust */
 uint8_t expected_request(uint8_t kind, const uint8_t *orders);

@@ -154,15 +154,15 @@ static size_t put(uint8_t *out, uint64_t number)
     return at;
 }
 
-/* A legal roll that no expansion gives, with numbers at and beyond their limits now and then. */
-static size_t made_up(uint8_t *out)
+/* A legal roll that no expansion gives; if it need not be good, with numbers beyond their limits now and then. */
+static size_t made_up(uint8_t *out, bool good)
 {
     static const uint32_t scales[] = { 1, 2, 127, 128, 16383, 16384, 65535, 65536, 65537, 0 };
     struct request request;
     legal_request(&request, 4);
     uint8_t kind = request.kind;
     uint64_t l = 0, count = below(once_in(20) ? 300 : 8);
-    bool good = !once_in(4), has_boys = kind == 2 || kind == 4;
+    bool has_boys = kind == 2 || kind == 4;
     size_t at = put(out, kind);
     count += good && count == 0;
     for (int i = 0; i < orders_used[kind]; i++) {
@@ -226,9 +226,9 @@ size_t any_roll(uint8_t *out)
 {
     size_t length = below(8);
     switch (length) {
-    case 0: return made_up(out);
+    case 0: return made_up(out, !once_in(4));
     case 1: return noise(out);
-    case 2: return once_in(4) ? 0 : mutated(out, made_up(out));
+    case 2: return once_in(4) ? 0 : mutated(out, made_up(out, !once_in(4)));
     }
     const struct request *known = known_request();
     memcpy(out, known->roll, known->length);
@@ -238,6 +238,20 @@ size_t any_roll(uint8_t *out)
     for (uint64_t times = 1 + below(3); times > 0; times--)
         length = mutated(out, length);
     return length;
+}
+
+size_t good_roll(uint8_t *out, size_t most)
+{
+    for (;;) {
+        const struct request *known = known_request();
+        size_t length = known->length;
+        if (once_in(2))
+            length = made_up(out, true);
+        else
+            memcpy(out, known->roll, length);
+        if (length <= most)
+            return length;
+    }
 }
 
 xew_cursor any_cursor(xew_cursor cursor, size_t length)

@@ -21,7 +21,7 @@ static bool same_step(xew_step a, xew_step b)
         && memcmp(a.prefactors, b.prefactors, sizeof a.prefactors) == 0;
 }
 
-/* An opening or a check, held to what document 01 says of the roll. */
+/* An opening or a check, held to what documents 01 and 02 say of the roll. */
 static xew_opened try_opening(enum function f, enum empty which, struct slice roll, xew_opened expected,
                               xew_opened (*called)(const uint8_t *roll, size_t roll_len))
 {
@@ -31,7 +31,7 @@ static xew_opened try_opening(enum function f, enum empty which, struct slice ro
         with_slice(&roll);
         xew_opened opened = called(roll.lent, roll.length);
         count(f, opened.refusal, again);
-        hold(same_opened(opened, expected), "xew_open or xew_check: another answer than document 01's");
+        hold(same_opened(opened, expected), "xew_open or xew_check: another answer than the documents'");
     }
     return expected;
 }
@@ -60,7 +60,7 @@ void try_next(struct slice roll, xew_cursor cursor)
     for (int again = 0; again < 2; again++) {
         xew_step answer = step(&roll, cursor);
         count(NEXT, answer.refusal, again);
-        hold(same_step(answer, expected), "xew_next: another answer than document 01's");
+        hold(same_step(answer, expected), "xew_next: another answer than the documents'");
     }
     count_found(expected.found);
 }
@@ -82,7 +82,8 @@ xew_cursor step_through(struct slice roll, xew_opened opened, xew_opened checked
         hold(terms < opened.cursor.left, "more terms than the header says");
     }
     if (checked.refusal)
-        hold(answer.found == 0 && answer.refusal == 7 && answer.place == checked.place, "steps and check disagree");
+        hold(answer.found == 0 && answer.refusal == checked.refusal && answer.place == checked.place,
+             "steps and check disagree");
     else
         hold(answer.found == 2 && answer.refusal == 0 && terms == opened.cursor.left, "the steps do not reach the end");
     return on_the_way;
@@ -122,6 +123,29 @@ void try_evaluate(struct slice roll, xew_opened checked)
             hold(!memcmp(&first.value, &value.value, sizeof(double)) && first.refusal == value.refusal,
                  "xew_evaluate: two answers");
         first = value;
+    }
+}
+
+/* A roll that reads, cut at every place: 14 within the cut by every call that reads as far. It is lent from pages that
+ * the library can't write. */
+void try_cuts(const uint8_t *bytes, size_t length)
+{
+    xew_opened whole = expected_open(bytes, length);
+    xew_cursor cursor = whole.cursor;
+    for (size_t cut = 0; cut < length; cut++) {
+        struct slice roll = lend_copy(&roll_arena, "roll", bytes, cut, 1);
+        xew_opened opened = try_open(roll), checked = try_check(roll);
+        hold(checked.refusal == 14 && checked.place <= cut, "a cut roll that is not 14 within the cut");
+        hold(same_opened(opened, cut < whole.cursor.place ? checked : whole), "another header than the whole roll's");
+        xew_step step = expected_next(cursor, bytes, cut);
+        if (step.found == 1) {
+            cursor = step.next;
+            step = expected_next(cursor, bytes, cut);
+        }
+        try_next(roll, cursor);
+        if (!opened.refusal)
+            hold(step.refusal == 14 && step.place == checked.place, "a cut term that is not 14 where check says");
+        try_evaluate(roll, checked);
     }
 }
 

@@ -13,11 +13,11 @@ static const struct {
     [SHELL_LIST] = { "xew_shell_list", { 2, 5, 6 } },
     [SHELL2] = { "xew_shell2", { 2, 13 } },
     [SHELL4] = { "xew_shell4", { 2, 13 } },
-    [OPEN] = { "xew_open", { 7 } },
-    [CHECK] = { "xew_check", { 7 } },
-    [NEXT] = { "xew_next", { 7 } },
+    [OPEN] = { "xew_open", { 7, 14 } },
+    [CHECK] = { "xew_check", { 7, 14 } },
+    [NEXT] = { "xew_next", { 7, 14 } },
     [PREFACTORS] = { "xew_prefactors", { 1, 8, 9, 11 } },
-    [EVALUATE] = { "xew_evaluate", { 7, 8, 9, 10, 11 } },
+    [EVALUATE] = { "xew_evaluate", { 7, 14, 8, 9, 10, 11 } },
     [JK] = { "xew_jk", { 12, 8, 11 } },
 };
 
@@ -39,7 +39,8 @@ static const struct {
 };
 
 uint64_t further_calls;
-static uint64_t answers[FUNCTIONS][14], found[3], most_terms, most_bytes, empties[EMPTIES];
+enum { REFUSALS = 15 }; /* none, and 1 to 14 */
+static uint64_t answers[FUNCTIONS][REFUSALS], found[3], most_terms, most_bytes, empties[EMPTIES];
 
 void begin(enum function f, const char *labels, size_t words_count, const uint64_t *words)
 {
@@ -69,7 +70,8 @@ void hold(bool good, const char *what)
 void count(enum function f, uint8_t refusal, int again)
 {
     if (refusal != 0)
-        hold(refusal < 14 && memchr(functions[f].refusals, refusal, 6), "a refusal that the header does not list here");
+        hold(refusal < REFUSALS && memchr(functions[f].refusals, refusal, 6),
+             "a refusal that the header does not list here");
     if (again) {
         further_calls++;
         return;

@@ -36,6 +36,7 @@ xew_opened try_check(struct slice roll);
 void try_next(struct slice roll, xew_cursor cursor);
 xew_cursor step_through(struct slice roll, xew_opened opened, xew_opened checked);
 void try_evaluate(struct slice roll, xew_opened checked);
+void try_cuts(const uint8_t *bytes, size_t length); /* of a roll that reads */
 void try_expand(const struct request *request, size_t length, size_t start);
 
 #endif

@@ -42,8 +42,10 @@ xew_opened __wrap_xew_check(const uint8_t *roll, size_t roll_len)
     xew_opened opened = __real_xew_check(roll, roll_len);
     if (is("leaves-a-number-beside-a-refusal") && opened.refusal)
         opened.cursor.l = 1;
-    if (is("takes-a-byte-too-many") && opened.refusal && opened.place + 1 == roll_len)
+    if (is("takes-a-byte-too-many") && opened.refusal == 7 && opened.place + 1 == roll_len)
         opened = xew_open(roll, roll_len);
+    if (is("says-7-for-a-cut-roll") && opened.refusal == 14)
+        opened.refusal = 7;
     return opened;
 }
 
