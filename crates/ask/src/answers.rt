@@ -41,9 +41,6 @@ pub(crate) const MATRICES: usize = 14;
 
 pub(crate) const WAIT: usize = 15;
 
-// The refusal that tells a place of a roll.
-const BROKEN: u8 = 7;
-
 // The answer to what was heard: a line that is too long is no question. Where no line has come, what waits goes out, since
 // nothing says when more will come.
 pub(crate) fn heard(s: State, t: Told) -> Told {
@@ -84,10 +81,15 @@ pub(crate) fn spoiled() -> Told {
 // A refusal, with its place where a roll breaks a rule.
 pub(crate) fn refused(refusal: u8, place: usize) -> Told {
     let numbers = [refusal as u64, place as u64, 0, 0];
-    if refusal == BROKEN {
-        return bytes(REFUSED_AT, numbers, 0, 0);
+    bytes(form_of(refusal), numbers, 0, 0)
+}
+
+// 7 and 14 tell a place of a roll.
+fn form_of(refusal: u8) -> usize {
+    match refusal {
+        7 | 14 => REFUSED_AT,
+        _ => REFUSED,
     }
-    bytes(REFUSED, numbers, 0, 0)
 }
 
 // Numbers, and so many of the bytes that were lent from a place on.
