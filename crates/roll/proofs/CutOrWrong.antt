@@ -18,10 +18,9 @@ use Rattle.number.specs.declared.Number.the-variants as number
 use Rattle.number.specs.Numbers.{readAt, refusalOf}
 use Rattle.number.proofs.Reading.{read-stays}
 use Rattle.roll.specs.declared.header.Opening.the-variants as opening
-use Rattle.roll.specs.declared.header.Opened.{Opened}
 use Rattle.roll.specs.Reading.{Reading, got, refused, andThen, before, termAt, termsAt, Header, headerAt, Roll, rollAt}
 use Rattle.roll.specs.Header.{refusedOpened, heldHeader, openOf, judged, checked, checkOf}
-use Rattle.roll.proofs.Checked.{reads-checked, checked-reads}
+use Rattle.roll.proofs.Checked.{checked-reads, checked-refused}
 use Rattle.roll.proofs.Filling.{andThen-is}
 use Rattle.roll.proofs.Inside.{term-inside}
 use Rattle.roll.proofs.Mending.{Alike, leads-le, leads-inside, Broken, Cut, Long, made-got}
@@ -156,10 +155,10 @@ header-cut s h next n e less = by (headerAt (take n s)) refl
 
 -- ---- as `open` and `check` tell it
 
--- what `check` refuses is what does not read, and where
-checked-refused : (s : List ℕ) (r p : ℕ) → rollAt s ≡ refused r p → checkOf s ≡ refusedOpened r p
+-- what does not read `check` refuses, and where
+refused-checked : (s : List ℕ) (r p : ℕ) → rollAt s ≡ refused r p → checkOf s ≡ refusedOpened r p
 unfolding rollAt checkOf
-checked-refused s r p e = by-header (headerAt s) refl e
+refused-checked s r p e = by-header (headerAt s) refl e
   where
     made : Header → List Term → ℕ → Reading Roll
     made h ts end = got (record { kind = h .kind; orders = h .orders; terms = ts }) end
@@ -172,27 +171,16 @@ checked-refused s r p e = by-header (headerAt s) refl e
     by-header (got h next) is e = by-terms h next (termsAt s next (h .terms) (h .kind) (total (h .orders))) e
     by-header (refused q o) is e = let number : q ≡ r = cc in let there : o ≡ p = cc in rw (number, there) refl
 
-refused-reads : (s : List ℕ) (r p : ℕ) → checkOf s .found ≡ opening.Refused r p → rollAt s ≡ refused r p
-refused-reads s r p e = by (rollAt s) refl
-  where
-    by : (x : Reading Roll) → rollAt s ≡ x → rollAt s ≡ refused r p
-    by (got q end) is = let reads = reads-checked s q end is .1 in absurd (clash (cc))
-    by (refused q o) is =
-        let told = ap (λ (x : Opened). x .found) (checked-refused s q o is) in
-        let number : q ≡ r = cc in
-        let there : o ≡ p = cc in
-        rw (number, there) at is
-
 -- 1: of a roll that is one, every shorter beginning is refused 14, at a place within it
 pub check-cut : (s : List ℕ) (n : ℕ) → checkOf s .found ≡ opening.Roll → n < length s → (p : ℕ) × (checkOf (take n s) ≡ refusedOpened 14 p) × (p ≤ n)
 check-cut s n found less =
     let reads = checked-reads s found in
     let cut = roll-cut s (reads .0) (reads .1) n (reads .2) less in
-    (cut .0, checked-refused (take n s) 14 (cut .0) (cut .1), cut .2)
+    (cut .0, refused-checked (take n s) 14 (cut .0) (cut .1), cut .2)
 
 -- 2: what is refused 7 is refused 7 at the same place whatever bytes are put after it
 pub check-wrong : (s t : List ℕ) (p : ℕ) → checkOf s .found ≡ opening.Refused 7 p → checkOf (s ++ t) ≡ refusedOpened 7 p
-check-wrong s t p found = checked-refused (s ++ t) 7 p (roll-stays s t 7 p (λ e. clash (cc)) (refused-reads s 7 p found))
+check-wrong s t p found = refused-checked (s ++ t) 7 p (roll-stays s t 7 p (λ e. clash (cc)) (checked-refused s (checkOf s) 7 p refl found))
 
 -- 3: what is a roll begins no other
 pub check-begins-no-other : (s t : List ℕ) → checkOf s .found ≡ opening.Roll → checkOf (s ++ t) .found ≡ opening.Roll → t ≡ []
