@@ -174,6 +174,6 @@ roll-most kind orders before begin long count after in-full told =
     omega (arith, a .long-is, kind-most k)
 
 -- the number that include/xewumbal.h states
-pub most-is : mostRoll ≡ 1376251
+pub most-is : mostRoll ≡ 32505841
 unfolding lengthOf bytesOf groups
 most-is = refl

@@ -102,6 +102,7 @@ module _ (k : Kind) (left : ℕ) (p : Path) (c : CentreName) (x : Axis) (times�
         let table = table-within (good .request) in
         let raises = fair .raises-less in
         let few = few-fall (this .falls) in
+        let down = branch-down view c x this (turn .own-centre) among (turn .positive) positive-times in
         let a = adds-is in
         let b = raises-is in
         let less : times′ % 16 ≤ 16 = omega arith in

@@ -29,7 +29,7 @@ ordersOf Nuclear = 6
 ordersOf Moment = 9
 ordersOf Coulomb = 12
 
--- L is the sum of all orders: at most 8 for kinds 0 to 2, 12 for kind 3, 16 for kind 4
+-- L is the sum of all orders: at most 12 for kinds 0 to 2, 18 for kind 3, 24 for kind 4
 abbrev pub mostL : Kind → ℕ
 mostL Overlap = 2 * mostOrder
 mostL Kinetic = 2 * mostOrder

@@ -1,14 +1,14 @@
--- 01, "Limits and refusal numbers": each limit once (D-39).
+-- 01, "Limits and refusal numbers", with the numbers of 02, Q-6: each limit once (D-39).
 use Prim.Native.Nat.{ℕ, _*_, _^_}
 use Rattle.kind.specs.declared.Limits.{Limits}
 
 -- the order sum on each centre, and on the moment operator, and a shell's order
 abbrev pub mostOrder : ℕ
-mostOrder = 4
+mostOrder = 6
 
 -- terms of a list
 abbrev pub mostTerms : ℕ
-mostTerms = 65535
+mostTerms = 1048575
 
 -- matrix size, from 1 to this
 abbrev pub mostSize : ℕ
@@ -30,7 +30,7 @@ requestOrders = 3 * mostCentres
 abbrev pub mostL·any : ℕ
 mostL·any = mostCentres * mostOrder
 
--- 4^8: each step with a multiplier above 1 lowers two orders, so there are at most half of L of any kind, each at most the largest order
+-- 6^12: each step with a multiplier above 1 lowers two orders, so there are at most half of L of any kind, each at most the largest order
 abbrev pub mostScale : ℕ
 mostScale = mostOrder ^ (2 * mostOrder)
 

@@ -1,4 +1,4 @@
-// The five kinds of integral, and every limit of document 01 under one name (D-42).
+// The five kinds of integral, and every limit of documents 01 and 02 under one name (D-42).
 ghost use mathlib.Core.Path.{_≡_};
 ghost use Rattle.kind.specs.Limits.{limits};
 ghost use Rattle.kind.specs.Kinds.{kindOf, numberOf, ordersOf, tableOf, branchesOf, mostL, mostPrefactors, usesBoys};
@@ -31,11 +31,11 @@ pub struct Limits {
 
 impl Kind {
     // The order sum on a centre, on the operator, and the order of a shell.
-    pub const MOST_ORDER: usize = 4;
+    pub const MOST_ORDER: usize = 6;
     // The terms of a list.
-    pub const MOST_TERMS: u32 = 65535;
+    pub const MOST_TERMS: u32 = 1048575;
     // The scale of a term.
-    pub const MOST_SCALE: u32 = 65536;
+    pub const MOST_SCALE: u32 = 2176782336;
     // The functions of a matrix.
     pub const MOST_SIZE: usize = 16;
     // The bytes of a roll that the listing takes.

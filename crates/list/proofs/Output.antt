@@ -50,7 +50,7 @@ record Case (roll out : List ℕ) (answer : Listed) (after : List ℕ) : Type 0 
 read-case : (roll out : List ℕ) (x : Reading Roll) → textRoom ≤ length out → Bytes roll → length roll ≤ mostListed → rollAt roll ≡ x → Case roll out (readAnswer x out 0) (readOut x out 0)
 unfolding outputOf
 read-case roll out (got r end) room bytes small reads =
-    let short = listing-short roll r end bytes reads in
+    let short = listing-short roll r end bytes small reads in
     let f = at-front (listingText r) out (omega arith) in
     let said : outputOf roll ≡ listingText r = rw (le-ltb mostListed (length roll) small, reads) in
     record {

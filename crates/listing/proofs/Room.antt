@@ -1,5 +1,6 @@
 -- A listing has at most five bytes for each byte of its roll: a number's decimal has two bytes less than that, which leaves room for
--- what stands around it. So a buffer of five times the longest roll takes every listing.
+-- what stands around it; and a roll that the listing takes has no term whose own number has more than five digits.
+-- So a buffer of five times the longest such roll takes every listing.
 use Prim.Native.Nat.{ℕ, suc, _+_, _*_, _-_, _/_, _^_, _≤_, _<_}
 use native.Mathlib.Omega.{arith}
 use mathlib.Core.Path.{_≡_, ap}
@@ -7,7 +8,7 @@ use mathlib.Core.List.{List, [], _∷_, _++_}
 use borrow.Author.Tests.{ltb-true, ltb-false}
 use lib.Dec.{ltb}
 use lib.ListN.{length, length-append}
-use Rattle.kind.specs.Limits.{mostOrder, requestOrders}
+use Rattle.kind.specs.Limits.{mostOrder, mostListed, requestOrders}
 use Rattle.kind.specs.Kinds.{numberOf, ordersOf, tableOf}
 use Rattle.kind.specs.declared.Kind.{Kind}
 use Rattle.kind.specs.declared.Kind.the-variants.{Overlap, Kinetic, Nuclear, Moment, Coulomb}
@@ -143,13 +144,19 @@ roll-length : (k : Kind) (os : List ℕ) (ts : List Term) → length (rollBytes 
 unfolding rollBytes lengthOf
 roll-length k os ts = simp length-append (omega arith)
 
-fits-short : (r : Roll) → RollFits r → length (listingText r) ≤ 5 * length (rollBytes (r .kind) (r .orders) (r .terms))
+-- each term has a byte at least
+terms-some : (ts : List Term) → length ts ≤ length (termsBytes ts)
+unfolding termsBytes
+terms-some [] = omega arith
+terms-some (t ∷ ts) = omega (arith, length-append (termBytes t) (termsBytes ts), line-bytes t, length-some (t .scale), terms-some ts)
+
+fits-short : (r : Roll) → RollFits r → length (rollBytes (r .kind) (r .orders) (r .terms)) ≤ mostListed → length (listingText r) ≤ 5 * length (rollBytes (r .kind) (r .orders) (r .terms))
 unfolding listingText
-fits-short r fit =
+fits-short r fit listed =
     let k = small-kind (r .kind) in
     let os = orders-short (r .orders) (fit .sums) in
     let places = fit .places in
-    let most = fit .most in
+    let few : 1 + length (r .terms) ≤ 100000 = omega (arith, roll-length (r .kind) (r .orders) (r .terms), terms-some (r .terms)) in
     let l : total (r .orders) < 2 ^ 32 = omega (arith, os .1, k .2) in
     omega (
       arith,
@@ -166,11 +173,11 @@ fits-short r fit =
     )
 
 -- the listing of a roll that reads
-pub listing-short : (s : List ℕ) (r : Roll) (end : ℕ) → Bytes s → rollAt s ≡ got r end → length (listingText r) ≤ 5 * length s
-listing-short s r end bytes reads =
+pub listing-short : (s : List ℕ) (r : Roll) (end : ℕ) → Bytes s → length s ≤ mostListed → rollAt s ≡ got r end → length (listingText r) ≤ 5 * length s
+listing-short s r end bytes small reads =
     let w = roll-read s r end bytes reads in
     let long : length s ≡ length (rollBytes (r .kind) (r .orders) (r .terms)) = ap length (w .0) in
-    omega (arith, fits-short r (w .1))
+    omega (arith, fits-short r (w .1) (omega arith))
 
 -- ---- a refusal's line
 
