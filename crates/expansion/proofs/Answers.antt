@@ -1,5 +1,5 @@
 -- The answers of the expansion, a law for each, in 01's order.
-use Prim.Native.Nat.{ℕ, _+_, _-_, _^_, _≤_, _<_}
+use Prim.Native.Nat.{ℕ, _+_, _*_, _-_, _^_, _≤_, _<_}
 use mathlib.Core.Path.{_≡_, refl, sym, ap, ap₂, _∙_}
 use mathlib.Core.Bool.{Bool, true, false, cond}
 use mathlib.Core.List.{List}
@@ -28,8 +28,10 @@ use Rattle.expansion.specs.declared.Expanded.{Expanded}
 use Rattle.expansion.specs.declared.Expanded.the-variants.{Roll, Refused}
 use Rattle.expansion.specs.inner.View.{pathTerm, fiveBits, pathPrefactors}
 use Rattle.expansion.specs.inner.Measuring.{measured, Measures, MeasureMay, termsIn, bytesIn}
-use Rattle.expansion.specs.Expanding.{tooHigh, unusedSet, termsOf, rollOf, kindTold, namedTold, namedOut, ExpandTold}
-use Rattle.expansion.specs.inner.Requests.{KnownTold, PackMay, Packed, emptyTerm, RollMay, RequestMay, SizedMay}
+use Rattle.expansion.specs.Expanding.{tooHigh, unusedSet, termsOf, rollOf, kindTold, kindMeasured, whereRoom, namedTold, namedMeasured, namedOut, ExpandTold}
+use Rattle.expansion.specs.inner.Requests.{KnownTold, PackMay, Packed, emptyTerm, RequestWithin, RollMay, RequestMay, WordMay, SizedMay}
+use Rattle.expansion.specs.inner.Walking.{Good}
+use Rattle.expansion.proofs.Sizes.{measured-tells, SizeIs, measured-size}
 use Rattle.expansion.proofs.HeaderLaws.{within-nibbles, first-good, first-terms, roll-length}
 
 -- an answer that refuses leaves every byte as it was
@@ -76,100 +78,122 @@ measured-over ts e = at (leb (length ts) mostTerms) refl e
     at true t f = absurd (clash (cc))
     at false t f = leb-false (length ts) mostTerms t
 
+-- ---- a request measured
+
+module _ (k : Kind) (os : List ℕ) where
+  pub measured-high : (b : Bool) → b ≡ tooHigh k os → b ≡ true → Refused 2 ≡ kindMeasured k os
+  unfolding kindMeasured
+  measured-high b e t = sym (simp (sym e ∙ t))
+
+  module _ (a b : Bool) (high : a ≡ tooHigh k os) (low : a ≡ false) (unused : b ≡ unusedSet k os) where
+    pub measured-unused : b ≡ true → Refused 3 ≡ kindMeasured k os
+    unfolding kindMeasured
+    measured-unused t = sym (simp (sym high ∙ low, sym unused ∙ t))
+
+    module _ (none : b ≡ false) (in-full : length os ≡ requestOrders) where
+      within : RequestWithin k os
+      within = record { low-sums = sym high ∙ low; none-unused = sym unused ∙ none; in-full = in-full }
+
+      pub kept-nibbles : PackMay os
+      kept-nibbles = within-nibbles k os within
+
+      pub kept-word : (left : ℕ) → Packed os 0 left → WordMay k os left
+      kept-word left word = record { within = within; word = word }
+
+module _ (k : Kind) (os : List ℕ) (left : ℕ) (may : WordMay k os left) where
+  first-good-there : Good k left emptyPath
+  first-good-there = first-good k os (may .within) left (may .word) emptyPath empty-term
+
+  pub first-measured : MeasureMay k left 1 0
+  first-measured = record { path = emptyPath; scale-is = refl; count-is = refl; good = first-good-there }
+
+  module _ (size : Measured) (told : Measures k left 1 0 size) where
+    size-is : size ≡ measured (termsOf k os)
+    size-is = told .is emptyPath refl refl first-good-there ∙ ap measured (first-terms k os (may .within) left (may .word) emptyPath empty-term)
+
+    pub sized-many : size ≡ Over → Refused 4 ≡ kindMeasured k os
+    unfolding kindMeasured
+    sized-many e = sym (simp (may .within .low-sums, may .within .none-unused, lt-ltb mostTerms (length (termsOf k os)) (measured-over (termsOf k os) (sym size-is ∙ e))))
+
+    module _ (terms bytes : ℕ) (e : size ≡ Fits terms bytes) where
+      fits-is : (terms ≡ length (termsOf k os)) × (bytes ≡ length (termsBytes (termsOf k os))) × (length (termsOf k os) ≤ mostTerms)
+      fits-is = measured-terms (termsOf k os) terms bytes (sym size-is ∙ e)
+
+      terms-few : terms ≤ mostTerms
+      terms-few = let h = fits-is .2 in let g = fits-is .0 in omega arith
+
+      bytes-few : bytes ≤ 32 * terms
+      bytes-few = let s = told .small-enough .short in let t = ap termsIn e in let b = ap bytesIn e in omega arith
+
+      pub count-cast : terms < 2 ^ 32
+      count-cast = let h = terms-few in omega arith
+
+      module _ (n l : ℕ) (orders-is : n ≡ ordersOf k) (length-is : l ≡ lengthOf terms) where
+        pub header-fits : 1 + n + l < 2 ^ 64
+        header-fits = let h = orders-within k in let g = length-few terms in omega arith
+
+        pub roll-fits : 1 + n + l + bytes < 2 ^ 64
+        roll-fits = let h = orders-within k in let g = length-few terms in let b = bytes-few in let t = terms-few in omega arith
+
+        long-is : 1 + n + l + bytes ≡ length (rollOf k os)
+        long-is = let r = roll-length k os (may .within) in let a = ap lengthOf (fits-is .0) in let b = fits-is .1 in omega arith
+
+        pub sized-roll : Roll (1 + n + l + bytes) terms ≡ kindMeasured k os
+        unfolding kindMeasured
+        sized-roll = ap₂ Roll long-is (fits-is .0) ∙ sym (simp (may .within .low-sums, may .within .none-unused, le-ltb mostTerms (length (termsOf k os)) (fits-is .2)))
+
+-- ---- a request that was measured, written where it fits
+
 module _ (k : Kind) (os out : List ℕ) (begin : ℕ) (may : RequestMay k os begin out) where
   pub may-nibbles : PackMay os
   may-nibbles = within-nibbles k os (may .within)
 
-  module _ (left : ℕ) (word : Packed os 0 left) where
-    pub first-measured : MeasureMay k left 1 0
-    first-measured = record { path = emptyPath; scale-is = refl; count-is = refl; good = first-good k os (may .within) left word emptyPath empty-term }
+  pub may-word : (left : ℕ) → Packed os 0 left → WordMay k os left
+  may-word left word = record { within = may .within; word = word }
 
-    module _ (size : Measured) (told : Measures k left 1 0 size) where
-      size-is : size ≡ measured (termsOf k os)
-      size-is =
-          told .is emptyPath refl refl (first-good k os (may .within) left word emptyPath empty-term) ∙ ap measured (first-terms k os (may .within) left word emptyPath empty-term)
+  module _ (size : Expanded) (is : size ≡ kindMeasured k os) where
+    told-is : kindTold k os out begin ≡ whereRoom size out begin
+    told-is = measured-tells k os out begin (may .begins) ∙ ap (λ (r : Expanded). whereRoom r out begin) (sym is)
 
-      pub told-many : size ≡ Over → KnownTold k os out begin (Refused 4) out
-      unfolding kindTold
-      told-many e =
-          refused-with k os out begin 4
-          (simp (may .within .low-sums, may .within .none-unused, le-ltb (length out) begin (may .begins), lt-ltb mostTerms (length (termsOf k os)) (measured-over (termsOf k os) (sym size-is ∙ e))))
+    pub told-measured : (n : ℕ) → size ≡ Refused n → KnownTold k os out begin (Refused n) out
+    told-measured n e = refused-with k os out begin n (told-is ∙ ap (λ (r : Expanded). whereRoom r out begin) e)
 
-      pub sized-may : (terms bytes : ℕ) → size ≡ Fits terms bytes → SizedMay k os left terms bytes begin out
-      sized-may terms bytes e =
-          let m = measured-terms (termsOf k os) terms bytes (sym size-is ∙ e) in
-          record {
-            request = may;
-            word = word;
-            count = m .0;
-            few = let h = m .2 in let g = m .0 in omega arith;
-            long = m .1;
-            short = let s = told .small-enough .short in let t = ap termsIn e in let b = ap bytesIn e in omega arith;
-          }
+    pub sized-may : (left : ℕ) → Packed os 0 left → (long count : ℕ) → size ≡ Roll long count → SizedMay k os left long count begin out
+    sized-may left word long count e = record { request = may; word = word; size = sym e ∙ is }
 
-module _ (k : Kind) (os : List ℕ) (left terms bytes begin : ℕ) (out : List ℕ) (may : SizedMay k os left terms bytes begin out) where
-  pub count-cast : terms < 2 ^ 32
-  count-cast = let h = may .few in omega arith
+module _ (k : Kind) (os : List ℕ) (left long count begin : ℕ) (out : List ℕ) (may : SizedMay k os left long count begin out) where
+  is : SizeIs k os long count
+  is = measured-size k os long count (may .size)
 
-  module _ (n l : ℕ) (orders-is : n ≡ ordersOf k) (length-is : l ≡ lengthOf terms) where
-    pub long-is : 1 + n + l + bytes ≡ length (rollOf k os)
-    long-is = let r = roll-length k os (may .request .within) in let a = ap lengthOf (may .count) in let b = may .long in omega arith
+  told : kindTold k os out begin ≡ whereRoom (Roll long count) out begin
+  told = measured-tells k os out begin (may .request .begins) ∙ ap (λ (r : Expanded). whereRoom r out begin) (sym (may .size))
 
-    pub header-fits : 1 + n + l < 2 ^ 64
-    header-fits = let h = orders-within k in let g = length-few terms in omega arith
+  pub told-full : length out - begin < long → KnownTold k os out begin (Refused 6) out
+  told-full h = refused-with k os out begin 6 (told ∙ simp (lt-ltb (length out) (begin + long) (let b = may .request .begins in omega arith)))
 
-    pub roll-fits : 1 + n + l + bytes < 2 ^ 64
-    roll-fits = let h = orders-within k in let g = length-few terms in let b = may .short in let t = may .few in omega arith
+  module _ (fits : long ≤ length out - begin) where
+    pub roll-may : RollMay k os left count (take (length out - begin) (drop begin out))
+    roll-may =
+        record {
+          within = may .request .within;
+          word = may .word;
+          count = is .count-is;
+          few = let c = is .count-is in let f = is .few in omega arith;
+          room = rw (part-all out begin) (let r = is .long-is in let d = length-drop begin out in omega arith);
+        }
 
-    pub told-full : length out - begin < 1 + n + l + bytes → KnownTold k os out begin (Refused 6) out
-    unfolding kindTold
-    told-full h =
-        refused-with k os out begin 6
-        (simp (
-          may .request .within .low-sums,
-          may .request .within .none-unused,
-          le-ltb (length out) begin (may .request .begins),
-          le-ltb mostTerms (length (termsOf k os)) terms-few,
-          lt-ltb (length out) (begin + length (rollOf k os)) (let r = long-is in let b = may .request .begins in omega arith),
-        ))
+    pub told-roll : (part : List ℕ) → part ≡ sets (take (length out - begin) (drop begin out)) 0 (rollOf k os) → KnownTold k os out begin (Roll long count) (putMid begin (length out - begin) out part)
+    told-roll part put =
+        record {
+          answer = sym fitted;
+          out = part-put out part (rollOf k os) begin room put ∙ ap (λ (r : Expanded). namedOut r (Is k) os out begin) (sym fitted);
+        }
       where
-        terms-few : length (termsOf k os) ≤ mostTerms
-        terms-few = let c = may .count in let f = may .few in omega arith
+        room : begin + length (rollOf k os) ≤ length out
+        room = let r = is .long-is in let b = may .request .begins in omega arith
 
-    module _ (fits : 1 + n + l + bytes ≤ length out - begin) where
-      pub roll-may : RollMay k os left terms (take (length out - begin) (drop begin out))
-      roll-may =
-          record {
-            within = may .request .within;
-            word = may .word;
-            count = may .count;
-            few = may .few;
-            room = rw (part-all out begin) (let r = long-is in let d = length-drop begin out in omega arith);
-          }
-
-      pub told-roll : (part : List ℕ) → part ≡ sets (take (length out - begin) (drop begin out)) 0 (rollOf k os) → KnownTold k os out begin (Roll (1 + n + l + bytes) terms) (putMid begin (length out - begin) out part)
-      unfolding kindTold
-      told-roll part put =
-          record {
-            answer = ap₂ Roll long-is (may .count) ∙ sym told;
-            out = part-put out part (rollOf k os) begin room put ∙ ap (λ (r : Expanded). namedOut r (Is k) os out begin) (sym told);
-          }
-        where
-          room : begin + length (rollOf k os) ≤ length out
-          room = let r = long-is in let b = may .request .begins in omega arith
-
-          terms-few : length (termsOf k os) ≤ mostTerms
-          terms-few = let c = may .count in let f = may .few in omega arith
-
-          told : kindTold k os out begin ≡ Roll (length (rollOf k os)) (length (termsOf k os))
-          told =
-              simp (
-                may .request .within .low-sums,
-                may .request .within .none-unused,
-                le-ltb (length out) begin (may .request .begins),
-                le-ltb mostTerms (length (termsOf k os)) terms-few,
-                le-ltb (length out) (begin + length (rollOf k os)) room,
-              )
+        fitted : kindTold k os out begin ≡ Roll long count
+        fitted = told ∙ simp (le-ltb (length out) (begin + long) (let b = may .request .begins in omega arith))
 
 -- a kind above 4, and a known one
 module _ (kind : ℕ) (os before : List ℕ) (begin : ℕ) (named : Named) (is : named ≡ kindOf kind) where
@@ -186,3 +210,11 @@ module _ (kind : ℕ) (os before : List ℕ) (begin : ℕ) (named : Named) (is :
         answer = a .answer ∙ ap (λ (n : Named). namedTold n os before begin) (sym e ∙ is);
         out = a .out ∙ ap (λ (n : Named). namedOut (namedTold n os before begin) n os before begin) (sym e ∙ is);
       }
+
+-- the same of a request that is measured
+module _ (kind : ℕ) (os : List ℕ) (named : Named) (is : named ≡ kindOf kind) where
+  pub measured-unknown : named ≡ Unknown → Refused 1 ≡ namedMeasured (kindOf kind) os
+  measured-unknown e = ap (λ (n : Named). namedMeasured n os) (sym e ∙ is)
+
+  pub measured-known : (k : Kind) (r : Expanded) → named ≡ Is k → r ≡ kindMeasured k os → r ≡ namedMeasured (kindOf kind) os
+  measured-known k r e a = a ∙ ap (λ (n : Named). namedMeasured n os) (sym e ∙ is)

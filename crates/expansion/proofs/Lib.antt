@@ -8,6 +8,7 @@ pub mod MeasureSizes
 pub mod Only
 pub mod ReadsBack
 pub mod RequestLaws
+pub mod Sizes
 pub mod TermsBytes
 pub mod TermsWords
 pub mod WalkChildren

@@ -1,15 +1,19 @@
--- One answer alone, with what the slice then holds, meets the public contract of this crate, and it is the definition's.
+-- One answer alone, with what the slice then holds, meets each public contract of this crate, and it is the definition's.
 use Prim.Native.Nat.{ℕ}
 use mathlib.Core.List.{List}
 use contract.Lifetimes.{Lfts}
 use Rattle.kind.specs.Kinds.{kindOf}
 use Rattle.laws.proofs.Contract.{Alone, alone, Lent, _then_, _▸_, end}
 use Rattle.expansion.specs.declared.Expanded.{Expanded}
-use Rattle.expansion.specs.Expanding.{namedTold, namedOut}
+use Rattle.expansion.specs.Expanding.{namedTold, namedMeasured, namedOut}
 use Rattle.expansion.proofs.expand.Reads.{Post as Expand}
+use Rattle.expansion.proofs.roll_size.Reads.{Post as RollSize}
 
 pub expand-only : (κs : Lfts 1) (kind : ℕ) (orders : List ℕ) (out : Lent ℕ) (start : ℕ) →
     let told = namedTold (kindOf kind) orders (out .now) start in
     Alone {A = Expanded × List ℕ} (λ x. Expand κs (kind ▸ orders ▸ out ▸ start ▸ end) (x .0) (kind ▸ orders ▸ out then (x .1) ▸ start ▸ end))
     (told, namedOut told (kindOf kind) orders (out .now) start)
 expand-only κs kind orders out start = alone (λ x p i. (p .answer i, p .out i))
+
+pub roll-size-only : (kind : ℕ) (orders : List ℕ) → let g = kind ▸ orders ▸ end in Alone (λ r. RollSize tt g r g) (namedMeasured (kindOf kind) orders)
+roll-size-only kind orders = alone (λ r p. p)

@@ -72,6 +72,24 @@ pub record ExpandTold (kind : ℕ) (orders before : List ℕ) (begin : ℕ) (r :
   pub answer : r ≡ namedTold (kindOf kind) orders before begin
   pub out : after ≡ namedOut (namedTold (kindOf kind) orders before begin) (kindOf kind) orders before begin
 
+-- 02, Q-6: a request's roll measured and not written: 2, 3, 4 in this order, or its length and its term count
+unfoldable pub kindMeasured : Kind → List ℕ → Expanded
+kindMeasured k orders =
+    cond (tooHigh k orders) (Refused 2)
+    (cond (unusedSet k orders) (Refused 3)
+    (cond (length (termsOf k orders) exceeds mostTerms) (Refused 4)
+    (Roll (length (rollOf k orders)) (length (termsOf k orders)))))
+
+-- before them 1, for a kind above 4
+abbrev pub namedMeasured : Named → List ℕ → Expanded
+namedMeasured Unknown orders = Refused 1
+namedMeasured (Is k) orders = kindMeasured k orders
+
+-- what `expand` makes of it, from a start place within a buffer on: 6 where the roll does not fit (`named-tells` of proofs/Sizes.antt)
+abbrev pub whereRoom : Expanded → List ℕ → ℕ → Expanded
+whereRoom (Refused n) out begin = Refused n
+whereRoom (Roll long terms) out begin = cond (begin + long exceeds length out) (Refused 6) (Roll long terms)
+
 -- 01's refusal number, the length and the term count of each answer
 abbrev pub refusalOf : Expanded → ℕ
 refusalOf (Roll long terms) = 0

@@ -1,5 +1,5 @@
 -- `expand_within` meets its contract.
-use Rattle.expansion.proofs.Answers.{may-nibbles, first-measured, told-many, sized-may}
+use Rattle.expansion.proofs.Answers.{may-nibbles, may-word, told-measured, sized-may}
 use borrow.Author.Needs.{needs}
 use Rattle.expansion.proofs.expand_within.Statement.{statement}
 use Rattle.expansion.proofs.expand_within.Tie as tie
@@ -7,20 +7,20 @@ use Rattle.expansion.proofs.expand_within.Tie as tie
 packed-requires : tie.Need-packed-requires
 packed-requires c κs = search may-nibbles
 
-measure-node-requires : tie.Need-measure-node-requires
-measure-node-requires c κs = search first-measured
-
-enum-told : tie.Need-enum-told
-enum-told c = search needs
+sized-requires : tie.Need-sized-requires
+sized-requires c κs = search may-word
 
 enum-known-size : tie.Need-enum-known-size
 enum-known-size c = search needs
+
+enum-known-size-2 : tie.Need-enum-known-size-2
+enum-known-size-2 c = search needs
 
 write-sized-requires : tie.Need-write-sized-requires
 write-sized-requires c κs = search sized-may
 
 returns : tie.Need-returns
-returns c = search told-many
+returns c = search told-measured
 
 same-length : tie.Need-same-length
 same-length c = search needs
@@ -33,9 +33,9 @@ expand-within-spec =
     tie.close
     (tie.spec
     packed-requires
-    measure-node-requires
-    enum-told
+    sized-requires
     enum-known-size
+    enum-known-size-2
     write-sized-requires
     returns
     same-length

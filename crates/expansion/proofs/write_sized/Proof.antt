@@ -1,27 +1,8 @@
 -- `write_sized` meets its contract.
-use Rattle.expansion.proofs.HeaderLaws.{orders-add}
-use Rattle.expansion.proofs.Answers.{header-fits, roll-fits, told-full, roll-may, told-roll}
+use Rattle.expansion.proofs.Answers.{told-full, roll-may, told-roll}
 use borrow.Author.Needs.{needs}
 use Rattle.expansion.proofs.write_sized.Statement.{statement}
 use Rattle.expansion.proofs.write_sized.Tie as tie
-
-cast-count : tie.Need-cast-count
-cast-count c = search needs
-
-orders-requires : tie.Need-orders-requires
-orders-requires c κs = search needs
-
-add-long : tie.Need-add-long
-add-long c = record { fits = search orders-add }
-
-length-requires : tie.Need-length-requires
-length-requires c κs = search needs
-
-add-long-2 : tie.Need-add-long-2
-add-long-2 c = record { fits = search header-fits }
-
-add-long-3 : tie.Need-add-long-3
-add-long-3 c = record { fits = search roll-fits }
 
 sub-if1 : tie.Need-sub-if1
 sub-if1 c = search needs
@@ -51,12 +32,6 @@ pub write-sized-spec : {M : Type 1} → statement M
 write-sized-spec =
     tie.close
     (tie.spec
-    cast-count
-    orders-requires
-    add-long
-    length-requires
-    add-long-2
-    add-long-3
     sub-if1
     returns
     sub-put-roll

@@ -1,5 +1,5 @@
 -- A request of a known kind: its limits kept, its orders in a word, the head of its roll, and room for it.
-use Prim.Native.Nat.{ℕ, _*_, _-_, _^_, _≤_, _<_}
+use Prim.Native.Nat.{ℕ, _-_, _^_, _≤_, _<_}
 use mathlib.Core.Path.{_≡_}
 use mathlib.Core.Bool.{false}
 use mathlib.Core.List.{List, [], _∷_, _++_}
@@ -11,9 +11,9 @@ use Rattle.kind.specs.Limits.{mostTerms, requestOrders}
 use Rattle.term.specs.Terms.{Term}
 use Rattle.number.specs.Numbers.{bytesOf}
 use Rattle.steps.specs.inner.Packed.{nibbles}
-use Rattle.roll.specs.Bytes.{termsBytes}
 use Rattle.expansion.specs.declared.Expanded.{Expanded}
-use Rattle.expansion.specs.Expanding.{tooHigh, unusedSet, termsOf, rollOf, kindTold, namedOut}
+use Rattle.expansion.specs.declared.Expanded.the-variants.{Roll}
+use Rattle.expansion.specs.Expanding.{tooHigh, unusedSet, termsOf, rollOf, kindTold, kindMeasured, namedOut}
 
 -- what a request of a known kind is answered, and what the lent bytes then hold
 pub record KnownTold (k : Kind) (orders before : List ℕ) (begin : ℕ) (r : Expanded) (after : List ℕ) : Type 0 where
@@ -62,10 +62,13 @@ pub record RequestMay (k : Kind) (orders : List ℕ) (begin : ℕ) (out : List �
   pub within : RequestWithin k orders
   pub begins : begin ≤ length out
 
-pub record SizedMay (k : Kind) (orders : List ℕ) (left terms bytes begin : ℕ) (out : List ℕ) : Type 0 where
+-- a request with its word
+pub record WordMay (k : Kind) (orders : List ℕ) (left : ℕ) : Type 0 where
+  pub within : RequestWithin k orders
+  pub word : Packed orders 0 left
+
+-- a request that was measured
+pub record SizedMay (k : Kind) (orders : List ℕ) (left long count begin : ℕ) (out : List ℕ) : Type 0 where
   pub request : RequestMay k orders begin out
   pub word : Packed orders 0 left
-  pub count : terms ≡ length (termsOf k orders)
-  pub few : terms ≤ mostTerms
-  pub long : bytes ≡ length (termsBytes (termsOf k orders))
-  pub short : bytes ≤ 32 * terms
+  pub size : Roll long count ≡ kindMeasured k orders
