@@ -92,7 +92,7 @@ both s t some =
     let g = length-append (below (t .two)) (inTurn below (t .more)) in
     omega arith
 
-abbrev Doubled : State → Type 0
+abbrev pub Doubled : State → Type 0
 Doubled s = usesBoys (s .kind) ≡ true → Unused (s .kind) (s .left) → 2 ^ total (s .left) ≤ length (expand s)
 
 -- each has at least half of 2^L
