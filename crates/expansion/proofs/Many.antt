@@ -1,5 +1,5 @@
 -- Nuclear and Coulomb requests of a large L are always 4: they have at least 2^L terms (histories Doubling), and the limit is below that.
--- 01: "Coulomb with L = 16: branches 0 and 1 alone give 2^16 = 65,536, so 4."
+-- 02, Q-6: "Coulomb with L of 20 or more then always exceeds it." (01 said it of L = 16 and its own limit: branches 0 and 1 alone give 2^L.)
 use Prim.Native.Nat.{ℕ, _+_, _^_, _≤_, _<_}
 use mathlib.Core.Path.{_≡_, refl, ap, _∙_}
 use mathlib.Core.Bool.{true}
@@ -42,7 +42,7 @@ module _ (kind : ℕ) (orders before : List ℕ) (begin : ℕ) (k : Kind) (passe
 
 -- The L from which on every Coulomb request is 4. It is changed with the limit, here alone: `one-more` fails until it is.
 abbrev pub tooManyFrom : ℕ
-tooManyFrom = 16
+tooManyFrom = 20
 
 -- one term more than the limit is 2 to this power
 pub one-more : mostTerms + 1 ≡ 2 ^ tooManyFrom
