@@ -1,13 +1,15 @@
 //! The judge's program; README.md says how it is used.
 
-use oracle::{answer, diff, questions};
+use oracle::second::NOW;
+use oracle::{answer, diff, questions, runs};
 use std::env;
-use std::io::{self, BufWriter};
+use std::io::{self, BufWriter, Write};
 use std::process::exit;
 
 const USAGE: &str = "usage: oracle answer < QUESTIONS
        oracle questions KIND-OF-QUESTION COUNT SEED
-       oracle questions expand-all KIND
+       oracle questions expand-all KIND [PART OF]
+       oracle questions component-all
        oracle diff KIND-OF-QUESTION QUESTIONS ANSWERS-OURS ANSWERS-RUST COUNT";
 
 fn main() {
@@ -37,24 +39,34 @@ fn run(words: &[&str]) -> io::Result<Option<bool>> {
             answer::answer_all(io::stdin(), &mut out)?;
             Ok(Some(true))
         }
-        ["questions", "expand-all", kind] => match kind.parse() {
-            Ok(kind) if kind < 4 => {
-                questions::write_every_request(kind, &mut out)?;
-                Ok(Some(true))
-            }
-            _ => Ok(None),
-        },
-        ["questions", kind, count, seed] => match (count.parse(), seed.parse()) {
-            (Ok(count), Ok(seed)) => {
-                let known = questions::write_all(kind, count, seed, &mut out)?;
-                Ok(if known { Some(true) } else { None })
-            }
-            _ => Ok(None),
-        },
+        ["questions", rest @ ..] => questions(rest, &mut out),
         ["diff", kind, asked, ours, rust, count] => match count.parse() {
             Ok(count) => diff::compare(kind, asked, ours, rust, count).map(Some),
             Err(_) => Ok(None),
         },
         _ => Ok(None),
     }
+}
+
+fn questions(words: &[&str], out: &mut dyn Write) -> io::Result<Option<bool>> {
+    let (word, numbers) = match words.split_first() {
+        Some(words) => words,
+        None => return Ok(None),
+    };
+    let numbers: Result<Vec<u64>, _> = numbers.iter().map(|word| word.parse()).collect();
+    match (*word, numbers.as_deref()) {
+        ("component-all", Ok([])) => runs::every_component(NOW.order_sum, out)?,
+        ("expand-all", Ok([kind @ 0..=3])) => runs::every_request(*kind as u8, 0, 1, out)?,
+        ("expand-all", Ok([kind @ 0..=3, part, of])) if part < of => {
+            runs::every_request(*kind as u8, *part as usize, *of as usize, out)?
+        }
+        ("expand-within", Ok([count, seed])) => runs::within_the_cap(*count, *seed, out)?,
+        ("measure-around", Ok([count, seed])) => runs::around_the_cap(*count, *seed, out)?,
+        (kind, Ok([count, seed])) => {
+            let known = questions::write_all(kind, *count, *seed, out)?;
+            return Ok(Some(true).filter(|_| known));
+        }
+        _ => return Ok(None),
+    }
+    Ok(Some(true))
 }
