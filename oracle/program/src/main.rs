@@ -1,7 +1,7 @@
 //! The judge's program; README.md says how it is used.
 
 use oracle::second::NOW;
-use oracle::{answer, diff, questions, runs};
+use oracle::{answer, diff, questions, runs, second};
 use std::env;
 use std::io::{self, BufWriter, Write};
 use std::process::exit;
@@ -10,6 +10,7 @@ const USAGE: &str = "usage: oracle answer < QUESTIONS
        oracle questions KIND-OF-QUESTION COUNT SEED
        oracle questions expand-all KIND [PART OF]
        oracle questions component-all
+       oracle count KIND
        oracle diff KIND-OF-QUESTION QUESTIONS ANSWERS-OURS ANSWERS-RUST COUNT";
 
 fn main() {
@@ -40,6 +41,13 @@ fn run(words: &[&str]) -> io::Result<Option<bool>> {
             Ok(Some(true))
         }
         ["questions", rest @ ..] => questions(rest, &mut out),
+        ["count", kind] => match kind.parse() {
+            Ok(kind) if kind <= 4 => {
+                count(kind, &mut out)?;
+                Ok(Some(true))
+            }
+            _ => Ok(None),
+        },
         ["diff", kind, asked, ours, rust, count] => match count.parse() {
             Ok(count) => diff::compare(kind, asked, ours, rust, count).map(Some),
             Err(_) => Ok(None),
@@ -69,4 +77,38 @@ fn questions(words: &[&str], out: &mut dyn Write) -> io::Result<Option<bool>> {
         _ => return Ok(None),
     }
     Ok(Some(true))
+}
+
+/// What a census of all requests of a kind shows.
+fn count(kind: u8, out: &mut dyn Write) -> io::Result<()> {
+    let facts = second::facts(kind);
+    for (l, (all, over)) in facts.by_l.iter().enumerate() {
+        writeln!(out, "L {}: {} requests, {} over the cap", l, all, over)?;
+    }
+    let sum = |of: fn(&(u64, u64)) -> u64| facts.by_l.iter().map(of).sum::<u64>();
+    writeln!(
+        out,
+        "all: {} requests, {} over the cap",
+        sum(|l| l.0),
+        sum(|l| l.1)
+    )?;
+    let found = [
+        ("most terms", Some(facts.most_terms)),
+        ("most terms within the cap", Some(facts.most_terms_within)),
+        ("fewest terms over the cap", facts.fewest_terms_over),
+        (
+            "largest scale within the cap",
+            Some(facts.largest_scale_within),
+        ),
+        (
+            "longest roll within the cap",
+            Some(facts.longest_roll_within),
+        ),
+    ];
+    for (title, found) in found {
+        if let Some((number, orders)) = found {
+            writeln!(out, "{}: {}, {:?}", title, number, orders)?;
+        }
+    }
+    out.flush()
 }

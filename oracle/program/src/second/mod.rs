@@ -5,6 +5,7 @@
 //! and the checks of an evaluation. Nothing here calls the unchanged Rust. The step rules and
 //! the geometry are here too, so that the two can be held against each other.
 
+mod census;
 mod checks;
 mod geometry;
 mod limits;
@@ -13,6 +14,7 @@ mod refusal;
 mod roll;
 mod steps;
 
+pub use census::{facts, Facts};
 pub use checks::{check_component, check_evaluation, check_matrices, check_measured};
 pub use checks::{check_request, check_results, check_room, check_shell, check_table};
 pub use geometry::geometry_and_table;

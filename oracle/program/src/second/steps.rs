@@ -4,8 +4,8 @@ use std::collections::HashMap;
 
 /// A branch of one step. It is legal when its multiplier is at least 1.
 #[derive(Clone, Copy, Default)]
-struct Branch {
-    multiplier: u8,
+pub struct Branch {
+    pub multiplier: u8,
     /// What falls, one each: places among the twelve orders.
     falls: [Option<usize>; 2],
     prefactor: u8,
@@ -150,7 +150,7 @@ fn branches(kind: u8, left: &[u8; 12]) -> Branches {
 }
 
 /// The legal branches where a history stands.
-fn legal(kind: u8, left: &[u8; 12]) -> impl Iterator<Item = Branch> {
+pub fn legal(kind: u8, left: &[u8; 12]) -> impl Iterator<Item = Branch> {
     let step = branches(kind, left);
     let listed = (0..step.count).map(move |at| step.all[at]);
     listed.filter(|branch| branch.multiplier >= 1)
@@ -158,7 +158,7 @@ fn legal(kind: u8, left: &[u8; 12]) -> impl Iterator<Item = Branch> {
 
 impl Branch {
     /// Where a history stands after the branch.
-    fn leads_to(&self, kind: u8, left: &[u8; 12]) -> (u8, [u8; 12]) {
+    pub fn leads_to(&self, kind: u8, left: &[u8; 12]) -> (u8, [u8; 12]) {
         let mut left = *left;
         for &place in self.falls.iter().flatten() {
             left[place] -= 1;
