@@ -1,5 +1,6 @@
 pub mod AgainLaws
 pub mod Back
+pub mod Before
 pub mod Checked
 pub mod CursorLaws
 pub mod CutOrWrong
