@@ -1,7 +1,7 @@
 -- One text read with two limits (specs/Before.antt). With ours it is the reader. With lower ones an answer stays as it is with higher ones, or it is 7: shown of a number,
 -- then of what is read after it, part by part.
 use Prim.Native.Nat.{ℕ, zero, suc, _+_, _-_, _≤_}
-use mathlib.Core.Path.{_≡_, refl, sym, ap, _∙_}
+use mathlib.Core.Path.{_≡_, refl, ap, _∙_}
 use mathlib.Core.Bool.{Bool, true, false, cond, _||_}
 use mathlib.Core.List.{List, [], _∷_}
 use native.Mathlib.Omega.{arith}
@@ -23,11 +23,9 @@ use Rattle.term.specs.Terms.{Term}
 use Rattle.roll.specs.declared.field.Field.{Field}
 use Rattle.roll.specs.declared.field.Field.the-variants as field
 use Rattle.roll.specs.declared.cursor.Cursor.{Cursor}
-use Rattle.roll.specs.declared.cursor.Step.{Step}
-use Rattle.roll.specs.declared.header.Opened.{Opened}
 use Rattle.roll.specs.Reading.{Reading, got, refused, opened, withinAt, onward, andThen, before, sumAfter, ordersAt, Header, countedAt, ofKind, headerAt, boysAt, termAt, termsAt, Roll, rollAt}
 use Rattle.roll.specs.Header.{refusedOpened, heldHeader, openOf, judged, checked, checkOf}
-use Rattle.roll.specs.Cursor.{refusedStep, stepped, endOr, stepWith, stepAs, stepOf}
+use Rattle.roll.specs.Cursor.{refusedStep, stepped, endOr, stepAs, stepOf}
 use Rattle.roll.specs.Before.{ReaderLimits, limitsNow, mostLUnder, ordersUnder, countedUnder, ofKindUnder, headerUnder, termUnder, termsUnder, rollUnder, openUnder, checkedUnder, checkUnder, stepUnder, stepAsUnder, nextUnder, OneReading}
 
 -- ---- with our limits: the reader
@@ -141,7 +139,7 @@ unfolding withinAt
 field-stays s at low high more less = opened-stays (readAt s at) at low high more less
 
 onward-stays : {A : Type 0} (x y : Field) (f g : ℕ → ℕ → Reading A) → Stays (field.Refused 7) x y → ((n next : ℕ) → Stays (refused 7) (f n next) (g n next)) → Stays (refused 7) (onward x f) (onward y g)
-onward-stays {A = A} x y f g (same e) rest = rw (← e) (by x)
+onward-stays x y f g (same e) rest = rw (← e) (by x)
   where
     by : (x : Field) → Stays (refused 7) (onward x f) (onward x g)
     by (field.Is n next) = rest n next

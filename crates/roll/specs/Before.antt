@@ -4,7 +4,7 @@
 use Prim.Native.Nat.{ℕ, zero, suc, _+_, _*_, _-_, _^_, _≤_, _<_}
 use mathlib.Core.Path.{_≡_}
 use mathlib.Core.Bool.{cond, _||_}
-use mathlib.Core.List.{List, [], _∷_, map}
+use mathlib.Core.List.{List, [], _∷_, _++_, map}
 use lib.Dec.{ltb, eqb}
 use lib.ListN.{length, getD, take}
 use Rattle.laws.specs.Total.{total}
@@ -17,10 +17,11 @@ use Rattle.kind.specs.declared.Named.the-variants as named
 use Rattle.term.specs.Terms.{Term}
 use Rattle.number.specs.Numbers.{Bytes, lengthOf}
 use Rattle.roll.specs.declared.cursor.Cursor.{Cursor}
+use Rattle.roll.specs.declared.cursor.Found.the-variants as found
 use Rattle.roll.specs.declared.cursor.Step.{Step}
 use Rattle.roll.specs.declared.header.Opened.{Opened}
 use Rattle.roll.specs.Bytes.{termsBytes, rollBytes}
-use Rattle.roll.specs.Reading.{Reading, got, refused, withinAt, onward, andThen, before, sumAfter, Header, boysAt, Roll, rollAt}
+use Rattle.roll.specs.Reading.{Reading, got, refused, withinAt, onward, andThen, before, sumAfter, Header, headerAt, boysAt, Roll, rollAt}
 use Rattle.roll.specs.Fits.{RollFits}
 use Rattle.roll.specs.Header.{refusedOpened, heldHeader, openOf, judged, checkOf, refusalOf}
 use Rattle.roll.specs.Cursor.{refusedStep, stepped, endOr, stepOf, refusalOf as stepRefusal}
@@ -166,13 +167,48 @@ pub record StopsAt (s : List ℕ) (place : ℕ) : Type 0 where
   pub opens : openUnder limitsBefore s ≡ openOf s
   pub checks : checkUnder limitsBefore s ≡ refusedOpened 7 place
 
-pub record OldCabinet (r : Roll) : Type 0 where
-  -- "A roll with a higher order is refused by an old cabinet with 7 at the order that passes 4": the kind and each order have one byte
-  pub at-order : (i : ℕ) → FirstAbove (limitsBefore .order) (centreSums (r .orders)) i → RefusedAt (writing r) (1 + i)
+pub record OldCabinet : Type 0 where
+  -- "A roll with a higher order is refused by an old cabinet with 7 at the order that passes 4": the kind and each order before it have one byte
+  pub at-order : (r : Roll) → RollFits r → (i : ℕ) → FirstAbove (limitsBefore .order) (centreSums (r .orders)) i → RefusedAt (writing r) (1 + i)
   -- "and one with lower orders but more than 65,535 terms with 7 at its count"
-  pub at-count : NoneAbove (limitsBefore .order) (centreSums (r .orders)) → limitsBefore .terms < length (r .terms) → RefusedAt (writing r) (1 + ordersOf (r .kind))
-  -- with lower orders and no more terms, but a higher scale: 7 at the first such scale, behind the header and the terms before it
-  pub at-scale : (i : ℕ) → NoneAbove (limitsBefore .order) (centreSums (r .orders)) → length (r .terms) ≤ limitsBefore .terms → FirstAbove (limitsBefore .scale) (scales (r .terms)) i
+  pub at-count : (r : Roll) → RollFits r → NoneAbove (limitsBefore .order) (centreSums (r .orders)) → limitsBefore .terms < length (r .terms) → RefusedAt (writing r) (1 + ordersOf (r .kind))
+  -- one with lower orders and no more terms, but a higher scale, with 7 at the first such scale, behind the header and the terms before it
+  pub at-scale : (r : Roll) → RollFits r → (i : ℕ) → NoneAbove (limitsBefore .order) (centreSums (r .orders)) → length (r .terms) ≤ limitsBefore .terms → FirstAbove (limitsBefore .scale) (scales (r .terms)) i
       → StopsAt (writing r) (1 + ordersOf (r .kind) + lengthOf (length (r .terms)) + length (termsBytes (take i (r .terms))))
-  -- all of them read now
-  pub reads-now : rollAt (writing r) ≡ got r (length (writing r))
+  -- and so does a step of its cursor at a term of a higher scale
+  pub at-step : (c : Cursor) (s : List ℕ) → stepOf c s .found ≡ found.Term → limitsBefore .scale < stepOf c s .term .scale → nextUnder limitsBefore c s ≡ refusedStep 7 (c .place)
+  -- all of these rolls read now
+  pub reads-now : (r : Roll) → RollFits r → rollAt (writing r) ≡ got r (length (writing r))
+
+-- ---- cases, run with the limits of before: the last that an old cabinet takes of each limit, and the first that it refuses
+
+-- an overlap's roll with these x and y orders on A; one term, of this scale, with no prefactors
+abbrev pub overlap : ℕ → ℕ → List ℕ → List ℕ
+overlap x y scale = (0x00 ∷ x ∷ y ∷ 0x00 ∷ 0x00 ∷ 0x00 ∷ 0x00 ∷ 0x01 ∷ []) ++ scale ++ (0x00 ∷ 0x00 ∷ [])
+
+abbrev pub overlapOf : ℕ → ℕ → ℕ → Roll
+overlapOf x y scale = record { kind = Overlap; orders = x ∷ y ∷ 0 ∷ 0 ∷ 0 ∷ 0 ∷ []; terms = record { scale = scale; boys = 0; prefactors = [] } ∷ [] }
+
+-- the header of overlap s,s with this term count
+abbrev pub counted : List ℕ → List ℕ
+counted count = (0x00 ∷ 0x00 ∷ 0x00 ∷ 0x00 ∷ 0x00 ∷ 0x00 ∷ 0x00 ∷ []) ++ count
+
+abbrev pub countedOf : ℕ → Header
+countedOf count = record { kind = Overlap; orders = 0 ∷ 0 ∷ 0 ∷ 0 ∷ 0 ∷ 0 ∷ []; terms = count }
+
+pub record OldCases : Type 0 where
+  -- Ax4 reads; Ax5 is refused at its x, and Ax3 y2 at its y, with which the sum passes
+  pub last-order : rollUnder limitsBefore (overlap 4 0 (0x01 ∷ [])) ≡ got (overlapOf 4 0 1) 11
+  pub order-above : rollUnder limitsBefore (overlap 5 0 (0x01 ∷ [])) ≡ refused 7 1
+  pub sum-above : rollUnder limitsBefore (overlap 3 2 (0x01 ∷ [])) ≡ refused 7 2
+  -- 65,535 and 65,536 terms
+  pub last-count : headerUnder limitsBefore (counted (0xff ∷ 0xff ∷ 0x03 ∷ [])) ≡ got (countedOf 65535) 10
+  pub count-above : headerUnder limitsBefore (counted (0x80 ∷ 0x80 ∷ 0x04 ∷ [])) ≡ refused 7 7
+  -- scale 65,536 and 65,537
+  pub last-scale : rollUnder limitsBefore (overlap 0 0 (0x80 ∷ 0x80 ∷ 0x04 ∷ [])) ≡ got (overlapOf 0 0 65536) 13
+  pub scale-above : rollUnder limitsBefore (overlap 0 0 (0x81 ∷ 0x80 ∷ 0x04 ∷ [])) ≡ refused 7 8
+  -- what was refused reads now
+  pub order-now : rollAt (overlap 5 0 (0x01 ∷ [])) ≡ got (overlapOf 5 0 1) 11
+  pub sum-now : rollAt (overlap 3 2 (0x01 ∷ [])) ≡ got (overlapOf 3 2 1) 11
+  pub count-now : headerAt (counted (0x80 ∷ 0x80 ∷ 0x04 ∷ [])) ≡ got (countedOf 65536) 10
+  pub scale-now : rollAt (overlap 0 0 (0x81 ∷ 0x80 ∷ 0x04 ∷ [])) ≡ got (overlapOf 0 0 65537) 13
