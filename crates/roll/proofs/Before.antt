@@ -23,7 +23,7 @@ use Rattle.term.specs.Terms.{Term}
 use Rattle.roll.specs.declared.field.Field.{Field}
 use Rattle.roll.specs.declared.field.Field.the-variants as field
 use Rattle.roll.specs.declared.cursor.Cursor.{Cursor}
-use Rattle.roll.specs.Reading.{Reading, got, refused, opened, withinAt, onward, andThen, before, sumAfter, ordersAt, Header, countedAt, ofKind, headerAt, boysAt, termAt, termsAt, Roll, rollAt}
+use Rattle.roll.specs.Reading.{Reading, got, refused, wrongPlace, opened, withinAt, onward, andThen, before, sumAfter, ordersAt, Header, countedAt, ofKind, headerAt, boysAt, termAt, termsAt, Roll, rollAt}
 use Rattle.roll.specs.Header.{refusedOpened, heldHeader, openOf, judged, checked, checkOf}
 use Rattle.roll.specs.Cursor.{refusedStep, stepped, endOr, stepAs, stepOf}
 use Rattle.roll.specs.Before.{ReaderLimits, limitsNow, mostLUnder, ordersUnder, countedUnder, ofKindUnder, headerUnder, termUnder, termsUnder, rollUnder, openUnder, checkedUnder, checkUnder, stepUnder, stepAsUnder, nextUnder, OneReading}
@@ -119,9 +119,9 @@ stays-made f seven then x y is (seven-at p e) = seven-at p (ap f e ∙ is p)
 
 -- a number with one upper limit and a higher one
 limited-stays : (n next at low high more : ℕ) → high ≤ more → Stays (field.Refused 7) (opened (number.Is n next) at low high) (opened (number.Is n next) at low more)
-limited-stays n next at low high more less = tested (ltb high n) (λ t. seven-at at (beyond (ltb n low) t)) (λ f. same (within f))
+limited-stays n next at low high more less = tested (ltb high n) (λ t. seven-at (wrongPlace at next) (beyond (ltb n low) t)) (λ f. same (within f))
   where
-    beyond : (b : Bool) → ltb high n ≡ true → cond (b || ltb high n) (field.Refused 7 at) (field.Is n next) ≡ field.Refused 7 at
+    beyond : (b : Bool) → ltb high n ≡ true → cond (b || ltb high n) (field.Refused 7 (wrongPlace at next)) (field.Is n next) ≡ field.Refused 7 (wrongPlace at next)
     beyond true t = refl
     beyond false t = rw t
 
