@@ -1,6 +1,6 @@
--- 02, Q-6: what a cabinet with the limits of before says. 01's reading once more, with a reader's limits as a parameter; only the lines that cite a limit differ from
--- Reading, Header and Cursor. With our limits it is the reader (`OneReading`, by proofs/Before.antt), so one text is read with both.
--- Then Q-6's sentences: `OldRolls` and `OldCabinet`, proved in proofs/BeforeRolls.antt.
+-- 02, Q-6: what a cabinet with the limits of before says. 01's reading once more, with a reader's limits as a parameter: only the lines that cite a limit differ from
+-- Reading, Header and Cursor. With our limits it is the reader (`OneReading`), so one text is read with both. The limits alone are of before: what is cut is 14, as since Q-5.
+-- Then Q-6's sentences, `OldRolls` and `OldCabinet`. Proved in proofs/Before.antt and proofs/BeforeRolls.antt.
 use Prim.Native.Nat.{ℕ, zero, suc, _+_, _*_, _-_, _^_, _≤_, _<_}
 use mathlib.Core.Path.{_≡_}
 use mathlib.Core.Bool.{cond, _||_}
@@ -155,7 +155,7 @@ pub record OldRolls : Type 0 where
   pub written : (r : Roll) → RollFits r → Keeps limitsBefore r → rollUnder limitsBefore (writing r) ≡ got r (length (writing r))
   pub no-other : (s : List ℕ) (r : Roll) (end : ℕ) → Bytes s → rollUnder limitsBefore s ≡ got r end → (s ≡ writing r) × RollFits r × Keeps limitsBefore r
 
--- ---- what an old cabinet says of a roll that keeps our limits
+-- ---- what an old cabinet says of a roll that keeps our limits; every roll that reads is the writing of one (proofs/Written.antt)
 
 -- its header is refused 7 at a place
 pub record RefusedAt (s : List ℕ) (place : ℕ) : Type 0 where
@@ -175,7 +175,7 @@ pub record OldCabinet : Type 0 where
   -- one with lower orders and no more terms, but a higher scale, with 7 at the first such scale, behind the header and the terms before it
   pub at-scale : (r : Roll) → RollFits r → (i : ℕ) → NoneAbove (limitsBefore .order) (centreSums (r .orders)) → length (r .terms) ≤ limitsBefore .terms → FirstAbove (limitsBefore .scale) (scales (r .terms)) i
       → StopsAt (writing r) (1 + ordersOf (r .kind) + lengthOf (length (r .terms)) + length (termsBytes (take i (r .terms))))
-  -- and so does a step of its cursor at a term of a higher scale
+  -- and a step of its cursor at a term of a higher scale is 7 at the term's place
   pub at-step : (c : Cursor) (s : List ℕ) → stepOf c s .found ≡ found.Term → limitsBefore .scale < stepOf c s .term .scale → nextUnder limitsBefore c s ≡ refusedStep 7 (c .place)
   -- all of these rolls read now
   pub reads-now : (r : Roll) → RollFits r → rollAt (writing r) ≡ got r (length (writing r))
