@@ -34,8 +34,8 @@ static const struct {
 static void accept(uint8_t refusal, size_t place)
 {
     static const char *const words[] = {
-        "", "kind above 4", "an order sum the kind uses, or a shell's order, above 4",
-        "one of the twelve orders unused by the kind is not 0", "more than 65,535 complete histories",
+        "", "kind above 4", "an order sum the kind uses, or a shell's order, above 6",
+        "one of the twelve orders unused by the kind is not 0", "more than 1,048,575 complete histories",
         "start place beyond the buffer's end",
         "the whole output doesn't fit from the start place, or the listing's input is over 65,536 bytes",
         "roll breaks a rule below; carries the place", "a used input float is not finite",

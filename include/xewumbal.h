@@ -11,9 +11,9 @@
  * first in the order that stands at the call; 7 and 14 never apply at once.
  *
  *    1  kind above 4
- *    2  an order sum the kind uses, or a shell's order, above 4
+ *    2  an order sum the kind uses, or a shell's order, above 6
  *    3  one of the twelve orders unused by the kind is not 0
- *    4  more than 65,535 complete histories
+ *    4  more than 1,048,575 complete histories
  *    5  start place beyond the buffer's end
  *    6  the whole output doesn't fit from the start place, or the listing's input is over 65,536 bytes
  *    7  roll breaks a rule below; carries the place
@@ -25,8 +25,8 @@
  *   13  component number not below the count
  *   14  the roll ends before a number does; carries the place
  *
- * These are the words of docs/01-scope.md, which has the rules of a roll, and for 14 of docs/requests/Q-5.md; the
- * listing is not exported.
+ * These are the words of docs/01-scope.md, which has the rules of a roll, for 14 of docs/requests/Q-5.md and for 2 and 4
+ * of docs/requests/Q-6.md, which has the limits; the listing is not exported.
  *
  * Kinds: 0 overlap, 1 kinetic, 2 nuclear, 3 moment, 4 Coulomb. Orders stand by centre, x y z each: A, B; for kind 3
  * then the operator; for kind 4 then C, D. L is the sum of all orders. docs/01-scope.md defines terms and rolls.
@@ -44,21 +44,23 @@ extern "C" {
 /* Raised when a struct, a meaning or an answer changes. */
 #define XEW_VERSION 2
 
-#define XEW_KINDS 5           /* kinds are 0 to 4 */
-#define XEW_ORDERS 12         /* orders of a request */
-#define XEW_MOST_ORDER 4      /* order sum of a centre, of the operator, of a shell */
-#define XEW_MOST_TERMS 65535  /* terms of a roll */
-#define XEW_MOST_SCALE 65536  /* scale of a term */
-#define XEW_MOST_SIZE 16      /* rows of J, K and D */
-#define XEW_PREFACTORS 16     /* places for a term's prefactors */
-#define XEW_TABLE 23          /* places for a table's entries: 8, 11, 11, 12 or 23 of them by kind */
+#define XEW_KINDS 5               /* kinds are 0 to 4 */
+#define XEW_ORDERS 12             /* orders of a request */
+#define XEW_MOST_ORDER 6          /* order sum of a centre, of the operator, of a shell */
+#define XEW_MOST_TERMS 1048575    /* terms of a roll */
+#define XEW_MOST_SCALE 2176782336 /* scale of a term */
+#define XEW_MOST_ROLL 32505841    /* bytes that hold any roll of xew_expand; the longest has 15,001,920 */
+#define XEW_MOST_SIZE 16          /* rows of J, K and D */
+#define XEW_PREFACTORS 24         /* places for a term's prefactors */
+#define XEW_TABLE 23              /* places for a table's entries: 8, 11, 11, 12 or 23 of them by kind */
 
 /* A centre. Kinds 0 and 1 use A and B; 2 and 3 also C's coordinates; 4 uses A to D. Unused floats are not looked at. */
 typedef struct {
     double x, y, z, exponent;
 } xew_centre;
 
-/* What was written from the start place on: its bytes, and the terms of a roll or the triples of a shell list. */
+/* What was written from the start place on, or measured: its bytes, and the terms of a roll or the triples of a shell
+ * list. */
 typedef struct {
     size_t length;
     uint32_t terms;
@@ -109,9 +111,13 @@ typedef struct {
 } xew_step;
 
 /* Writes the roll of a request into out from start on: every term of the integral, one for each complete lowering
- * history. orders points to twelve bytes, 0 where the kind uses none. 1,376,251 bytes hold any roll.
+ * history. orders points to twelve bytes, 0 where the kind uses none. XEW_MOST_ROLL bytes hold any roll.
  * Refusals: 1, 2, 3, 5, 4, 6. */
 xew_written xew_expand(uint8_t kind, const uint8_t (*orders)[12], uint8_t *out, size_t out_len, size_t start);
+
+/* The bytes and the terms of that roll, without writing it: xew_expand answers the same from any start place that has
+ * room for so many bytes. Refusals: 1, 2, 3, 4. */
+xew_written xew_measure(uint8_t kind, const uint8_t (*orders)[12]);
 
 /* Writes the triples of a shell, three bytes each, x descending, then y. Refusals: 2, 5, 6. */
 xew_written xew_shell_list(uint8_t order, uint8_t *out, size_t out_len, size_t start); /* terms: triples */

@@ -37,15 +37,17 @@ pub const KINDS: u8 = 5;
 /// The orders of a request, used by its kind or not.
 pub const ORDERS: usize = 12;
 /// The order sum of a centre, of the operator, of a shell.
-pub const MOST_ORDER: u8 = 4;
+pub const MOST_ORDER: u8 = 6;
 /// The terms of a roll.
-pub const MOST_TERMS: u32 = 65535;
+pub const MOST_TERMS: u32 = 1048575;
 /// The scale of a term.
-pub const MOST_SCALE: u32 = 65536;
+pub const MOST_SCALE: u32 = 2176782336;
+/// The bytes that hold any roll of [`expand`].
+pub const MOST_ROLL: usize = 32505841;
 /// The rows of J, K and D.
 pub const MOST_SIZE: usize = 16;
 /// The places for a term's prefactors.
-pub const PREFACTORS: usize = 16;
+pub const PREFACTORS: usize = 24;
 /// The places for a table's entries: 8, 11, 11, 12 or 23 of them by kind.
 pub const TABLE: usize = 23;
 
@@ -60,13 +62,13 @@ pub const MOMENT: u8 = 3;
 /// Kind 4.
 pub const COULOMB: u8 = 4;
 
-/// The answer of [`expand`].
+/// The answer of [`expand`] and [`measure`].
 #[derive(Clone, Copy, Debug, PartialEq, Eq)]
 pub enum Expanded {
-    /// The roll has `length` bytes from the start place on, and `terms` terms.
+    /// The roll has `length` bytes, from the start place on where it was written, and `terms` terms.
     #[allow(missing_docs)]
     Roll { length: usize, terms: u32 },
-    /// By 1, 2, 3, 5, 4 or 6.
+    /// By 1, 2, 3, 5, 4 or 6; of [`measure`] by 1, 2, 3 or 4.
     Refused(Refusal),
 }
 
@@ -156,13 +158,23 @@ pub enum Matrices {
     Refused(Refusal),
 }
 
-/// Writes the roll of a request into `out` from `start` on: every term of the integral. 1,376,251 bytes hold any roll.
+/// Writes the roll of a request into `out` from `start` on: every term of the integral. [`MOST_ROLL`] bytes hold any
+/// roll, [`measure`] tells how many one has.
 pub fn expand(kind: u8, orders: &[u8; ORDERS], out: &mut [u8], start: usize) -> Expanded {
-    let answer = raw::expand(kind, orders, out, start);
+    expanded(raw::expand(kind, orders, out, start))
+}
+
+fn expanded(answer: raw::Written) -> Expanded {
     match Refusal::of(answer.refusal, 0) {
         Some(refusal) => Expanded::Refused(refusal),
         None => Expanded::Roll { length: answer.length, terms: answer.terms },
     }
+}
+
+/// Measures the roll of a request without writing it: [`expand`] answers the same from any start place that has room for so
+/// many bytes.
+pub fn measure(kind: u8, orders: &[u8; ORDERS]) -> Expanded {
+    expanded(raw::measure(kind, orders))
 }
 
 /// Writes the triples of a shell into `out` from `start` on, three bytes each, x descending, then y.

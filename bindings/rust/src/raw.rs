@@ -75,11 +75,12 @@ pub struct Step {
 const _: () = assert!(size_of::<Centre>() == 32 && size_of::<Cursor>() == 16);
 const _: () = assert!(size_of::<Written>() == 16 && size_of::<Value>() == 24);
 const _: () = assert!(size_of::<Component>() == 13 && size_of::<Table>() == 192);
-const _: () = assert!(size_of::<Opened>() == 40 && size_of::<Step>() == 48);
+const _: () = assert!(size_of::<Opened>() == 40 && size_of::<Step>() == 56);
 
 #[rustfmt::skip]
 extern "C" {
     fn xew_expand(kind: u8, orders: *const [u8; ORDERS], out: *mut u8, out_len: usize, start: usize) -> Written;
+    fn xew_measure(kind: u8, orders: *const [u8; ORDERS]) -> Written;
     fn xew_shell_list(order: u8, out: *mut u8, out_len: usize, start: usize) -> Written;
     fn xew_shell2(a: u8, b: u8, number: u32) -> Component;
     fn xew_shell4(a: u8, b: u8, c: u8, d: u8, number: u32) -> Component;
@@ -95,6 +96,10 @@ extern "C" {
 
 pub fn expand(kind: u8, orders: &[u8; ORDERS], out: &mut [u8], start: usize) -> Written {
     unsafe { xew_expand(kind, orders, out.as_mut_ptr(), out.len(), start) }
+}
+
+pub fn measure(kind: u8, orders: &[u8; ORDERS]) -> Written {
+    unsafe { xew_measure(kind, orders) }
 }
 
 pub fn shell_list(order: u8, out: &mut [u8], start: usize) -> Written {

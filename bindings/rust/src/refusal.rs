@@ -40,9 +40,9 @@ impl Refusal {
     const fn both(self) -> (u8, &'static str) {
         match self {
             Refusal::Kind => (1, "kind above 4"),
-            Refusal::OrderSum => (2, "an order sum the kind uses, or a shell's order, above 4"),
+            Refusal::OrderSum => (2, "an order sum the kind uses, or a shell's order, above 6"),
             Refusal::UnusedOrder => (3, "one of the twelve orders unused by the kind is not 0"),
-            Refusal::TooManyTerms => (4, "more than 65,535 complete histories"),
+            Refusal::TooManyTerms => (4, "more than 1,048,575 complete histories"),
             Refusal::StartBeyondEnd => (5, "start place beyond the buffer's end"),
             Refusal::NoRoom => {
                 (6, "the whole output doesn't fit from the start place, or the listing's input is over 65,536 bytes")

@@ -2,6 +2,7 @@ pub mod Answers
 pub mod Demanded
 pub mod HeaderLaws
 pub mod Longest
+pub mod Many
 pub mod MeasureCycle
 pub mod MeasureGroups
 pub mod MeasureSizes

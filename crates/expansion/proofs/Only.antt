@@ -7,7 +7,7 @@ use Rattle.laws.proofs.Contract.{Alone, alone, Lent, _then_, _▸_, end}
 use Rattle.expansion.specs.declared.Expanded.{Expanded}
 use Rattle.expansion.specs.Expanding.{namedTold, namedMeasured, namedOut}
 use Rattle.expansion.proofs.expand.Reads.{Post as Expand}
-use Rattle.expansion.proofs.roll_size.Reads.{Post as RollSize}
+use Rattle.expansion.proofs.size.roll_size.Reads.{Post as RollSize}
 
 pub expand-only : (κs : Lfts 1) (kind : ℕ) (orders : List ℕ) (out : Lent ℕ) (start : ℕ) →
     let told = namedTold (kindOf kind) orders (out .now) start in

@@ -43,6 +43,10 @@ unusedSet k orders = total (drop (ordersOf k) orders) exceeds 0
 abbrev pub termsOf : Kind → List ℕ → List Term
 termsOf k orders = expand (start k orders)
 
+-- 4: more complete histories than a list may have terms
+abbrev pub tooMany : Kind → List ℕ → Bool
+tooMany k orders = length (termsOf k orders) exceeds mostTerms
+
 -- kind; the orders that it uses; term count; terms
 unfoldable pub rollOf : Kind → List ℕ → List ℕ
 rollOf k orders = rollBytes k (take (ordersOf k) orders) (termsOf k orders)
@@ -53,7 +57,7 @@ kindTold k orders out begin =
     cond (tooHigh k orders) (Refused 2)
     (cond (unusedSet k orders) (Refused 3)
     (cond (begin exceeds length out) (Refused 5)
-    (cond (length (termsOf k orders) exceeds mostTerms) (Refused 4)
+    (cond (tooMany k orders) (Refused 4)
     (cond (begin + length (rollOf k orders) exceeds length out) (Refused 6)
     (Roll (length (rollOf k orders)) (length (termsOf k orders)))))))
 
@@ -77,7 +81,7 @@ unfoldable pub kindMeasured : Kind → List ℕ → Expanded
 kindMeasured k orders =
     cond (tooHigh k orders) (Refused 2)
     (cond (unusedSet k orders) (Refused 3)
-    (cond (length (termsOf k orders) exceeds mostTerms) (Refused 4)
+    (cond (tooMany k orders) (Refused 4)
     (Roll (length (rollOf k orders)) (length (termsOf k orders)))))
 
 -- before them 1, for a kind above 4

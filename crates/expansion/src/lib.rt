@@ -2,13 +2,13 @@
 mod header;
 mod measure;
 mod request;
+mod size;
 mod terms;
 mod walk;
 
-ghost use mathlib.Core.Path.{_≡_};
-ghost use Rattle.kind.specs.Kinds.{kindOf};
-ghost use Rattle.expansion.specs.Expanding.{ExpandTold, kindMeasured, namedMeasured};
-ghost use Rattle.expansion.specs.inner.Requests.{KnownTold, RequestMay, WordMay, SizedMay};
+pub use size::roll_size;
+ghost use Rattle.expansion.specs.Expanding.{ExpandTold};
+ghost use Rattle.expansion.specs.inner.Requests.{KnownTold, RequestMay, SizedMay};
 use kind::Kind;
 use kind::Named;
 use steps::Axis;
@@ -55,22 +55,6 @@ pub enum Expanded {
     Refused(u8),
 }
 
-// The length and the term count of a request's roll.
-fn sized(kind: Kind, orders: [u8; Kind::ORDERS], left: u64) -> Expanded
-    requires { ⌜ WordMay kind orders left ⌝ }
-    ensures { λ r. ⌜ r ≡ kindMeasured kind orders ⌝ }
-{
-    let size = measure::measure_node(kind, left, 1, 0);
-    match size {
-        Measured::Over => Expanded::Refused(4),
-        Measured::Fits(terms, bytes) => {
-            let count = terms as u32;
-            let long = 1 + kind.orders() + number::length(count) + bytes as usize;
-            Expanded::Roll(long, count)
-        }
-    }
-}
-
 // Writes the roll of a request that was measured, where it fits (D-44).
 fn write_sized(
     kind: Kind,
@@ -97,7 +81,7 @@ fn expand_within(kind: Kind, orders: [u8; Kind::ORDERS], out: &mut [u8], start: 
     ensures { λ r. ⌜ KnownTold kind orders (now (out .entry)) start r (now (out .exit)) ⌝ }
 {
     let left = request::packed(orders);
-    let size = sized(kind, orders, left);
+    let size = size::sized(kind, orders, left);
     match size {
         Expanded::Refused(n) => Expanded::Refused(n),
         Expanded::Roll(long, count) => write_sized(kind, orders, left, long, count, out, start),
@@ -128,30 +112,5 @@ pub fn expand(kind: u8, orders: [u8; Kind::ORDERS], out: &mut [u8], start: usize
     match named {
         Named::Unknown => Expanded::Refused(1),
         Named::Is(known) => expand_kind(known, orders, out, start),
-    }
-}
-
-// Measures a request of a known kind.
-fn kind_size(kind: Kind, orders: [u8; Kind::ORDERS]) -> Expanded
-    ensures { λ r. ⌜ r ≡ kindMeasured kind orders ⌝ }
-{
-    if request::too_high(kind, orders) {
-        return Expanded::Refused(2);
-    }
-    if request::unused_set(kind, orders) {
-        return Expanded::Refused(3);
-    }
-    let left = request::packed(orders);
-    sized(kind, orders, left)
-}
-
-// Measures the roll of a request and writes nothing, so that a caller lends just what it takes.
-pub fn roll_size(kind: u8, orders: [u8; Kind::ORDERS]) -> Expanded
-    ensures { λ r. ⌜ r ≡ namedMeasured (kindOf kind) orders ⌝ }
-{
-    let named = Kind::of(kind);
-    match named {
-        Named::Unknown => Expanded::Refused(1),
-        Named::Is(known) => kind_size(known, orders),
     }
 }

@@ -2,6 +2,7 @@ pub mod Ascends
 pub mod Bounds
 pub mod Choices
 pub mod Demand
+pub mod Doubling
 pub mod Fair
 pub mod Nexts
 pub mod OneList

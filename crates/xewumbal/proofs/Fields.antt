@@ -4,10 +4,11 @@ use Prim.Native.Nat.{ℕ}
 use mathlib.Core.Path.{_≡_, refl, sym, ap, _∙_}
 use mathlib.Core.List.{List}
 use lib.Ieee.{Float}
+use Rattle.kind.specs.Kinds.{kindOf}
 use Rattle.term.specs.declared.Term.{Term as Held}
 use Rattle.expansion.specs.declared.Expanded.{Expanded}
 use Rattle.expansion.specs.declared.Expanded.the-variants as expanded
-use Rattle.expansion.specs.Expanding.{ExpandTold}
+use Rattle.expansion.specs.Expanding.{ExpandTold, namedMeasured}
 use Rattle.shell.specs.declared.Listed.{Listed}
 use Rattle.shell.specs.declared.Listed.the-variants as listed
 use Rattle.shell.specs.declared.Sought.{Sought}
@@ -40,7 +41,7 @@ use Rattle.xewumbal.specs.declared.xew_cursor.{«xew_cursor»}
 use Rattle.xewumbal.specs.declared.xew_opened.{«xew_opened»}
 use Rattle.xewumbal.specs.declared.xew_step.{«xew_step»}
 use Rattle.xewumbal.specs.Answers.{ExpandCallTold, ListCallTold, JkCallTold, centreIn, cursorIn, hostExpanded, hostListed, hostComponent, hostCursor, hostOpened, foundStep, hostStep, hostTable, hostValue}
-use Rattle.xewumbal.specs.Answers.{shell2Answer, shell4Answer, openAnswer, checkAnswer, nextAnswer, prefactorsAnswer, evaluateAnswer}
+use Rattle.xewumbal.specs.Answers.{measureAnswer, shell2Answer, shell4Answer, openAnswer, checkAnswer, nextAnswer, prefactorsAnswer, evaluateAnswer}
 
 -- ---- the cases in fields
 
@@ -99,6 +100,10 @@ expand-answered kind orders before start e after x told is = record { answer = i
 
 pub list-answered : (order : ℕ) (before : List ℕ) (start : ℕ) (l : Listed) (after : List ℕ) (x : «xew_written») → ListTold order before start l after → x ≡ hostListed l → ListCallTold order before start x after
 list-answered order before start l after x told is = record { answer = is ∙ ap hostListed (told .answer); out = told .out }
+
+pub measure-answered : (kind : ℕ) (orders : List ℕ) (size : Expanded) (r : «xew_written») → size ≡ namedMeasured (kindOf kind) orders → r ≡ hostExpanded size → r ≡ measureAnswer kind orders
+unfolding measureAnswer
+measure-answered kind orders size r below is = is ∙ ap hostExpanded below
 
 pub shell2-answered : (a b number : ℕ) (c : Component) (x : «xew_component») → c ≡ shell2Of a b number → x ≡ hostComponent c → x ≡ shell2Answer a b number
 unfolding shell2Answer

@@ -11,8 +11,9 @@ use Rattle.laws.proofs.Contract.{Alone, alone, Lent, _then_, _▸_, end}
 use Rattle.xewumbal.specs.declared.xew_centre.{«xew_centre»}
 use Rattle.xewumbal.specs.declared.xew_written.{«xew_written»}
 use Rattle.xewumbal.specs.declared.xew_cursor.{«xew_cursor»}
-use Rattle.xewumbal.specs.Answers.{hostExpanded, hostListed, shell2Answer, shell4Answer, openAnswer, checkAnswer, nextAnswer, prefactorsAnswer, evaluateAnswer}
+use Rattle.xewumbal.specs.Answers.{hostExpanded, hostListed, measureAnswer, shell2Answer, shell4Answer, openAnswer, checkAnswer, nextAnswer, prefactorsAnswer, evaluateAnswer}
 use Rattle.xewumbal.proofs.xew_expand.Reads.{Post as Expand}
+use Rattle.xewumbal.proofs.xew_measure.Reads.{Post as Measure}
 use Rattle.xewumbal.proofs.xew_shell_list.Reads.{Post as ShellList}
 use Rattle.xewumbal.proofs.xew_shell2.Reads.{Post as Shell2}
 use Rattle.xewumbal.proofs.xew_shell4.Reads.{Post as Shell4}
@@ -28,6 +29,9 @@ module _ (κs : Lfts 2) (kind : ℕ) (orders out : Lent ℕ) (start : ℕ) where
       Alone {A = «xew_written» × List ℕ} (λ x. Expand κs (kind ▸ orders ▸ out ▸ start ▸ end) (x .0) (kind ▸ orders ▸ out then (x .1) ▸ start ▸ end))
       (hostExpanded (namedTold (kindOf kind) (orders .now) (out .now) start), namedOut (namedTold (kindOf kind) (orders .now) (out .now) start) (kindOf kind) (orders .now) (out .now) start)
   expand-only = alone (λ x p i. (p .answer i, p .out i))
+
+pub measure-only : (κs : Lfts 1) (kind : ℕ) (orders : Lent ℕ) → let g = kind ▸ orders ▸ end in Alone (λ r. Measure κs g r g) (measureAnswer kind (orders .now))
+measure-only κs kind orders = alone (λ r p. p)
 
 pub shell-list-only : (κs : Lfts 1) (order : ℕ) (out : Lent ℕ) (start : ℕ) →
     Alone {A = «xew_written» × List ℕ} (λ x. ShellList κs (order ▸ out ▸ start ▸ end) (x .0) (order ▸ out then (x .1) ▸ start ▸ end))

@@ -6,7 +6,7 @@ use mathlib.Core.List.{List}
 use lib.Ieee.{Float}
 use Rattle.kind.specs.Kinds.{kindOf}
 use Rattle.expansion.specs.declared.Expanded.{Expanded}
-use Rattle.expansion.specs.Expanding.{namedTold, namedOut, lengthIn as rollLength, countIn, refusalOf as expandedRefusal}
+use Rattle.expansion.specs.Expanding.{namedTold, namedMeasured, namedOut, lengthIn as rollLength, countIn, refusalOf as expandedRefusal}
 use Rattle.shell.specs.declared.Listed.{Listed}
 use Rattle.shell.specs.declared.Component.{Component}
 use Rattle.shell.specs.Shells.{listedAt, listedOut, lengthIn, triplesIn, listedRefusalOf, shell2Of, shell4Of, refusalOf as soughtRefusal}
@@ -48,6 +48,11 @@ hostExpanded e = record { length = rollLength e; terms = countIn e; refusal = ex
 pub record ExpandCallTold (kind : ℕ) (orders before : List ℕ) (start : ℕ) (r : «xew_written») (after : List ℕ) : Type 0 where
   pub answer : r ≡ hostExpanded (namedTold (kindOf kind) orders before start)
   pub out : after ≡ namedOut (namedTold (kindOf kind) orders before start) (kindOf kind) orders before start
+
+-- ---- xew_measure: the same of a roll that is not written
+
+unfoldable pub measureAnswer : ℕ → List ℕ → «xew_written»
+measureAnswer kind orders = hostExpanded (namedMeasured (kindOf kind) orders)
 
 -- ---- xew_shell_list: the length, the triples and the refusal
 

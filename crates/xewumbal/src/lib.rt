@@ -4,7 +4,7 @@ mod answers;
 
 ghost use mathlib.Core.Path.{_≡_};
 ghost use Rattle.xewumbal.specs.Answers.{ExpandCallTold, ListCallTold, JkCallTold};
-ghost use Rattle.xewumbal.specs.Answers.{shell2Answer, shell4Answer, openAnswer, checkAnswer, nextAnswer};
+ghost use Rattle.xewumbal.specs.Answers.{measureAnswer, shell2Answer, shell4Answer, openAnswer, checkAnswer, nextAnswer};
 ghost use Rattle.xewumbal.specs.Answers.{prefactorsAnswer, evaluateAnswer};
 use kind::Kind;
 
@@ -84,6 +84,13 @@ pub extern "C" fn xew_expand(
     ensures { λ r. ⌜ ExpandCallTold kind (now (orders .entry)) (now (out .entry)) start r (now (out .exit)) ⌝ }
 {
     answers::expanded(expansion::expand(kind, *orders, out, start))
+}
+
+#[no_mangle]
+pub extern "C" fn xew_measure(kind: u8, orders: &[u8; Kind::ORDERS]) -> xew_written
+    ensures { λ r. ⌜ r ≡ measureAnswer kind (now (orders .entry)) ⌝ }
+{
+    answers::expanded(expansion::roll_size(kind, *orders))
 }
 
 #[no_mangle]

@@ -2,8 +2,8 @@
 use Rattle.expansion.proofs.HeaderLaws.{orders-add}
 use Rattle.expansion.proofs.Answers.{first-measured, count-cast, header-fits, roll-fits, sized-many, sized-roll}
 use borrow.Author.Needs.{needs}
-use Rattle.expansion.proofs.sized.Statement.{statement}
-use Rattle.expansion.proofs.sized.Tie as tie
+use Rattle.expansion.proofs.size.sized.Statement.{statement}
+use Rattle.expansion.proofs.size.sized.Tie as tie
 
 measure-node-requires : tie.Need-measure-node-requires
 measure-node-requires c κs = search first-measured

@@ -1,8 +1,8 @@
 -- `kind_size` meets its contract.
 use Rattle.expansion.proofs.Answers.{measured-high, measured-unused, kept-nibbles, kept-word}
 use borrow.Author.Needs.{needs}
-use Rattle.expansion.proofs.kind_size.Statement.{statement}
-use Rattle.expansion.proofs.kind_size.Tie as tie
+use Rattle.expansion.proofs.size.kind_size.Statement.{statement}
+use Rattle.expansion.proofs.size.kind_size.Tie as tie
 
 too-high-requires : tie.Need-too-high-requires
 too-high-requires c κs = search needs

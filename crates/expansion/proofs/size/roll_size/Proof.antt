@@ -1,8 +1,8 @@
 -- `roll_size` meets its contract.
 use Rattle.expansion.proofs.Answers.{measured-unknown, measured-known}
 use borrow.Author.Needs.{needs}
-use Rattle.expansion.proofs.roll_size.Statement.{statement}
-use Rattle.expansion.proofs.roll_size.Tie as tie
+use Rattle.expansion.proofs.size.roll_size.Statement.{statement}
+use Rattle.expansion.proofs.size.roll_size.Tie as tie
 
 of-requires : tie.Need-of-requires
 of-requires c κs = search needs
