@@ -46,7 +46,7 @@ fn child(kind: Kind, left: u64, path: Path, lowered: Lowered, times: u64, number
     let axis = lowered.axis;
     let step = steps::branch(kind, centre, axis, number);
     let goes_on = step.kind;
-    let on = moved(path, times % 16, step.raises, step.adds);
+    let on = moved(path, times % 16, step.raises as u64, step.adds);
     let below = left - step.falls;
     Child {
         kind: goes_on,

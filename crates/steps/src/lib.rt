@@ -124,6 +124,6 @@ pub struct Best {
 pub struct Move {
     pub falls: u64,
     pub adds: u64,
-    pub raises: u64,
+    pub raises: u8,
     pub kind: Kind,
 }
