@@ -5,6 +5,7 @@ pub mod Longest
 pub mod MeasureCycle
 pub mod MeasureGroups
 pub mod MeasureSizes
+pub mod MeasureWords
 pub mod Only
 pub mod ReadsBack
 pub mod RequestLaws
