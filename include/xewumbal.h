@@ -49,7 +49,7 @@ extern "C" {
 #define XEW_MOST_ORDER 6          /* order sum of a centre, of the operator, of a shell */
 #define XEW_MOST_TERMS 1048575    /* terms of a roll */
 #define XEW_MOST_SCALE 2176782336 /* scale of a term */
-#define XEW_MOST_ROLL 32505841    /* bytes that hold any roll of xew_expand; the longest has LONGEST */
+#define XEW_MOST_ROLL 32505841    /* bytes that hold any roll of xew_expand; the longest has 15,001,920 */
 #define XEW_MOST_SIZE 16          /* rows of J, K and D */
 #define XEW_PREFACTORS 24         /* places for a term's prefactors */
 #define XEW_TABLE 23              /* places for a table's entries: 8, 11, 11, 12 or 23 of them by kind */

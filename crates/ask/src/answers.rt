@@ -39,7 +39,9 @@ pub(crate) const TABLE: usize = 13;
 
 pub(crate) const MATRICES: usize = 14;
 
-pub(crate) const WAIT: usize = 15;
+pub(crate) const MEASURED: usize = 15;
+
+pub(crate) const WAIT: usize = 16;
 
 // The answer to what was heard: a line that is too long is no question. Where no line has come, what waits goes out, since
 // nothing says when more will come.

@@ -1,4 +1,4 @@
-// `expand KIND o1 .. o12 ..`: the roll of a request.
+// `expand KIND o1 .. o12 ..` and `measure KIND o1 .. o12`: the roll of a request, and its size.
 use crate::answers;
 use crate::forms;
 use crate::questions;
@@ -33,4 +33,26 @@ pub(crate) fn told(answer: Expanded, start: usize) -> Told {
         }
         Expanded::Refused(refusal) => answers::refused(refusal, 0),
     }
+}
+
+// The size of a request's roll, which nothing is written of.
+pub(crate) fn measured(n: [u64; NUMBERS]) -> Told {
+    match size(n) {
+        Expanded::Roll(long, terms) => {
+            answers::bytes(answers::MEASURED, [long as u64, terms as u64, 0, 0], 0, 0)
+        }
+        Expanded::Refused(refusal) => answers::refused(refusal, 0),
+    }
+}
+
+// The bytes of a request's roll; none where it is refused.
+pub(crate) fn long(n: [u64; NUMBERS]) -> usize {
+    match size(n) {
+        Expanded::Roll(long, _) => long,
+        Expanded::Refused(_) => 0,
+    }
+}
+
+fn size(n: [u64; NUMBERS]) -> Expanded {
+    expansion::roll_size(byte(n[0]), orders(n))
 }

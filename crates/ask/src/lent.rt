@@ -6,8 +6,11 @@ use crate::questions;
 use forms::Told;
 use questions::least;
 
-// The most bytes of a roll that is given, and the most that a question can have lent to the library.
+// The most bytes of a roll that is given, and the bytes of the buffer that is usually lent to the library.
 pub(crate) const MOST: usize = 1048576;
+
+// The most bytes that a question can have lent to the library: more than any roll takes.
+pub(crate) const LARGE: usize = 16777216;
 
 const FILL: u8 = 0xa5;
 // The bits of a float that is filled.

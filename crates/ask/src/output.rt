@@ -21,7 +21,7 @@ fn flush(out: &[u8], used: usize) -> usize {
 }
 
 // Where one piece more has room; what waits goes out before.
-fn room(out: &[u8], used: usize) -> usize {
+pub(crate) fn room(out: &[u8], used: usize) -> usize {
     if PIECE <= out.len() {
         if used <= out.len() - PIECE {
             return used;

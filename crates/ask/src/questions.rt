@@ -23,9 +23,11 @@ const LISTING_LENT: usize = 5 * Kind::MOST_LISTED;
 enum Question {
     Echo,
     Shell,
+    ShellIn,
     Pair,
     Four,
     Expand,
+    ExpandIn,
     List,
     Open,
     Check,
@@ -34,6 +36,7 @@ enum Question {
     Table,
     Jk,
     Jkl,
+    Measure,
     Unknown,
 }
 
@@ -47,10 +50,12 @@ struct Lent {
 fn of(shape: usize) -> Question {
     match shape {
         0 | 1 => Question::Echo,
-        2 | 3 => Question::Shell,
+        2 => Question::Shell,
+        3 => Question::ShellIn,
         4 => Question::Pair,
         5 => Question::Four,
-        6 | 7 => Question::Expand,
+        6 => Question::Expand,
+        7 => Question::ExpandIn,
         8 => Question::List,
         9 => Question::Open,
         10 => Question::Check,
@@ -59,28 +64,36 @@ fn of(shape: usize) -> Question {
         13 => Question::Table,
         14 => Question::Jk,
         15 => Question::Jkl,
+        16 => Question::Measure,
         _ => Question::Unknown,
     }
 }
 
-// What a question has lent; `count` numbers are read.
-fn lends(q: Question, count: usize, n: [u64; NUMBERS]) -> Lent {
+// What a question has lent. Where it says no buffer, it is one of the usual size, from its front on.
+fn lends(q: Question, n: [u64; NUMBERS]) -> Lent {
     match q {
-        Question::Shell => buffer(count == 1, SHELL_LENT, n[1], n[2]),
-        Question::Expand => buffer(count == 13, lent::MOST, n[13], n[14]),
-        Question::List => buffer(true, LISTING_LENT, 0, 0),
-        _ => buffer(true, 0, 0, 0),
+        Question::Shell => buffer(SHELL_LENT, 0),
+        Question::ShellIn => buffer(n[1] as usize, n[2] as usize),
+        Question::Expand => buffer(lent::LARGE, 0),
+        Question::ExpandIn => buffer(n[13] as usize, n[14] as usize),
+        Question::List => buffer(LISTING_LENT, 0),
+        _ => buffer(0, 0),
     }
 }
 
-// The buffer that is said; where none is, one of the usual size from its front on.
-fn buffer(usual: bool, size: usize, said: u64, start: u64) -> Lent {
-    if usual {
-        return Lent { size, start: 0 };
-    }
-    Lent {
-        size: said as usize,
-        start: start as usize,
+fn buffer(size: usize, start: usize) -> Lent {
+    Lent { size, start }
+}
+
+// The bytes without which a question has no answer: all of the buffer that it says, or else those of the roll.
+pub(crate) fn room(asked: Asked) -> usize {
+    let n = asked.numbers;
+    let q = of(asked.question);
+    match q {
+        Question::ShellIn => n[1] as usize,
+        Question::Expand => expands::long(n),
+        Question::ExpandIn => n[13] as usize,
+        _ => 0,
     }
 }
 
@@ -88,7 +101,7 @@ fn buffer(usual: bool, size: usize, said: u64, start: u64) -> Lent {
 pub(crate) fn answer(asked: Asked, given: &[u8], floats: &mut [f64], lent: &mut [u8]) -> Told {
     let n = asked.numbers;
     let q = of(asked.question);
-    let l = lends(q, asked.count, n);
+    let l = lends(q, n);
     let bytes = least(asked.bytes, given.len());
     let count = least(asked.floats, floats.len());
     let size = least(l.size, lent.len());
@@ -96,6 +109,15 @@ pub(crate) fn answer(asked: Asked, given: &[u8], floats: &mut [f64], lent: &mut 
     let plain = in_numbers(q, n, roll, &floats[0..count]);
     let told = looked_at(q, n, l.start, roll, &mut lent[0..size], plain);
     in_floats(q, n, &mut floats[0..count], told)
+}
+
+// The same for a question that has bytes lent alone, by way of another buffer.
+pub(crate) fn answer_in(asked: Asked, lent: &mut [u8]) -> Told {
+    let n = asked.numbers;
+    let q = of(asked.question);
+    let l = lends(q, n);
+    let size = least(l.size, lent.len());
+    looked_at(q, n, l.start, b"", &mut lent[0..size], answers::unknown())
 }
 
 pub(crate) fn least(a: usize, b: usize) -> usize
@@ -118,6 +140,7 @@ fn in_numbers(q: Question, n: [u64; NUMBERS], roll: &[u8], floats: &[f64]) -> To
         Question::Next => rolls::next(n, roll),
         Question::Eval => values::value(roll, floats),
         Question::Table => values::table(n, floats),
+        Question::Measure => expands::measured(n),
         _ => answers::unknown(),
     }
 }
@@ -147,8 +170,11 @@ fn in_bytes(
 ) -> Told {
     let first = byte(n[0]);
     match q {
-        Question::Shell => shells::listed(shell::get_ijk_list(first, lent, start), start),
-        Question::Expand => {
+        Question::Shell | Question::ShellIn => shells::listed(
+            shell::get_ijk_list(first, lent, start),
+            start,
+        ),
+        Question::Expand | Question::ExpandIn => {
             expands::told(
                 expansion::expand(first, expands::orders(n), lent, start),
                 start,

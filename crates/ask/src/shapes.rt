@@ -73,7 +73,7 @@ fn most(mark: u8) -> u64 {
     match mark {
         b'B' => 255,
         b'W' => 4294967295,
-        b'L' => lent::MOST as u64,
+        b'L' => lent::LARGE as u64,
         _ => u64::MAX,
     }
 }

@@ -1,10 +1,15 @@
 // A turn: a line is read by the shapes of questions, answered, and its answer is printed by the forms of answers.
 use crate::answers;
 use crate::forms;
+use crate::lent;
 use crate::lines;
+use crate::output;
 use crate::questions;
 use crate::shapes;
+use crate::words;
+use forms::Told;
 use lines::State;
+use words::Asked;
 
 // Shapes: B, W and P are numbers below 2^8, 2^32 and 2^64, L a buffer's length, R a roll, * floats, ^ any bytes; the first is
 // the empty line. `questions::of` has their numbers.
@@ -37,12 +42,61 @@ eval R*
 table B*
 jk P*
 jkl P P P P P*
+measure B B B B B B B B B B B B B
 ",
         line,
         given,
         floats,
     );
+    answered(s, asked, line, given, floats, lent, out, used)
+}
+
+// The answer to what is read.
+fn answered(
+    s: State,
+    asked: Asked,
+    line: &[u8],
+    given: &[u8],
+    floats: &mut [f64],
+    lent: &mut [u8],
+    out: &mut [u8],
+    used: usize,
+) -> usize {
+    let room = questions::room(asked);
+    if lent.len() < room {
+        return in_large(s, asked, room, line, floats, out, used);
+    }
     let told = questions::answer(asked, given, floats, lent);
+    say(answers::heard(s, told), line, lent, floats, out, used)
+}
+
+// The turn by way of a larger buffer, for a question that has bytes lent alone. The buffer stands on the stack only here: the
+// compiler puts no function that calls itself into its caller. No question needs more than there is, so that call is not made.
+fn in_large(
+    s: State,
+    asked: Asked,
+    room: usize,
+    line: &[u8],
+    floats: &[f64],
+    out: &mut [u8],
+    used: usize,
+) -> usize {
+    if lent::LARGE < room {
+        let next = in_large(s, asked, room - lent::LARGE, line, floats, out, used);
+        return output::room(out, next);
+    }
+    let mut bytes = large_bytes();
+    let told = questions::answer_in(asked, &mut bytes);
+    say(answers::heard(s, told), line, &bytes, floats, out, used)
+}
+
+// Made by a function of its own: its length is then known from its type.
+fn large_bytes() -> [u8; lent::LARGE] {
+    [0; lent::LARGE]
+}
+
+// Prints an answer after the `used` bytes that wait in `out`.
+fn say(t: Told, line: &[u8], bytes: &[u8], floats: &[f64], out: &mut [u8], used: usize) -> usize {
     forms::print(
         b"^
 ?
@@ -59,10 +113,11 @@ end
 value $
 table*
 J< K>
+measured # terms #
 !",
-        answers::heard(s, told),
+        t,
         line,
-        lent,
+        bytes,
         floats,
         out,
         used,

@@ -12,8 +12,10 @@ use libc::STDERR_FILENO;
 use libc::STDOUT_FILENO;
 use text::Parsed;
 
-// The bytes that a roll may have.
+// The bytes of the buffer that a roll usually goes through.
 const ROOM: usize = 1048576;
+// The bytes of the larger one: more than any roll has.
+const LARGE: usize = 16777216;
 // The digits of the largest byte.
 const DIGITS: usize = 3;
 // The program's name and the kind stand before the orders.
@@ -50,16 +52,13 @@ fn say_why(refusal: u8) {
         say(b": kind above 4");
     }
     if refusal == 2 {
-        say(b": an order sum the kind uses, or a shell's order, above 4");
+        say(b": an order sum the kind uses, or a shell's order, above 6");
     }
     if refusal == 3 {
         say(b": one of the twelve orders unused by the kind is not 0");
     }
     if refusal == 4 {
-        say(b": more than 65,535 complete histories");
-    }
-    if refusal == 5 {
-        say(b": start place beyond the buffer's end");
+        say(b": more than 1,048,575 complete histories");
     }
     if refusal == 6 {
         say(b": the whole output doesn't fit from the start place");
@@ -131,9 +130,41 @@ fn answer(kind: u8, orders: [u8; Kind::ORDERS], out: &mut [u8]) {
     }
 }
 
-fn expand(kind: u8, orders: [u8; Kind::ORDERS]) {
-    let mut out = [0u8; ROOM];
+// Each buffer is made by a function of its own: its length is then known from its type.
+fn usual_bytes() -> [u8; ROOM] {
+    [0; ROOM]
+}
+
+fn large_bytes() -> [u8; LARGE] {
+    [0; LARGE]
+}
+
+fn in_usual(kind: u8, orders: [u8; Kind::ORDERS]) {
+    let mut out = usual_bytes();
     answer(kind, orders, &mut out);
+}
+
+// The answer by way of the larger buffer, for a roll of so many bytes. The buffer stands on the stack only here: the compiler
+// puts no function that calls itself into its caller. No roll is longer than the buffer, so that call is not made.
+fn in_large(kind: u8, orders: [u8; Kind::ORDERS], long: usize) {
+    if LARGE < long {
+        in_large(kind, orders, long - LARGE);
+    }
+    let mut out = large_bytes();
+    answer(kind, orders, &mut out);
+}
+
+fn expand(kind: u8, orders: [u8; Kind::ORDERS]) {
+    match expansion::roll_size(kind, orders) {
+        Expanded::Roll(long, _) => {
+            if long <= ROOM {
+                in_usual(kind, orders);
+            } else {
+                in_large(kind, orders, long);
+            }
+        }
+        Expanded::Refused(refusal) => say_refused(refusal),
+    }
 }
 
 fn with_kind(kind: u8, n: usize) {

@@ -6,6 +6,7 @@ pub mod Many
 pub mod MeasureCycle
 pub mod MeasureGroups
 pub mod MeasureSizes
+pub mod MeasureWords
 pub mod Only
 pub mod ReadsBack
 pub mod RequestLaws

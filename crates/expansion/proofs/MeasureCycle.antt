@@ -1,10 +1,12 @@
 -- What each call of measuring asks and gives, a law for each. The number that falls is the walk's.
 use Prim.Native.Nat.{ℕ, _+_, _*_, _-_, _/_, _%_, _^_, _≤_, _<_}
 use mathlib.Core.Path.{_≡_, refl, sym, ap, ap₂, subst, _∙_}
-use mathlib.Core.Bool.{Bool, true, false}
+use mathlib.Core.Bool.{Bool, true, false, cond}
 use mathlib.Core.List.{List, [], _∷_, append-nil}
 use native.Mathlib.Omega.{arith}
 use native.Mathlib.Nat.{mul-le-mul}
+use borrow.Author.Tests.{eqb-true, eqb-false}
+use lib.Dec.{eqb}
 use lib.ListN.{length}
 use Rattle.kind.specs.declared.Kind.{Kind}
 use Rattle.term.specs.Terms.{Term}
@@ -24,30 +26,39 @@ use Rattle.expansion.specs.declared.Lowering.{Lowering}
 use Rattle.expansion.specs.declared.Lowering.the-variants.{At, Nothing}
 use Rattle.expansion.specs.inner.View.{pathTerm}
 use Rattle.expansion.specs.inner.Walking.{Good, TurnMay, lowering, termsBelow, termsFrom}
-use Rattle.expansion.specs.inner.Measuring.{measured, plus, widthOf, groupOf, skipOf, SmallMeasure, MeasureMay, Measures, MeasuresFrom}
+use Rattle.expansion.specs.inner.Measuring.{measured, plus, widthOf, groupOf, skipOf, SmallMeasure, MeasureMay, Measures, MeasuresFrom, MeasuresGroup, oneTerm, overWord, wordOf, WordOf, Unpacked}
 use Rattle.expansion.proofs.TermsBytes.{term-length}
-use Rattle.expansion.proofs.WalkTurns.{from-none, from-skip, turn-next, below-eight}
+use Rattle.expansion.proofs.WalkTurns.{from-none}
 use Rattle.expansion.proofs.WalkChildren.{child-held}
 use Rattle.expansion.proofs.WalkCycle.{Words, good-words, below-done, below-none, below-first, first-turn}
-use Rattle.expansion.proofs.MeasureSizes.{measured-few, small-none, small-over, plus-none}
-use Rattle.expansion.proofs.MeasureGroups.{nextPath, next-scale, next-count, next-of, group-split, group-turn, width-one}
+use Rattle.expansion.proofs.MeasureSizes.{measured-few, small-fits, small-none, small-over, none-plus, plus-none, plus-again}
+use Rattle.expansion.proofs.MeasureWords.{word-most, group-small, group-words, group-over}
+use Rattle.expansion.proofs.MeasureGroups.{nextPath, next-scale, next-count, next-of, width-one, group-turn, group-none, group-split}
 
-unfoldable pub nodeCount : Kind → ℕ → ℕ
-nodeCount k left = 10 * (stage k + total (orders left)) + 9
+unfoldable pub innerCount : Kind → ℕ → ℕ
+innerCount k left = 3 * (stage k + total (orders left)) + 2
 
-unfoldable pub branchCount : Kind → ℕ → ℕ → ℕ
-branchCount k left number = 10 * (stage k + total (orders left)) + (8 - number)
+unfoldable pub branchesCount : Kind → ℕ → ℕ
+branchesCount k left = 3 * (stage k + total (orders left)) + 1
+
+unfoldable pub branchCount : Kind → ℕ → ℕ
+branchCount k left = 3 * (stage k + total (orders left))
+
+pub first-count : (k : Kind) (left t : ℕ) → innerCount k left ≡ t → branchesCount k left < t
+unfolding innerCount branchesCount
+first-count k left t e = omega arith
+
+pub one-count : (k : Kind) (left t : ℕ) → branchesCount k left ≡ t → branchCount k left < t
+unfolding branchesCount branchCount
+one-count k left t e = omega arith
 
 measured-none : (ts : List Term) → ts ≡ [] → Fits 0 0 ≡ measured ts
 unfolding termsBytes
 measured-none ts e = sym (ap measured e ∙ measured-few [] (omega arith))
 
-pub end-told : (k : Kind) (left scale count : ℕ) (c : CentreName) (x : Axis) (times number : ℕ) → TurnMay k left c x times number → times ≡ 0 → MeasuresFrom k left scale count c x number (Fits 0 0)
-end-told k left scale count c x times number turn e =
-    record {
-      is = λ (p : Path) (f : p .scale ≡ scale) (g : p .count ≡ count) (h : Good k left p). measured-none (termsFrom k left p c x number) (from-none k left c x times number turn p e);
-      small-enough = small-none;
-    }
+none-word : 0 ≡ wordOf (Fits 0 0)
+unfolding wordOf
+none-word = refl
 
 module _ (k : Kind) (left scale count : ℕ) (may : MeasureMay k left scale count) where
   words : Words (may .path)
@@ -59,63 +70,71 @@ module _ (k : Kind) (left scale count : ℕ) (may : MeasureMay k left scale coun
   pub leaf-count : count < 25
   leaf-count = subst (λ (n : ℕ). n < 25) (may .count-is) (words .count-fits)
 
-  pub leaf-told : (r : Measured) → left ≡ 0 → r ≡ Fits 1 (lengthOf scale + 2 + count) → SmallMeasure r → Measures k left scale count r
+  -- a state with no order left
+  pub leaf-told : (b : ℕ) → left ≡ 0 → b ≡ lengthOf scale + 2 + count → b ≤ 32 → Measures k left scale count (Fits 1 b)
   unfolding termsBytes
-  leaf-told r e i s =
+  leaf-told b e i s =
       record {
         is = λ (p : Path) (f : p .scale ≡ scale) (g : p .count ≡ count) (h : Good k left p).
             let w = good-words k left p h in
-            i ∙ ap (Fits 1) (ap₂ (λ (a b : ℕ). lengthOf a + 2 + b) (sym f) (sym g) ∙ sym (ap length (append-nil (termBytes (pathTerm p))) ∙ term-length p (w .boys-fits) (w .count-fits)))
+            ap (Fits 1) (i ∙ ap₂ (λ (a b : ℕ). lengthOf a + 2 + b) (sym f) (sym g) ∙ sym (ap length (append-nil (termBytes (pathTerm p))) ∙ term-length p (w .boys-fits) (w .count-fits)))
             ∙ sym (ap measured (below-done k left p e) ∙ measured-few (pathTerm p ∷ []) (omega arith));
-        small-enough = s;
+        small-enough = small-fits 1 b (omega arith) (omega arith);
       }
 
-  pub first-count : (t : ℕ) → nodeCount k left ≡ t → branchCount k left 0 < t
-  unfolding nodeCount branchCount
-  first-count t e = omega arith
+  pub node-told : (word : ℕ) (r : Measured) → WordOf (Measures k left scale count) word → Unpacked word r → Measures k left scale count r
+  node-told word r w u = subst (Measures k left scale count) (sym (u .only (w .size) (w .told .small-enough) (w .word))) (w .told)
 
   module _ (some : left ≡ 0 → ⊥) (l : Lowering) (is : l ≡ lowering k (orders left)) where
-    pub none-told : l ≡ Nothing → Measures k left scale count (Fits 0 0)
+    pub none-told : l ≡ Nothing → WordOf (Measures k left scale count) 0
     none-told e =
         record {
-          is = λ (p : Path) (f : p .scale ≡ scale) (g : p .count ≡ count) (h : Good k left p). measured-none (termsBelow k left p) (below-none k left p (h .word) some l is e);
-          small-enough = small-none;
+          size = Fits 0 0;
+          word = none-word;
+          told =
+              record {
+                is = λ (p : Path) (f : p .scale ≡ scale) (g : p .count ≡ count) (h : Good k left p). measured-none (termsBelow k left p) (below-none k left p (h .word) some l is e);
+                small-enough = small-none;
+              };
         }
 
     module _ (c : CentreName) (x : Axis) (at-them : l ≡ At (record { centre = c; axis = x })) where
       pub turn-first : (times : ℕ) → times ≡ multiplierWord c x (orders left) (branches k c x) → TurnMay k left c x times 0
       turn-first times e = first-turn k left (may .path) (may .good .word) some l is c x at-them times e
 
-      pub first-told : (r : Measured) → MeasuresFrom k left scale count c x 0 r → Measures k left scale count r
-      first-told r m =
+      pub first-told : (r : ℕ) → WordOf (MeasuresFrom k left scale count c x 0) r → WordOf (Measures k left scale count) r
+      first-told r w =
           record {
-            is = λ (p : Path) (f : p .scale ≡ scale) (g : p .count ≡ count) (h : Good k left p). m .is p f g h ∙ ap measured (sym (below-first k left p (h .word) some l is c x at-them));
-            small-enough = m .small-enough;
+            size = w .size;
+            word = w .word;
+            told =
+                record {
+                  is = λ (p : Path) (f : p .scale ≡ scale) (g : p .count ≡ count) (h : Good k left p). w .told .is p f g h ∙ ap measured (sym (below-first k left p (h .word) some l is c x at-them));
+                  small-enough = w .told .small-enough;
+                };
           }
 
-  module _ (c : CentreName) (x : Axis) (times number : ℕ) (turn : TurnMay k left c x times number) where
-    module _ (some : times ≡ 0 → ⊥) where
-      pub number-next : number + 1 < 256
-      number-next = let h = below-eight k left c x times number turn some in omega arith
-
-      pub skip-count : (t : ℕ) → branchCount k left number ≡ t → branchCount k left (number + 1) < t
-      unfolding branchCount
-      skip-count t e = let h = below-eight k left c x times number turn some in omega arith
-
-      pub skip-turn : TurnMay k left c x (times / 16) (number + 1)
-      skip-turn = turn-next k left c x times number turn some
-
-      pub skip-told : (r : Measured) → times % 16 ≡ 0 → MeasuresFrom k left scale count c x (number + 1) r → MeasuresFrom k left scale count c x number r
-      skip-told r e m =
-          record {
-            is = λ (p : Path) (f : p .scale ≡ scale) (g : p .count ≡ count) (h : Good k left p). m .is p f g h ∙ ap measured (from-skip k left c x times number turn some p e);
-            small-enough = m .small-enough;
-          }
+  -- one branch
+  module _ (c : CentreName) (x : Axis) (times number : ℕ) (turn : TurnMay k left c x times number) (some : times ≡ 0 → ⊥) where
+    pub skip-told : times % 16 ≡ 0 → WordOf (MeasuresGroup k left scale count c x number) 0
+    unfolding plus
+    skip-told none =
+        record {
+          size = Fits 0 0;
+          word = none-word;
+          told =
+              record {
+                is = λ (p : Path) (f : p .scale ≡ scale) (g : p .count ≡ count) (h : Good k left p).
+                    sym (ap₂ plus (nothing (eqb (widthOf k number) 2)) (ap measured (group-none k left c x times number turn some none p)) ∙ none-plus (termsFrom k left p c x number));
+                small-enough = small-none;
+              };
+        }
+      where
+        nothing : (v : Bool) → cond v (plus (Fits 0 0) (Fits 0 0)) (Fits 0 0) ≡ Fits 0 0
+        nothing true = refl
+        nothing false = refl
 
     module _ (legal : times % 16 ≡ 0 → ⊥) (m : Move) (is : m ≡ moveIn k c x (branches k c x) number) where
-      some-times : times ≡ 0 → ⊥
-      some-times e = legal (omega arith)
-
       pub fall-fits : m .falls ≤ left
       fall-fits = child-held k left (may .path) c x times number (may .good) turn legal m is
 
@@ -130,10 +149,9 @@ module _ (k : Kind) (left scale count : ℕ) (may : MeasureMay k left scale coun
       pub count-fits : count + 1 < 2 ^ 64
       count-fits = let h = leaf-count in omega arith
 
-      pub child-count : (t : ℕ) → branchCount k left number ≡ t → nodeCount (m .kind) (left - m .falls) < t
-      unfolding branchCount nodeCount depth
+      pub child-count : (t : ℕ) → branchCount k left ≡ t → innerCount (m .kind) (left - m .falls) < t
+      unfolding branchCount innerCount depth
       child-count t e =
-          let h = below-eight k left c x times number turn some-times in
           let d = next-of k left (may .path) c x times number (may .good) turn legal .down in
           let same = ap (λ (n : Move). stage (n .kind) + total (orders (left - n .falls))) is in
           omega arith
@@ -148,47 +166,138 @@ module _ (k : Kind) (left scale count : ℕ) (may : MeasureMay k left scale coun
             good = next-of k left (may .path) c x times number (may .good) turn legal .good;
           })
 
-      module _ (first : Measured) (told : Measures (m .kind) (left - m .falls) (scale * (times % 16)) (count + 1) first) (w : ℕ) (width : w ≡ widthOf k number) (here : Measured) (group : here ≡ groupOf w first) where
-        group-is : here ≡ groupOf (widthOf k number) first
-        group-is = group ∙ ap (λ (n : ℕ). groupOf n first) width
+      group-told : (first : Measured) → Measures (m .kind) (left - m .falls) (scale * (times % 16)) (count + 1) first → MeasuresGroup k left scale count c x number first
+      group-told first told = record { is = group-split k left scale count c x times number turn some legal m is first told; small-enough = told .small-enough }
 
-        pub over-told : here ≡ Over → MeasuresFrom k left scale count c x number Over
-        unfolding plus
-        over-told e =
+      pub child-told : (r : ℕ) → WordOf (Measures (m .kind) (left - m .falls) (scale * (times % 16)) (count + 1)) r → WordOf (MeasuresGroup k left scale count c x number) r
+      child-told r w = record { size = w .size; word = w .word; told = group-told (w .size) (w .told) }
+
+-- the one term of a branch
+module _ (k : Kind) (left scale count : ℕ) (may : MeasureMay k left scale count) (c : CentreName) (x : Axis) (times number : ℕ) (turn : TurnMay k left c x times number) (some : times ≡ 0 → ⊥)
+    (legal : times % 16 ≡ 0 → ⊥) (m : Move) (is : m ≡ moveIn k c x (branches k c x) number) where
+  abbrev below : MeasureMay (m .kind) (left - m .falls) (scale * (times % 16)) (count + 1)
+  below = child-measured k left scale count may c x times number turn some legal m is
+
+  pub term-scale : scale * (times % 16) < 2 ^ 32
+  term-scale = leaf-scale (m .kind) (left - m .falls) (scale * (times % 16)) (count + 1) below
+
+  pub term-count : count + 1 < 25
+  term-count = leaf-count (m .kind) (left - m .falls) (scale * (times % 16)) (count + 1) below
+
+  pub term-told : (b : ℕ) → left - m .falls ≡ 0 → b ≡ lengthOf (scale * (times % 16)) + 2 + (count + 1) → b ≤ 32 → WordOf (MeasuresGroup k left scale count c x number) (oneTerm + b)
+  unfolding wordOf
+  term-told b e i s =
+      child-told k left scale count may c x times number turn some legal m is (oneTerm + b)
+      (record { size = Fits 1 b; word = omega arith; told = leaf-told (m .kind) (left - m .falls) (scale * (times % 16)) (count + 1) below b e i s })
+
+-- some branches are measured, and those from a number on are left
+pub record Added (k : Kind) (left scale count : ℕ) (c : CentreName) (x : Axis) (rest number sum : ℕ) : Type 0 where
+  pub size : Measured
+  pub word : sum ≡ wordOf size
+  pub small-enough : SmallMeasure size
+  pub under : sum < overWord
+  pub turn : TurnMay k left c x rest number
+  pub adds-up : (p : Path) → p .scale ≡ scale → p .count ≡ count → Good k left p → measured (termsFrom k left p c x 0) ≡ plus size (measured (termsFrom k left p c x number))
+
+pub added-first : (k : Kind) (left scale count : ℕ) (c : CentreName) (x : Axis) (times : ℕ) → TurnMay k left c x times 0 → Added k left scale count c x times 0 0
+added-first k left scale count c x times turn =
+    record {
+      size = Fits 0 0;
+      word = none-word;
+      small-enough = small-none;
+      under = omega arith;
+      turn = turn;
+      adds-up = λ (p : Path) (f : p .scale ≡ scale) (g : p .count ≡ count) (h : Good k left p). sym (none-plus (termsFrom k left p c x 0));
+    }
+
+module _ (k : Kind) (left scale count : ℕ) (c : CentreName) (x : Axis) (rest number sum : ℕ) (a : Added k left scale count c x rest number sum) where
+  pub added-done : rest ≤ 0 → WordOf (MeasuresFrom k left scale count c x 0) sum
+  added-done none =
+      record {
+        size = a .size;
+        word = a .word;
+        told =
             record {
               is = λ (p : Path) (f : p .scale ≡ scale) (g : p .count ≡ count) (h : Good k left p).
-                  sym (group-split k left scale count c x times number turn legal m is first told p f g h ∙ ap (λ (v : Measured). plus v (measured (termsFrom k left p c x (number + widthOf k number)))) (sym group-is ∙ e));
-              small-enough = small-over;
-            }
+                  plus-none (a .size) (a .small-enough) ∙ ap (plus (a .size)) (measured-none (termsFrom k left p c x number) (from-none k left c x rest number (a .turn) p (omega arith))) ∙ sym (a .adds-up p f g h);
+              small-enough = a .small-enough;
+            };
+      }
 
-        pub rest-turn : (s : ℕ) → s ≡ skipOf w times → TurnMay k left c x s (number + w)
-        rest-turn s e = subst (λ (n : ℕ). TurnMay k left c x s (number + n)) (sym width) (subst (λ (n : ℕ). TurnMay k left c x n (number + widthOf k number)) (sym (e ∙ ap (λ (n : ℕ). skipOf n times) width)) (group-turn k left scale count c x times number turn legal m is first told))
+  module _ (more : 0 < rest) where
+    pub added-turn : TurnMay k left c x rest number
+    added-turn = a .turn
 
-        pub rest-number : number + w < 256
-        rest-number = let t = rest-turn (skipOf w times) refl .few in omega arith
+    pub added-some : rest ≡ 0 → ⊥
+    added-some e = omega arith
 
-        pub rest-count : (t : ℕ) → branchCount k left number ≡ t → branchCount k left (number + w) < t
-        unfolding branchCount
-        rest-count t e =
-            let h = below-eight k left c x times number turn some-times in
-            let positive = wide-enough in
-            omega arith
+    module _ (one : ℕ) (o : WordOf (MeasuresGroup k left scale count c x number) one) (w : ℕ) (width : w ≡ widthOf k number) where
+      wide : (w ≡ 2 → ⊥) → w ≡ 1
+      wide n = width ∙ width-one k number (λ (e : widthOf k number ≡ 2). n (width ∙ e))
+
+      few : w ≤ 2
+      few = at (eqb w 2) refl
+        where
+          at : (v : Bool) → eqb w 2 ≡ v → w ≤ 2
+          at true e = let h = eqb-true w 2 e in omega arith
+          at false e = let h = wide (eqb-false w 2 e) in omega arith
+
+      product : w * one ≤ 2 * overWord
+      product = let h = word-most (o .size) (o .told .small-enough) in let e = o .word in let most : one ≤ overWord = omega arith in mul-le-mul few most
+
+      pub product-fits : w * one < 2 ^ 64
+      product-fits = let h = product in omega arith
+
+      pub sum-fits : sum + w * one < 2 ^ 64
+      sum-fits = let h = product in let u = a .under in omega arith
+
+      words-sum : sum + w * one ≡ wordOf (a .size) + w * wordOf (o .size)
+      words-sum = ap₂ (λ (m n : ℕ). m + w * n) (a .word) (o .word)
+
+      grouped : (p : Path) → p .scale ≡ scale → p .count ≡ count → Good k left p
+          → measured (termsFrom k left p c x 0) ≡ plus (plus (a .size) (groupOf w (o .size))) (measured (termsFrom k left p c x (number + w)))
+      grouped p f g h =
+          a .adds-up p f g h ∙ ap (plus (a .size)) (o .told .is p f g h ∙ ap (λ (n : ℕ). plus (groupOf n (o .size)) (measured (termsFrom k left p c x (number + n)))) (sym width))
+          ∙ plus-again (a .size) (groupOf w (o .size)) (measured (termsFrom k left p c x (number + w)))
+
+      pub added-over : overWord ≤ sum + w * one → WordOf (MeasuresFrom k left scale count c x 0) overWord
+      unfolding plus wordOf
+      added-over above =
+          let over = group-over (a .size) (o .size) (a .small-enough) (o .told .small-enough) w wide (let e = words-sum in omega arith) in
+          record {
+            size = Over;
+            word = refl;
+            told =
+                record {
+                  is = λ (p : Path) (f : p .scale ≡ scale) (g : p .count ≡ count) (h : Good k left p).
+                      sym (grouped p f g h ∙ ap (λ (m : Measured). plus m (measured (termsFrom k left p c x (number + w)))) over);
+                  small-enough = small-over;
+                };
+          }
+
+      module _ (s : ℕ) (skip : s ≡ skipOf w rest) where
+        next-turn : TurnMay k left c x s (number + w)
+        next-turn =
+            subst (λ (n : ℕ). TurnMay k left c x s (number + n)) (sym width)
+            (subst (λ (n : ℕ). TurnMay k left c x n (number + widthOf k number)) (sym (skip ∙ ap (λ (n : ℕ). skipOf n rest) width)) (group-turn k left c x rest number (a .turn) added-some))
+
+        pub next-number : number + w < 256
+        next-number = let t = next-turn .few in omega arith
+
+        pub next-less : s < rest
+        next-less = at (eqb w 2) refl
           where
-            wide-enough : 1 ≤ w
-            wide-enough = subst (λ (n : ℕ). 1 ≤ n) (sym width) (at (lib.Dec.eqb (widthOf k number) 2) refl)
-              where
-                at : (v : Bool) → lib.Dec.eqb (widthOf k number) 2 ≡ v → 1 ≤ widthOf k number
-                at true e = let h = borrow.Author.Tests.eqb-true (widthOf k number) 2 e in omega arith
-                at false e = let h = width-one k number (borrow.Author.Tests.eqb-false (widthOf k number) 2 e) in omega arith
+            at : (v : Bool) → eqb w 2 ≡ v → s < rest
+            at true e = let h : s ≡ rest / 256 = skip ∙ ap (λ (v : Bool). cond v (rest / 256) (rest / 16)) e in omega arith
+            at false e = let h : s ≡ rest / 16 = skip ∙ ap (λ (v : Bool). cond v (rest / 256) (rest / 16)) e in omega arith
 
-        pub rest-told : (rest r : Measured) → MeasuresFrom k left scale count c x (number + w) rest → r ≡ plus here rest → SmallMeasure r → MeasuresFrom k left scale count c x number r
-        rest-told rest r n e s =
+        pub added-more : sum + w * one < overWord → Added k left scale count c x s (number + w) (sum + w * one)
+        added-more below =
             record {
-              is = λ (p : Path) (f : p .scale ≡ scale) (g : p .count ≡ count) (h : Good k left p).
-                  e ∙ ap₂ plus group-is (n .is p f g h ∙ ap (λ (v : ℕ). measured (termsFrom k left p c x (number + v))) width) ∙ sym (group-split k left scale count c x times number turn legal m is first told p f g h);
-              small-enough = s;
+              size = plus (a .size) (groupOf w (o .size));
+              word = words-sum ∙ sym (group-words (a .size) (o .size) (a .small-enough) (o .told .small-enough) w wide (let e = words-sum in omega arith));
+              small-enough = group-small (a .size) (o .size) (a .small-enough) (o .told .small-enough) w wide;
+              under = below;
+              turn = next-turn;
+              adds-up = grouped;
             }
-
-        -- no multiplier is left after the group
-        pub last-told : (s : ℕ) → s ≡ skipOf w times → s ≡ 0 → SmallMeasure here → MeasuresFrom k left scale count c x number here
-        last-told s e none small = rest-told (Fits 0 0) here (end-told k left scale count c x s (number + w) (rest-turn s e) none) (plus-none here small) small

@@ -26,7 +26,7 @@ use Rattle.expansion.specs.inner.Walking.{Good, TurnMay, ChildOf, termsB
 use Rattle.expansion.specs.inner.Measuring.{measured, plus, inPairs, widthOf, groupOf, skipOf, Measures}
 use Rattle.expansion.proofs.TermsWords.{pushed-over, pushed-on}
 use Rattle.expansion.proofs.WalkChildren.{child-moves, child-of}
-use Rattle.expansion.proofs.WalkTurns.{from-legal, turn-next, multiplier-here}
+use Rattle.expansion.proofs.WalkTurns.{from-skip, from-legal, turn-next, multiplier-here}
 use Rattle.expansion.proofs.MeasureSizes.{measured-append}
 
 -- a path one step further on, by whether its first word is full
@@ -141,22 +141,15 @@ module _ (k : Kind) (left : ℕ) (p : Path) (c : CentreName) (x : Axis) (times�
   pub next-split : termsFrom k left p c x number ≡ termsBelow (move .kind) (left - move .falls) onward ++ termsFrom k left p c x (number + 1)
   next-split = from-legal k left c x times′ number turn (λ (e : times′ ≡ 0). legal (omega arith)) p next legal next-of
 
--- what a measured child says of a group
-module _ (k : Kind) (left scale count : ℕ) (c : CentreName) (x : Axis) (times′ number : ℕ) (turn : TurnMay k left c x times′ number) (legal : times′ % 16 ≡ 0 → ⊥)
-    (m : Move) (is : m ≡ moveIn k c x (branches k c x) number) (first : Measured) (told : Measures (m .kind) (left - m .falls) (scale * (times′ % 16)) (count + 1) first) where
-  some : times′ ≡ 0 → ⊥
-  some e = legal (omega arith)
-
-  told-here : Measures (moveIn k c x (branches k c x) number .kind) (left - moveIn k c x (branches k c x) number .falls) (scale * (times′ % 16)) (count + 1) first
-  told-here = subst (λ (n : Move). Measures (n .kind) (left - n .falls) (scale * (times′ % 16)) (count + 1) first) is told
-
+-- the branches of a group: their multipliers, and where they lead
+module _ (k : Kind) (left : ℕ) (c : CentreName) (x : Axis) (times′ number : ℕ) (turn : TurnMay k left c x times′ number) (some : times′ ≡ 0 → ⊥) where
   abbrev this : Branch
   this = getD (branches k c x) number noBranch
 
   abbrev that : Branch
   that = getD (branches k c x) (number + 1) noBranch
 
-  pub turn-on : TurnMay k left c x (times′ / 16) (number + 1)
+  turn-on : TurnMay k left c x (times′ / 16) (number + 1)
   turn-on = turn-next k left c x times′ number turn some
 
   times-here : times′ % 16 ≡ times (this .falls) c x (orders left)
@@ -178,13 +171,10 @@ module _ (k : Kind) (left scale count : ℕ) (c : CentreName) (x : Axis) (times�
     same-times = ap (λ (f : Falls). times f c x (orders left)) (alike .falls-alike)
 
     some-there : times′ / 16 ≡ 0 → ⊥
-    some-there e = legal (let h = word-there in let t = times-here in let s = same-times in omega arith)
+    some-there e = some (let h = word-there in let t = times-here in let s = same-times in omega arith)
 
     times-there : times′ / 16 % 16 ≡ times′ % 16
     times-there = multiplier-here k left c x (times′ / 16) (number + 1) turn-on some-there ∙ same-times ∙ sym times-here
-
-    legal-there : times′ / 16 % 16 ≡ 0 → ⊥
-    legal-there e = legal (sym times-there ∙ e)
 
     same-falls : moveIn k c x (branches k c x) (number + 1) .falls ≡ moveIn k c x (branches k c x) number .falls
     unfolding moveIn
@@ -193,6 +183,43 @@ module _ (k : Kind) (left scale count : ℕ) (c : CentreName) (x : Axis) (times�
     same-kind : moveIn k c x (branches k c x) (number + 1) .kind ≡ moveIn k c x (branches k c x) number .kind
     unfolding moveIn
     same-kind = ap (λ (v : Bool). cond v Overlap k) (alike .goes-alike)
+
+  -- the multipliers after a group
+  pub group-turn : TurnMay k left c x (skipOf (widthOf k number) times′) (number + widthOf k number)
+  group-turn = at (eqb (widthOf k number) 2) refl
+    where
+      at : (v : Bool) → eqb (widthOf k number) 2 ≡ v → TurnMay k left c x (cond v (times′ / 256) (times′ / 16)) (number + widthOf k number)
+      at true e =
+          let w = eqb-true (widthOf k number) 2 e in
+          subst₂ (TurnMay k left c x) (omega arith) (omega arith) (turn-next k left c x (times′ / 16) (number + 1) turn-on (some-there w))
+      at false e =
+          let w = width-one k number (eqb-false (widthOf k number) 2 e) in
+          subst (λ (n : ℕ). TurnMay k left c x (times′ / 16) (number + n)) (sym w) turn-on
+
+  -- none of a group is legal
+  pub group-none : times′ % 16 ≡ 0 → (p : Path) → termsFrom k left p c x (number + widthOf k number) ≡ termsFrom k left p c x number
+  group-none none p = at (eqb (widthOf k number) 2) refl
+    where
+      first : termsFrom k left p c x (number + 1) ≡ termsFrom k left p c x number
+      first = from-skip k left c x times′ number turn some p none
+
+      at : (v : Bool) → eqb (widthOf k number) 2 ≡ v → termsFrom k left p c x (number + widthOf k number) ≡ termsFrom k left p c x number
+      at true e =
+          let w = eqb-true (widthOf k number) 2 e in
+          ap (termsFrom k left p c x) (omega arith) ∙ from-skip k left c x (times′ / 16) (number + 1) turn-on (some-there w) p (times-there w ∙ none) ∙ first
+      at false e = ap (λ (n : ℕ). termsFrom k left p c x (number + n)) (width-one k number (eqb-false (widthOf k number) 2 e)) ∙ first
+
+-- what a measured child says of a group
+module _ (k : Kind) (left scale count : ℕ) (c : CentreName) (x : Axis) (times′ number : ℕ) (turn : TurnMay k left c x times′ number) (some : times′ ≡ 0 → ⊥) (legal : times′ % 16 ≡ 0 → ⊥)
+    (m : Move) (is : m ≡ moveIn k c x (branches k c x) number) (first : Measured) (told : Measures (m .kind) (left - m .falls) (scale * (times′ % 16)) (count + 1) first) where
+  told-here : Measures (moveIn k c x (branches k c x) number .kind) (left - moveIn k c x (branches k c x) number .falls) (scale * (times′ % 16)) (count + 1) first
+  told-here = subst (λ (n : Move). Measures (n .kind) (left - n .falls) (scale * (times′ % 16)) (count + 1) first) is told
+
+  abbrev on : TurnMay k left c x (times′ / 16) (number + 1)
+  on = turn-on k left c x times′ number turn some
+
+  legal-there : widthOf k number ≡ 2 → times′ / 16 % 16 ≡ 0 → ⊥
+  legal-there two e = legal (sym (times-there k left c x times′ number turn some two) ∙ e)
 
   module _ (p : Path) (scale-is : p .scale ≡ scale) (count-is : p .count ≡ count) (good : Good k left p) where
     abbrev here : Child
@@ -211,19 +238,19 @@ module _ (k : Kind) (left scale count : ℕ) (c : CentreName) (x : Axis) (times�
 
     module _ (two : widthOf k number ≡ 2) where
       abbrev there : Child
-      there = next k left p c x (times′ / 16) (number + 1) good turn-on (legal-there two)
+      there = next k left p c x (times′ / 16) (number + 1) good on (legal-there two)
 
       first-there : first ≡ measured (termsBelow (there .kind) (there .left) (there .path))
       first-there =
-          subst₂ (λ (j : Kind) (l : ℕ). Measures j l (scale * (times′ % 16)) (count + 1) first) (sym (same-kind two)) (ap (λ (n : ℕ). left - n) (sym (same-falls two))) told-here .is (there .path)
-          (next-scale p (times′ / 16 % 16) _ _ ∙ ap₂ _*_ scale-is (times-there two)) (next-count p (times′ / 16 % 16) _ _ ∙ ap (λ (n : ℕ). n + 1) count-is)
-          (next-of k left p c x (times′ / 16) (number + 1) good turn-on (legal-there two) .good)
+          subst₂ (λ (j : Kind) (l : ℕ). Measures j l (scale * (times′ % 16)) (count + 1) first) (sym (same-kind k left c x times′ number turn some two)) (ap (λ (n : ℕ). left - n) (sym (same-falls k left c x times′ number turn some two))) told-here .is (there .path)
+          (next-scale p (times′ / 16 % 16) _ _ ∙ ap₂ _*_ scale-is (times-there k left c x times′ number turn some two)) (next-count p (times′ / 16 % 16) _ _ ∙ ap (λ (n : ℕ). n + 1) count-is)
+          (next-of k left p c x (times′ / 16) (number + 1) good on (legal-there two) .good)
 
       both : measured (termsFrom k left p c x number) ≡ plus (plus first first) (measured (termsFrom k left p c x (number + 1 + 1)))
       both =
           ap measured
           (next-split k left p c x times′ number good turn legal
-          ∙ ap (λ (ts : List Term). termsBelow (here .kind) (here .left) (here .path) ++ ts) (next-split k left p c x (times′ / 16) (number + 1) good turn-on (legal-there two))
+          ∙ ap (λ (ts : List Term). termsBelow (here .kind) (here .left) (here .path) ++ ts) (next-split k left p c x (times′ / 16) (number + 1) good on (legal-there two))
           ∙ sym (append-assoc (termsBelow (here .kind) (here .left) (here .path)) (termsBelow (there .kind) (there .left) (there .path)) (termsFrom k left p c x (number + 1 + 1))))
           ∙ measured-append (termsBelow (here .kind) (here .left) (here .path) ++ termsBelow (there .kind) (there .left) (there .path)) (termsFrom k left p c x (number + 1 + 1))
           ∙ ap (λ (v : Measured). plus v (measured (termsFrom k left p c x (number + 1 + 1))))
@@ -240,14 +267,3 @@ module _ (k : Kind) (left scale count : ℕ) (c : CentreName) (x : Axis) (times�
         at false e =
             let w = width-one k number (eqb-false (widthOf k number) 2 e) in
             one ∙ ap (λ (n : ℕ). plus first (measured (termsFrom k left p c x (number + n)))) (sym w)
-
-  pub group-turn : TurnMay k left c x (skipOf (widthOf k number) times′) (number + widthOf k number)
-  group-turn = at (eqb (widthOf k number) 2) refl
-    where
-      at : (v : Bool) → eqb (widthOf k number) 2 ≡ v → TurnMay k left c x (cond v (times′ / 256) (times′ / 16)) (number + widthOf k number)
-      at true e =
-          let w = eqb-true (widthOf k number) 2 e in
-          subst₂ (TurnMay k left c x) (omega arith) (omega arith) (turn-next k left c x (times′ / 16) (number + 1) turn-on (some-there w))
-      at false e =
-          let w = width-one k number (eqb-false (widthOf k number) 2 e) in
-          subst (λ (n : ℕ). TurnMay k left c x (times′ / 16) (number + n)) (sym w) turn-on

@@ -1,20 +1,18 @@
--- Measures add up: what two lists measure together, a group of branches, and the size of one term.
-use Prim.Native.Nat.{ℕ, zero, suc, _+_, _*_, _/_, _^_, _≤_, _<_}
+-- Measures add up: what two lists measure together, in what order sums are made, and the multipliers after a group.
+use Prim.Native.Nat.{ℕ, zero, suc, _+_, _*_, _/_, _≤_, _<_}
 use mathlib.Core.Path.{_≡_, refl, sym, ap, ap₂, _∙_}
 use mathlib.Core.Bool.{Bool, true, false, cond}
-use mathlib.Core.List.{List, _++_}
+use mathlib.Core.List.{List, [], _++_}
 use native.Mathlib.Omega.{arith}
 use borrow.Author.Tests.{le-leb, lt-leb, leb-true, leb-false, eq-eqb, ne-eqb}
 use lib.Dec.{leb}
 use lib.ListN.{length, length-append}
 use Rattle.kind.specs.Limits.{mostTerms}
 use Rattle.term.specs.Terms.{Term}
-use Rattle.number.specs.Numbers.{lengthOf}
-use Rattle.number.proofs.Writing.{length-few}
 use Rattle.roll.specs.Bytes.{termsBytes}
 use Rattle.expansion.specs.declared.Measured.{Measured}
 use Rattle.expansion.specs.declared.Measured.the-variants.{Fits, Over}
-use Rattle.expansion.specs.inner.Measuring.{measured, plus, inPairs, groupOf, skipOf, termsIn, bytesIn, SmallMeasure}
+use Rattle.expansion.specs.inner.Measuring.{measured, plus, inPairs, skipOf, termsIn, bytesIn, SmallMeasure}
 use Rattle.expansion.proofs.WalkTurns.{terms-append}
 
 pub measured-few : (ts : List Term) → length ts ≤ mostTerms → measured ts ≡ Fits (length ts) (length (termsBytes ts))
@@ -70,37 +68,11 @@ small-over = record { few = omega arith; short = omega arith }
 pub small-none : SmallMeasure (Fits 0 0)
 small-none = record { few = omega arith; short = omega arith }
 
--- the arms of the sum
-module _ (m n : Measured) where
-  pub plus-over : m ≡ Over → Over ≡ plus m n
-  unfolding plus
-  plus-over e = ap (λ (v : Measured). plus v n) (sym e)
+-- nothing before, and nothing more
+pub none-plus : (ts : List Term) → plus (Fits 0 0) (measured ts) ≡ measured ts
+unfolding termsBytes
+none-plus ts = ap (λ (m : Measured). plus m (measured ts)) (sym (measured-few [] (omega arith))) ∙ sym (measured-append [] ts)
 
-  module _ (a b : ℕ) (is : m ≡ Fits a b) where
-    pub plus-over-then : n ≡ Over → Over ≡ plus m n
-    unfolding plus
-    plus-over-then e = sym (ap₂ plus is e)
-
-    module _ (c d : ℕ) (too : n ≡ Fits c d) where
-      pub plus-few : a + c ≤ mostTerms → Fits (a + c) (b + d) ≡ plus m n
-      unfolding plus
-      plus-few h = sym (ap₂ plus is too ∙ ap (λ (v : Bool). cond v (Fits (a + c) (b + d)) Over) (le-leb (a + c) mostTerms h))
-
-      pub plus-many : mostTerms < a + c → Over ≡ plus m n
-      unfolding plus
-      plus-many h = sym (ap₂ plus is too ∙ ap (λ (v : Bool). cond v (Fits (a + c) (b + d)) Over) (lt-leb (a + c) mostTerms h))
-
-      module _ (s : SmallMeasure m) (t : SmallMeasure n) where
-        pub terms-fit : a + c < 2 ^ 64
-        terms-fit = let h = small-terms m s a b is in let k = small-terms n t c d too in omega arith
-
-        pub bytes-fit : b + d < 2 ^ 64
-        bytes-fit = let h = small-terms m s a b is in let k = small-terms n t c d too in let u = small-bytes m s a b is in let v = small-bytes n t c d too in omega arith
-
-        pub plus-small : a + c ≤ mostTerms → SmallMeasure (Fits (a + c) (b + d))
-        plus-small h = small-fits (a + c) (b + d) h (let u = small-bytes m s a b is in let v = small-bytes n t c d too in omega arith)
-
--- nothing more
 pub plus-none : (m : Measured) → SmallMeasure m → m ≡ plus m (Fits 0 0)
 unfolding plus
 plus-none (Fits a b) s =
@@ -110,22 +82,45 @@ plus-none (Fits a b) s =
     sym (ap (λ (v : Bool). cond v (Fits (a + 0) (b + 0)) Over) (le-leb (a + 0) mostTerms few) ∙ ap₂ Fits same long)
 plus-none Over s = refl
 
--- a group of two, or one
-module _ (w : ℕ) (m : Measured) where
-  pub group-two : (r : Measured) → w ≡ 2 → r ≡ plus m m → r ≡ groupOf w m
-  group-two r e h = h ∙ sym (ap (λ (v : Bool). cond v (plus m m) m) (eq-eqb w 2 e))
+pub plus-over : (m : Measured) → plus m Over ≡ Over
+unfolding plus
+plus-over (Fits a b) = refl
+plus-over Over = refl
 
-  pub group-one : (w ≡ 2 → ⊥) → m ≡ groupOf w m
-  group-one e = sym (ap (λ (v : Bool). cond v (plus m m) m) (ne-eqb w 2 e))
+-- sums of three, in either order
+pub plus-again : (l m n : Measured) → plus l (plus m n) ≡ plus (plus l m) n
+unfolding plus
+plus-again Over m n = refl
+plus-again (Fits a b) Over n = refl
+plus-again (Fits a b) (Fits c d) Over = sym (plus-over (plus (Fits a b) (Fits c d)))
+plus-again (Fits a b) (Fits c d) (Fits e f) = at (leb (c + e) mostTerms) refl (leb (a + c) mostTerms) refl
+  where
+    grouped : a + (c + e) ≡ a + c + e
+    grouped = omega arith
+
+    all : plus (Fits a b) (Fits (c + e) (d + f)) ≡ plus (Fits (a + c) (b + d)) (Fits e f)
+    all =
+        let bytes : b + (d + f) ≡ b + d + f = omega arith in
+        ap₂ (λ (x y : ℕ). cond (leb x mostTerms) (Fits x y) Over) grouped bytes
+
+    many : mostTerms < a + c + e → plus (Fits (a + c) (b + d)) (Fits e f) ≡ Over
+    many h = ap (λ (v : Bool). cond v (Fits (a + c + e) (b + d + f)) Over) (lt-leb (a + c + e) mostTerms h)
+
+    first-many : mostTerms < a + (c + e) → plus (Fits a b) (Fits (c + e) (d + f)) ≡ Over
+    first-many h = ap (λ (v : Bool). cond v (Fits (a + (c + e)) (b + (d + f))) Over) (lt-leb (a + (c + e)) mostTerms h)
+
+    at : (u : Bool) → leb (c + e) mostTerms ≡ u → (v : Bool) → leb (a + c) mostTerms ≡ v
+        → plus (Fits a b) (cond u (Fits (c + e) (d + f)) Over) ≡ plus (cond v (Fits (a + c) (b + d)) Over) (Fits e f)
+    at true h true g = all
+    at true h false g = let l = leb-false (a + c) mostTerms g in first-many (omega arith)
+    at false h true g = let l = leb-false (c + e) mostTerms h in sym (many (omega arith))
+    at false h false g = refl
 
 pub skip-two : (w times : ℕ) → w ≡ 2 → times / 256 ≡ skipOf w times
 skip-two w times e = sym (ap (λ (v : Bool). cond v (times / 256) (times / 16)) (eq-eqb w 2 e))
 
 pub skip-one : (w times : ℕ) → (w ≡ 2 → ⊥) → times / 16 ≡ skipOf w times
 skip-one w times e = sym (ap (λ (v : Bool). cond v (times / 256) (times / 16)) (ne-eqb w 2 e))
-
-pub leaf-small : (scale n l : ℕ) → l ≡ lengthOf scale → n < 25 → SmallMeasure (Fits 1 (l + 2 + n))
-leaf-small scale n l e h = small-fits 1 (l + 2 + n) (omega arith) (let k = length-few scale in omega arith)
 
 pub no-pair : (n : ℕ) → (n ≡ 0 → ⊥) → (n ≡ 2 → ⊥) → (n ≡ 4 → ⊥) → 1 ≡ inPairs n
 no-pair zero a b c = absurd (a refl)

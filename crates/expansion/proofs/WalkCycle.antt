@@ -39,8 +39,15 @@ use Rattle.expansion.proofs.WalkTurns.{from-none, from-skip, from-legal
 unfoldable pub nodeFuel : Kind → ℕ → Path → ℕ
 nodeFuel k left p = 10 * depth (viewOf k left p) + 9
 
+unfoldable pub belowFuel : Child → ℕ
+belowFuel child = 10 * depth (viewOf (child .kind) (child .left) (child .path)) + 10
+
 unfoldable pub branchFuel : Kind → ℕ → Path → ℕ → ℕ
 branchFuel k left p number = 10 * depth (viewOf k left p) + (8 - number)
+
+pub below-falls : (child : Child) (t : ℕ) → belowFuel child ≡ t → nodeFuel (child .kind) (child .left) (child .path) < t
+unfolding belowFuel nodeFuel
+below-falls child t e = omega arith
 
 module _ (k : Kind) (left : List ℕ) (f : Fun) (is : f ≡ chosen k left) where
   pub choose-none : f ≡ none → Nothing ≡ lowering k left
@@ -86,8 +93,8 @@ module _ (k : Kind) (left : ℕ) (p : Path) (c : CentreName) (x : Axis) (times n
     split : termsFrom k left p c x number ≡ termsBelow (child .kind) (child .left) (child .path) ++ termsFrom k left p c x (number + 1)
     split = from-legal k left c x times number (may .turn) some-times p child legal of
 
-    pub child-falls : (t : ℕ) → branchFuel k left p number ≡ t → nodeFuel (child .kind) (child .left) (child .path) < t
-    unfolding branchFuel nodeFuel
+    pub child-falls : (t : ℕ) → branchFuel k left p number ≡ t → belowFuel child < t
+    unfolding branchFuel belowFuel
     child-falls t e = let h = below-eight k left c x times number (may .turn) some-times in let d = of .down in omega arith
 
     pub child-may : NodeMay (child .kind) (child .left) (child .path) at out

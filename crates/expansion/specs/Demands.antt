@@ -67,7 +67,7 @@ pub record Passed (kind : ℕ) (orders before : List ℕ) (begin : ℕ) (k : Kin
   pub three : unusedSet k orders ≡ false
   pub five : (begin exceeds length before) ≡ false
 
--- "with earlier checks passed .. more than 65,535 such histories". There is one such list alone (only-histories in proofs/Demanded.antt)
+-- "with earlier checks passed .. more than 65,535 such histories", which is 1,048,575 since 02, Q-6. There is one such list alone (only-histories in proofs/Demanded.antt)
 pub record TooMany (kind : ℕ) (orders before : List ℕ) (begin : ℕ) : Type 0 where
   pub k : Kind
   pub passed : Passed kind orders before begin k
@@ -77,7 +77,7 @@ pub record TooMany (kind : ℕ) (orders before : List ℕ) (begin : ℕ) : Type 
 
 pub record Demand3 (kind : ℕ) (orders before : List ℕ) (begin : ℕ) (r : Expanded) (after : List ℕ) : Type 0 where
   pub unless-refused : (long count : ℕ) → r ≡ answer.Roll long count → WholeList kind orders before begin long count after
-  -- "Refusal 4 comes, with earlier checks passed, exactly when there are more than 65,535 such histories."
+  -- "Refusal 4 comes, with earlier checks passed, exactly when there are more than 65,535 such histories." (1,048,575 since 02, Q-6)
   pub four-then-more : r ≡ answer.Refused 4 → TooMany kind orders before begin
   pub more-then-four : TooMany kind orders before begin → r ≡ answer.Refused 4
   -- and no other refusal comes where the earlier checks are passed, the histories are no more than that and their roll has room

@@ -1,6 +1,6 @@
 // The walk over all complete histories. A term's children are written in turn before its next sibling (D-71).
 ghost use mathlib.Core.Path.{_≡_};
-ghost use Prim.Native.Nat.{_+_, _%_};
+ghost use Prim.Native.Nat.{_%_};
 ghost use Rattle.steps.specs.inner.Packed.{orders};
 ghost use Rattle.roll.specs.Bytes.{termsBytes};
 ghost use Rattle.expansion.specs.inner.View.{Emitted};
@@ -46,7 +46,7 @@ fn child(kind: Kind, left: u64, path: Path, lowered: Lowered, times: u64, number
     let axis = lowered.axis;
     let step = steps::branch(kind, centre, axis, number);
     let goes_on = step.kind;
-    let on = moved(path, times % 16, step.raises, step.adds);
+    let on = moved(path, times % 16, step.raises as u64, step.adds);
     let below = left - step.falls;
     Child {
         kind: goes_on,
@@ -75,6 +75,19 @@ pub(crate) fn node(out: &mut [u8], at: usize, kind: Kind, left: u64, path: Path)
     }
 }
 
+// Writes all terms below a child. Most have no order left and are one term, which takes no call of `node`.
+fn below(out: &mut [u8], at: usize, child: Child) -> usize
+    requires { ⌜ NodeMay (child .kind) (child .left) (child .path) at (now out) ⌝ }
+    ensures { λ r. ⌜ Emitted (termsBytes (termsBelow (child .kind) (child .left) (child .path))) at (now (out .entry)) r (now (out .exit)) ⌝ }
+{
+    let kind = child.kind;
+    let path = child.path;
+    if child.left == 0 {
+        return emit(out, at, path);
+    }
+    node(out, at, kind, child.left, path)
+}
+
 // Writes all terms below a state from a branch number on. `times` holds the multipliers of the branches left.
 fn branch(
     out: &mut [u8],
@@ -96,9 +109,7 @@ fn branch(
         return branch(out, at, kind, left, path, lowered, times / 16, number + 1);
     }
     let next = child(kind, left, path, lowered, times, number);
-    let goes_on = next.kind;
-    let on = next.path;
-    let after = node(out, at, goes_on, next.left, on);
+    let after = below(out, at, next);
     let rest = times / 16;
     if rest == 0 {
         return after;

@@ -1,5 +1,7 @@
 pub mod AgainLaws
 pub mod Back
+pub mod Before
+pub mod BeforeRolls
 pub mod Checked
 pub mod CursorLaws
 pub mod CutOrWrong

@@ -73,7 +73,7 @@ pub record Header : Type 0 where
   pub orders : List ℕ
   pub terms : ℕ
 
--- term count (1 to 65,535)
+-- term count (1 to the limit)
 unfoldable pub countedAt : List ℕ → ℕ → Kind → List ℕ → Reading Header
 countedAt s at k orders = onward (withinAt s at 1 mostTerms) (λ count next. got (record { kind = k; orders = orders; terms = count }) next)
 
@@ -107,7 +107,7 @@ countAt s at k l scale boys =
 unfoldable pub boysAt : List ℕ → ℕ → Kind → ℕ → ℕ → Reading Term
 boysAt s at k l scale = onward (withinAt s at 0 (mostBoys k l)) (λ boys next. countAt s next k l scale boys)
 
--- for each term scale (1 to 65,536), Boys order, prefactor count, prefactors
+-- for each term scale (1 to the limit), Boys order, prefactor count, prefactors
 unfoldable pub termAt : List ℕ → ℕ → Kind → ℕ → Reading Term
 termAt s at k l = onward (withinAt s at 1 mostScale) (λ scale next. boysAt s next k l scale)
 

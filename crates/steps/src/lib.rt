@@ -120,10 +120,11 @@ pub struct Best {
 }
 
 // A branch for the packed orders: what is taken from the word, the prefactor added, what the Boys order gains, and the
-// kind that the term goes on as.
+// kind that the term goes on as. The two bytes stand side by side: a kind alone in a word of eight bytes is read by a load that is
+// wider than its store, which takes many times as long.
 pub struct Move {
     pub falls: u64,
     pub adds: u64,
-    pub raises: u64,
+    pub raises: u8,
     pub kind: Kind,
 }

@@ -61,11 +61,12 @@ fn answer(question: Question, out: &mut Vec<u8>) -> Result<(), Refusal> {
             buffer,
             start,
         } => expand(out, kind, &orders, buffer, start),
+        Question::Measure { kind, orders } => measure(out, kind, &orders),
         Question::Shell { m, buffer, start } => shell(out, m, buffer, start),
         Question::Component { shells, number } => component(out, &shells, number),
         Question::List(roll) => list(out, &roll),
-        Question::Open(roll) => opened(out, &second::open(&roll)?),
-        Question::Check(roll) => opened(out, &second::check(&roll)?.0),
+        Question::Open(roll) => opened(out, &second::NOW.open(&roll)?),
+        Question::Check(roll) => opened(out, &second::NOW.check(&roll)?.0),
         Question::Next(cursor, roll) => next(out, cursor, &roll),
         Question::Eval(evaluation) => eval(out, &evaluation),
         Question::Table(kind, centres) => table(out, kind, &centres),
@@ -86,6 +87,22 @@ fn expand(
     second::check_room(roll.len(), buffer, start)?;
     write(out, &format!("roll {} terms {} ", roll.len(), terms.len()));
     parse::write_hex(out, &roll);
+    Ok(())
+}
+
+/// Up to so many terms a request is measured by the Rust, which takes a second and more for a
+/// million of them. Above that the second reading measures; the tests hold the two together.
+const LISTED_TO_MEASURE: u32 = 100_000;
+
+fn measure(out: &mut Vec<u8>, kind: u8, orders: &[u8; 12]) -> Result<(), Refusal> {
+    second::check_measured(kind, orders)?;
+    let counted = second::count_histories(kind, orders, LISTED_TO_MEASURE);
+    let (length, count) = if counted <= LISTED_TO_MEASURE {
+        rust_side::measure(kind, orders)
+    } else {
+        second::measure(kind, orders)
+    };
+    write(out, &format!("measured {} terms {}", length, count));
     Ok(())
 }
 
@@ -124,7 +141,7 @@ fn opened(out: &mut Vec<u8>, header: &Header) -> Result<(), Refusal> {
 }
 
 fn next(out: &mut Vec<u8>, cursor: Cursor, roll: &[u8]) -> Result<(), Refusal> {
-    match second::next(cursor, roll)? {
+    match second::NOW.next(cursor, roll)? {
         Step::End => write(out, "end"),
         Step::Term(term, after) => {
             write(out, &format!("term {} {}", term.scale, term.boys));
@@ -161,7 +178,7 @@ fn eval(out: &mut Vec<u8>, evaluation: &Evaluation) -> Result<(), Refusal> {
         aux,
         boys,
     } = evaluation;
-    let (header, terms) = second::check(roll)?;
+    let (header, terms) = second::NOW.check(roll)?;
     second::check_evaluation(&header, centres, *aux, boys)?;
     table_of(header.kind, centres)?;
     let value = match way(&header, &terms, evaluation) {

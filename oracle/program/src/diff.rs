@@ -101,7 +101,7 @@ fn note(tally: &mut Tally, kind: &str, question: &[u8], answer: &[u8]) {
 fn way(question: &[u8]) -> Option<Way> {
     match parse::line(question) {
         Line::Asks(Question::Eval(evaluation)) => {
-            let (header, terms) = second::check(&evaluation.roll).ok()?;
+            let (header, terms) = second::NOW.check(&evaluation.roll).ok()?;
             Some(answer::way(&header, &terms, &evaluation))
         }
         _ => None,

@@ -9,6 +9,8 @@ pub mod odd_lines;
 pub mod parse;
 pub mod questions;
 pub mod random;
+pub mod requests;
 pub mod rolls;
+pub mod runs;
 pub mod rust_side;
 pub mod second;

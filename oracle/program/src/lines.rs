@@ -41,9 +41,17 @@ pub fn append_centres(random: &mut Random, line: &mut Vec<u8>, centres: &[Centre
     }
 }
 
+/// A larger buffer takes the library's side a while to fill and to look at, so it comes up once
+/// in a hundred.
+const USUAL_BUFFER: u64 = 1_048_576;
+
 /// BUFFER and START around every boundary for an output of `need` bytes.
 pub fn append_room(random: &mut Random, line: &mut Vec<u8>, need: u64) {
-    let most = LARGEST_BUFFER as u64;
+    let most = if need > USUAL_BUFFER || random.once_in(100) {
+        LARGEST_BUFFER as u64
+    } else {
+        USUAL_BUFFER
+    };
     let start = match random.below(6) {
         0 | 1 => 0,
         2 => random.below(300),

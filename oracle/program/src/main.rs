@@ -1,13 +1,16 @@
 //! The judge's program; README.md says how it is used.
 
-use oracle::{answer, diff, questions};
+use oracle::second::NOW;
+use oracle::{answer, diff, questions, runs, second};
 use std::env;
-use std::io::{self, BufWriter};
+use std::io::{self, BufWriter, Write};
 use std::process::exit;
 
 const USAGE: &str = "usage: oracle answer < QUESTIONS
        oracle questions KIND-OF-QUESTION COUNT SEED
-       oracle questions expand-all KIND
+       oracle questions expand-all KIND [PART OF]
+       oracle questions component-all
+       oracle count KIND
        oracle diff KIND-OF-QUESTION QUESTIONS ANSWERS-OURS ANSWERS-RUST COUNT";
 
 fn main() {
@@ -37,17 +40,11 @@ fn run(words: &[&str]) -> io::Result<Option<bool>> {
             answer::answer_all(io::stdin(), &mut out)?;
             Ok(Some(true))
         }
-        ["questions", "expand-all", kind] => match kind.parse() {
-            Ok(kind) if kind < 4 => {
-                questions::write_every_request(kind, &mut out)?;
+        ["questions", rest @ ..] => questions(rest, &mut out),
+        ["count", kind] => match kind.parse() {
+            Ok(kind) if kind <= 4 => {
+                count(kind, &mut out)?;
                 Ok(Some(true))
-            }
-            _ => Ok(None),
-        },
-        ["questions", kind, count, seed] => match (count.parse(), seed.parse()) {
-            (Ok(count), Ok(seed)) => {
-                let known = questions::write_all(kind, count, seed, &mut out)?;
-                Ok(if known { Some(true) } else { None })
             }
             _ => Ok(None),
         },
@@ -57,4 +54,61 @@ fn run(words: &[&str]) -> io::Result<Option<bool>> {
         },
         _ => Ok(None),
     }
+}
+
+fn questions(words: &[&str], out: &mut dyn Write) -> io::Result<Option<bool>> {
+    let (word, numbers) = match words.split_first() {
+        Some(words) => words,
+        None => return Ok(None),
+    };
+    let numbers: Result<Vec<u64>, _> = numbers.iter().map(|word| word.parse()).collect();
+    match (*word, numbers.as_deref()) {
+        ("component-all", Ok([])) => runs::every_component(NOW.order_sum, out)?,
+        ("expand-all", Ok([kind @ 0..=3])) => runs::every_request(*kind as u8, 0, 1, out)?,
+        ("expand-all", Ok([kind @ 0..=3, part, of])) if part < of => {
+            runs::every_request(*kind as u8, *part as usize, *of as usize, out)?
+        }
+        ("expand-within", Ok([count, seed])) => runs::within_the_cap(*count, *seed, out)?,
+        ("measure-around", Ok([count, seed])) => runs::around_the_cap(*count, *seed, out)?,
+        (kind, Ok([count, seed])) => {
+            let known = questions::write_all(kind, *count, *seed, out)?;
+            return Ok(Some(true).filter(|_| known));
+        }
+        _ => return Ok(None),
+    }
+    Ok(Some(true))
+}
+
+/// What a census of all requests of a kind shows.
+fn count(kind: u8, out: &mut dyn Write) -> io::Result<()> {
+    let facts = second::facts(kind);
+    for (l, (all, over)) in facts.by_l.iter().enumerate() {
+        writeln!(out, "L {}: {} requests, {} over the cap", l, all, over)?;
+    }
+    let sum = |of: fn(&(u64, u64)) -> u64| facts.by_l.iter().map(of).sum::<u64>();
+    writeln!(
+        out,
+        "all: {} requests, {} over the cap",
+        sum(|l| l.0),
+        sum(|l| l.1)
+    )?;
+    let found = [
+        ("most terms", Some(facts.most_terms)),
+        ("most terms within the cap", Some(facts.most_terms_within)),
+        ("fewest terms over the cap", facts.fewest_terms_over),
+        (
+            "largest scale within the cap",
+            Some(facts.largest_scale_within),
+        ),
+        (
+            "longest roll within the cap",
+            Some(facts.longest_roll_within),
+        ),
+    ];
+    for (title, found) in found {
+        if let Some((number, orders)) = found {
+            writeln!(out, "{}: {}, {:?}", title, number, orders)?;
+        }
+    }
+    out.flush()
 }

@@ -46,7 +46,7 @@ pub fn malformed(random: &mut Random, mut line: Vec<u8>) -> Vec<u8> {
         13 => {
             let end = blanks.iter().find(|&&at| at > blank).copied();
             let word = blank + 1..end.unwrap_or(line.len()).max(blank + 1);
-            let wrong: &[&[u8]] = &[b"256", b"1048577", b"4294967296", b"-1", b"", b"-"];
+            let wrong: &[&[u8]] = &[b"256", b"16777217", b"4294967296", b"-1", b"", b"-"];
             if word.end <= line.len() {
                 let by = random.one_of(wrong).to_vec();
                 line.splice(word, by);

@@ -3,7 +3,7 @@
 /// A longer line is no question.
 pub const LONGEST_LINE: usize = 2_097_152;
 /// The largest buffer that a question lends, and what the short forms lend.
-pub const LARGEST_BUFFER: usize = 1_048_576;
+pub const LARGEST_BUFFER: usize = 16_777_216;
 /// The most Boys numbers of a question.
 pub const MOST_BOYS: usize = 65_536;
 
@@ -46,6 +46,10 @@ pub enum Question {
         orders: [u8; 12],
         buffer: usize,
         start: u64,
+    },
+    Measure {
+        kind: u8,
+        orders: [u8; 12],
     },
     Shell {
         m: u8,
@@ -143,6 +147,16 @@ impl<'a> Words<'a> {
         Some(centres)
     }
 
+    /// KIND o1 .. o12.
+    fn request(&mut self) -> Option<(u8, [u8; 12])> {
+        let kind = self.byte()?;
+        let mut orders = [0; 12];
+        for order in orders.iter_mut() {
+            *order = self.byte()?;
+        }
+        Some((kind, orders))
+    }
+
     /// BUFFER START, or what the short form lends.
     fn room(&mut self) -> Option<(usize, u64)> {
         if !self.more() {
@@ -157,11 +171,7 @@ fn question(bytes: &[u8]) -> Option<Question> {
     let mut words = Words(Some(bytes));
     let question = match words.next()? {
         b"expand" => {
-            let kind = words.byte()?;
-            let mut orders = [0; 12];
-            for order in orders.iter_mut() {
-                *order = words.byte()?;
-            }
+            let (kind, orders) = words.request()?;
             let (buffer, start) = words.room()?;
             Question::Expand {
                 kind,
@@ -169,6 +179,10 @@ fn question(bytes: &[u8]) -> Option<Question> {
                 buffer,
                 start,
             }
+        }
+        b"measure" => {
+            let (kind, orders) = words.request()?;
+            Question::Measure { kind, orders }
         }
         b"shell" => {
             let m = words.byte()?;

@@ -5,14 +5,16 @@ use crate::lines::{append, append_centres, append_float, append_floats, append_r
 use crate::lines::{numbers, with_roll};
 use crate::parse::{self, LONGEST_LINE, MOST_BOYS};
 use crate::random::Random;
-use crate::{odd_lines, rolls, rust_side, second};
+use crate::second::{self, BEFORE, NOW};
+use crate::{odd_lines, requests, rolls, runs, rust_side};
 use std::io::{self, Write};
 
 /// The kinds of question, as `oracle/ask-both` names them.
-pub const KINDS: [&str; 11] = [
+pub const KINDS: [&str; 12] = [
     "shell",
     "component",
     "expand",
+    "measure",
     "list",
     "open",
     "check",
@@ -34,9 +36,7 @@ pub fn write_all(kind: &str, count: u64, seed: u64, out: &mut dyn Write) -> io::
         return Ok(false);
     }
     if kind == "component" {
-        for number in 0..50_625 {
-            writeln!(out, "component 4 4 4 4 {}", number)?;
-        }
+        runs::every_component(4, out)?;
     }
     let one_by_one = match kind {
         "list" | "open" | "check" | "next" | "eval" => rolls::tried_one_by_one(),
@@ -85,6 +85,7 @@ fn question(random: &mut Random, kind: &str, at: u64) -> Vec<u8> {
     let line = match kind {
         "shell" => shell(random, at),
         "component" => component(random),
+        "measure" => measure(random),
         "list" | "open" | "check" | "next" => {
             let roll = rolls::any(random);
             about_roll(random, kind, &roll, Walk::Anywhere)
@@ -117,20 +118,11 @@ fn about_roll(random: &mut Random, kind: &str, roll: &[u8], walk: Walk) -> Vec<u
     }
 }
 
-/// Every request of a kind that is within the limits.
-pub fn write_every_request(kind: u8, out: &mut dyn Write) -> io::Result<()> {
-    for orders in rolls::every_request(kind) {
-        out.write_all(&numbers("expand", kind.into(), &orders))?;
-        out.write_all(b"\n")?;
-    }
-    out.flush()
-}
-
 fn shell(random: &mut Random, at: u64) -> Vec<u8> {
     let m = match random.below(8) {
         _ if at < 256 => at,
         0 => random.below(258),
-        _ => random.below(6),
+        _ => random.below(u64::from(NOW.order_sum) + 2),
     };
     let mut line = format!("shell {}", m).into_bytes();
     if at >= 256 && !random.once_in(10) {
@@ -146,8 +138,8 @@ fn component(random: &mut Random) -> Vec<u8> {
     for _ in 0..shells {
         let m = match random.below(40) {
             0 => random.below(258),
-            1 => 5,
-            _ => random.below(5),
+            1 => u64::from(NOW.order_sum) + 1,
+            _ => random.below(u64::from(NOW.order_sum) + 1),
         };
         count *= (m + 1) * (m + 2) / 2;
         append(&mut line, m);
@@ -164,8 +156,24 @@ fn component(random: &mut Random) -> Vec<u8> {
     line
 }
 
-/// A request, mostly a small one, with a buffer and a start around each boundary.
+/// A request with a buffer and a start around each boundary.
 fn expand(random: &mut Random, fixed_kind: Option<u8>) -> Vec<u8> {
+    let (kind, orders) = request(random, fixed_kind);
+    let mut line = numbers("expand", kind, &orders);
+    if random.once_in(2) {
+        let need = roll_length(kind as u8, &orders);
+        append_room(random, &mut line, need);
+    }
+    line
+}
+
+fn measure(random: &mut Random) -> Vec<u8> {
+    let (kind, orders) = request(random, None);
+    numbers("measure", kind, &orders)
+}
+
+/// A request, mostly a small one, now and then a wrong one.
+fn request(random: &mut Random, fixed_kind: Option<u8>) -> (u64, [u8; 12]) {
     let kind = match fixed_kind {
         Some(kind) => u64::from(kind),
         None => match random.below(30) {
@@ -175,39 +183,29 @@ fn expand(random: &mut Random, fixed_kind: Option<u8>) -> Vec<u8> {
         },
     };
     let legal_kind = kind.min(4) as u8;
-    let mut orders = match random.below(300) {
-        0 if kind == 4 => random.one_of(&rolls::AT_THE_CAP),
-        0..=49 => rolls::any_request(random, legal_kind),
-        _ => rolls::small_request(random, legal_kind),
-    };
+    let mut orders = requests::of_any_size(random, legal_kind);
     let used = second::orders_used(legal_kind);
     match random.below(16) {
         0 => orders[random.index(used)] += random.from_to(1, 4) as u8,
         1 => orders[random.index(used)] = random.bits() as u8,
-        2 => orders[random.index(12)] = random.one_of(&[1, 4, 5, 9, 127, 128, 255]),
+        2 => orders[random.index(12)] = random.one_of(&[1, 4, 5, 6, 7, 9, 127, 128, 255]),
         _ => {}
     }
-    let mut line = numbers("expand", kind, &orders);
-    if random.once_in(2) {
-        let need = roll_length(kind as u8, &orders);
-        append_room(random, &mut line, need);
-    }
-    line
+    (kind, orders)
 }
 
 /// The length of the request's roll; some number where there is none.
 fn roll_length(kind: u8, orders: &[u8; 12]) -> u64 {
-    if second::check_request(kind, orders, 0, 0).is_err() {
-        return 100;
+    match second::check_measured(kind, orders) {
+        Ok(()) => second::measure(kind, orders).0 as u64,
+        Err(_) => 100,
     }
-    let terms = second::terms(kind, orders);
-    second::write_roll(kind, orders, &terms).len() as u64
 }
 
 /// A cursor that comes from reading, or a forged one.
 fn next(random: &mut Random, roll: &[u8], walk: Walk) -> Vec<u8> {
     let length = roll.len() as u64;
-    let (mut kind, mut l, mut left, mut place) = match second::open(roll) {
+    let (mut kind, mut l, mut left, mut place) = match NOW.open(roll) {
         Ok(header) => {
             let mut cursor = parse::Cursor {
                 kind: header.kind,
@@ -222,7 +220,7 @@ fn next(random: &mut Random, roll: &[u8], walk: Walk) -> Vec<u8> {
                 _ => random.below(u64::from(header.count) + 1),
             };
             for _ in 0..steps {
-                match second::next(cursor, roll) {
+                match NOW.next(cursor, roll) {
                     Ok(second::Step::Term(_, after)) => cursor = after,
                     _ => break,
                 }
@@ -236,7 +234,7 @@ fn next(random: &mut Random, roll: &[u8], walk: Walk) -> Vec<u8> {
         }
         Err(_) => (
             random.below(5),
-            random.below(17),
+            random.below(26),
             random.below(4),
             random.below(length + 1),
         ),
@@ -244,8 +242,11 @@ fn next(random: &mut Random, roll: &[u8], walk: Walk) -> Vec<u8> {
     if walk == Walk::Anywhere && random.once_in(2) {
         match random.below(5) {
             0 => kind = random.one_of(&[0, 1, 2, 3, 4, 5, 6, 128, 255]),
-            1 => l = random.one_of(&[0, 1, 7, 8, 9, 11, 12, 13, 15, 16, 17, 128, 255]),
-            2 => left = random.one_of(&[0, 1, 65_535, 65_536, (1 << 32) - 1]),
+            1 => l = random.one_of(&[0, 1, 8, 11, 12, 13, 17, 18, 19, 23, 24, 25, 128, 255]),
+            2 => {
+                let (now, before) = (u64::from(NOW.terms), u64::from(BEFORE.terms));
+                left = random.one_of(&[0, 1, before, before + 1, now, now + 1, (1 << 32) - 1])
+            }
             3 => place = random.below(length + 3),
             _ => {
                 place = random.one_of(&[
@@ -287,9 +288,9 @@ fn eval(random: &mut Random) -> Vec<u8> {
 
 /// An evaluation of a roll, mostly with the Rust's own aux where that is wanted.
 fn eval_of(random: &mut Random, roll: &[u8], taste: Taste, own: bool) -> Vec<u8> {
-    let (kind, l) = match second::open(roll) {
+    let (kind, l) = match NOW.open(roll) {
         Ok(header) => (header.kind, header.l),
-        Err(_) => (random.below(5) as u8, random.below(17) as u8),
+        Err(_) => (random.below(5) as u8, random.below(26) as u8),
     };
     let centres = floats::centres_for(random, taste, kind);
     let own_aux = rust_side::aux(kind, &centres);

@@ -1,102 +1,14 @@
 //! Rolls for questions: fresh ones, legal ones that no expansion gives, and bad ones.
 
 use crate::random::Random;
+use crate::requests::{self, AT_THE_LISTING, LONG};
 use crate::rust_side;
-use crate::second::{self, Term};
-
-/// Orders of one centre with a sum of at most `most`.
-fn centre_orders(random: &mut Random, most: u64) -> [u8; 3] {
-    let mut left = random.from_to(0, most);
-    let mut orders = [0; 3];
-    if random.once_in(3) {
-        // All on one axis: scales above 1 come up here.
-        orders[random.index(3)] = left as u8;
-        return orders;
-    }
-    for order in orders.iter_mut() {
-        let taken = random.from_to(0, left);
-        *order = taken as u8;
-        left -= taken;
-    }
-    orders
-}
-
-/// Every request of a kind that is within the limits, the first centre's orders fastest.
-pub fn every_request(kind: u8) -> Vec<[u8; 12]> {
-    let triples: Vec<u8> = (0..=4).flat_map(rust_side::shell_list).collect();
-    let mut requests = vec![[0; 12]];
-    for centre in (0..second::orders_used(kind) / 3).rev() {
-        let mut longer = Vec::new();
-        for request in &requests {
-            for triple in triples.chunks(3) {
-                let mut orders = *request;
-                orders[3 * centre..3 * centre + 3].copy_from_slice(triple);
-                longer.push(orders);
-            }
-        }
-        requests = longer;
-    }
-    requests
-}
-
-/// A request within the limits, each as likely as any other. Of the Coulomb ones three in
-/// five are beyond the cap.
-pub fn any_request(random: &mut Random, kind: u8) -> [u8; 12] {
-    let mut orders = [0; 12];
-    for centre in orders[..second::orders_used(kind)].chunks_mut(3) {
-        // 35 triples have a sum of at most 4: 1, 3, 6, 10 and 15 by sum.
-        let m = match random.below(35) {
-            0 => 0,
-            1..=3 => 1,
-            4..=9 => 2,
-            10..=19 => 3,
-            _ => 4,
-        };
-        let list = rust_side::shell_list(m);
-        let at = 3 * random.index(list.len() / 3);
-        centre.copy_from_slice(&list[at..at + 3]);
-    }
-    orders
-}
-
-/// A request whose list is short, so that many can be asked: Coulomb stays far below the cap.
-pub fn small_request(random: &mut Random, kind: u8) -> [u8; 12] {
-    let mut orders = [0; 12];
-    if kind == 4 && random.once_in(3) {
-        // One or two centres of any order: long histories, short lists.
-        for _ in 0..2 {
-            let at = 3 * random.index(4);
-            orders[at..at + 3].copy_from_slice(&centre_orders(random, 4));
-        }
-        return orders;
-    }
-    let most = match kind {
-        4 => random.from_to(0, 2),
-        _ => 4,
-    };
-    for centre in orders[..second::orders_used(kind)].chunks_mut(3) {
-        centre.copy_from_slice(&centre_orders(random, most));
-    }
-    orders
-}
-
-/// The most terms that the cap lets through (65,534), and the fewest that it does not (65,536).
-pub const AT_THE_CAP: [[u8; 12]; 2] = [
-    [0, 0, 3, 1, 1, 1, 0, 0, 2, 0, 1, 2],
-    [0, 0, 2, 0, 3, 0, 0, 2, 0, 0, 3, 1],
-];
-
-/// The longest roll of the Rust's own terms that the listing takes (65,511 bytes), and the
-/// shortest that it does not (65,583 bytes).
-pub const AT_THE_LISTING: [[u8; 12]; 2] = [
-    [0, 0, 1, 0, 1, 2, 0, 0, 1, 0, 2, 2],
-    [0, 0, 0, 0, 0, 2, 1, 1, 2, 0, 0, 3],
-];
+use crate::second::{self, Term, BEFORE, NOW};
 
 /// The numbers of a legal roll, in order; what the terms say is left to chance.
 fn numbers(random: &mut Random) -> Vec<u32> {
     let kind = random.below(5) as u8;
-    let orders = any_request(random, kind);
+    let orders = requests::any(random, kind);
     let l: u32 = orders.iter().map(|&o| u32::from(o)).sum();
     let count = match random.below(10) {
         0 => random.from_to(1, 200),
@@ -115,10 +27,26 @@ fn numbers(random: &mut Random) -> Vec<u32> {
     list
 }
 
+/// The limits, and the least and most that take so many bytes.
+const SCALES: [u32; 12] = [
+    NOW.scale,
+    NOW.scale - 1,
+    BEFORE.scale,
+    BEFORE.scale + 1,
+    1 << 28,
+    (1 << 28) - 1,
+    1 << 21,
+    (1 << 21) - 1,
+    1 << 14,
+    (1 << 14) - 1,
+    1 << 7,
+    (1 << 7) - 1,
+];
+
 fn term_numbers(random: &mut Random, list: &mut Vec<u32>, kind: u8, l: u32) {
     let scale = match random.below(4) {
-        0 => random.from_to(1, 65_536) as u32,
-        1 => random.one_of(&[65_536, 65_535, 16_384, 16_383, 128, 127]),
+        0 => random.from_to(1, NOW.scale.into()) as u32,
+        1 => random.one_of(&SCALES),
         _ => random.from_to(1, 4) as u32,
     };
     let boys = match kind {
@@ -153,18 +81,25 @@ pub fn legal(random: &mut Random) -> Vec<u8> {
 /// A roll of the Rust's own terms.
 pub fn fresh(random: &mut Random) -> Vec<u8> {
     let kind = random.below(5) as u8;
-    let orders = small_request(random, kind);
+    let orders = requests::short(random, kind);
     rust_side::roll(kind, &orders)
 }
 
-/// A roll of the Rust's own terms that may be long: any Coulomb request within the cap.
+/// A roll of the Rust's own terms that may be long.
 pub fn fresh_and_long(random: &mut Random) -> Vec<u8> {
-    loop {
-        let orders = any_request(random, 4);
-        if second::count_histories(4, &orders) <= second::MOST_TERMS {
-            return rust_side::roll(4, &orders);
-        }
-    }
+    let orders = requests::any_of(random, 4, 1..=LONG);
+    rust_side::roll(4, &orders)
+}
+
+/// A legal roll of many short terms.
+fn of_count(random: &mut Random, count: u64) -> Vec<u8> {
+    let kind = random.below(5) as u8;
+    let orders = requests::any(random, kind);
+    let term = Term {
+        scale: 1,
+        ..Term::default()
+    };
+    second::write_roll(kind, &orders, &vec![term; count as usize])
 }
 
 /// A legal roll with one number changed, mostly by little, or to a limit.
@@ -174,18 +109,33 @@ fn one_number_changed(random: &mut Random) -> Vec<u8> {
     list[at] = match random.below(4) {
         0 => list[at].wrapping_add(1),
         1 => list[at].wrapping_sub(1),
-        2 => random.one_of(&[0, 1, 4, 5, 7, 8, 9, 10, 11, 12, 13, 16, 17, 22, 23, 24]),
-        _ => random.one_of(&[
-            127,
-            128,
-            65_535,
-            65_536,
-            65_537,
-            1 << 28,
-            u32::MAX,
-            u32::MAX - 1,
-        ]),
+        2 => random.below(27) as u32,
+        _ => random.one_of(&[127, 128, 1 << 28, u32::MAX, u32::MAX - 1]),
     };
+    write(&list)
+}
+
+/// A legal roll with an order, the count, or a number of its first term at its limit or one
+/// beyond.
+fn one_number_at_its_limit(random: &mut Random) -> Vec<u8> {
+    let mut list = numbers(random);
+    let used = second::orders_used(list[0] as u8);
+    let l: u32 = list[1..=used].iter().sum();
+    let order = 1 + random.index(used);
+    let first_of_centre = order - (order - 1) % 3;
+    let sum: u32 = list[first_of_centre..order].iter().sum();
+    let (at, limit) = match random.below(8) {
+        0 => (order, u32::from(NOW.order_sum) - sum),
+        1 => (used + 1, NOW.terms),
+        2 => (used + 1, BEFORE.terms),
+        3 => (used + 2, NOW.scale),
+        4 => (used + 2, BEFORE.scale),
+        5 => (used + 2, u32::MAX - 1),
+        6 => (used + 3, l),
+        // Kinetic may have one more.
+        _ => (used + 4, l + random.below(2) as u32),
+    };
+    list[at] = limit + random.below(2) as u32;
     write(&list)
 }
 
@@ -255,7 +205,7 @@ pub fn of_length(random: &mut Random, length: usize) -> Vec<u8> {
     let kind = random.one_of(&[2, 3, 4]);
     let mut orders = [0; 12];
     for order in orders[..second::orders_used(kind)].iter_mut().step_by(3) {
-        *order = 4;
+        *order = NOW.order_sum;
     }
     let l = orders.iter().sum::<u8>();
     let size = second::table_size(kind) as u64;
@@ -346,10 +296,17 @@ pub fn any(random: &mut Random) -> Vec<u8> {
             of_length(random, length)
         }
         15..=17 => fresh_and_long(random),
-        18..=20 => rust_side::roll(4, &random.one_of(&AT_THE_LISTING)),
-        21..=1_000 => fresh(random),
+        18..=20 => rust_side::roll(3, &random.one_of(&AT_THE_LISTING)),
+        21..=23 => {
+            let least = u64::from(BEFORE.terms);
+            let most = random.one_of(&[least + 2, 300_000]);
+            let count = random.from_to(least, most);
+            of_count(random, count)
+        }
+        24..=1_000 => fresh(random),
         1_001..=2_300 => legal(random),
-        2_301..=3_700 => one_number_changed(random),
+        2_301..=3_200 => one_number_changed(random),
+        3_201..=3_700 => one_number_at_its_limit(random),
         3_701..=4_500 => one_long_number(random),
         4_501..=5_500 => damaged(random),
         _ => random_bytes(random),

@@ -1,7 +1,7 @@
 //! What the unchanged Rust answers: shells, terms, values, tables, J and K.
 
 use crate::parse::Centre;
-use crate::second::{self, Header, Term};
+use crate::second::{self, Header, Term, NOW};
 use ndarray::Array;
 use rchem::integrals::{given, os86};
 use rchem::{basis, shell};
@@ -16,7 +16,7 @@ pub fn shell_list(m: u8) -> Vec<u8> {
 /// A component as get_shell2 or get_shell4 lists it. The list of the last shells asked for is
 /// kept: the Rust builds it anew each time, and questions often ask for the same one.
 pub fn component(shells: &[u8], number: u32) -> Vec<u8> {
-    type Kept = (Vec<u8>, Vec<Vec<u8>>);
+    type Kept = (Vec<u8>, Vec<u8>);
     thread_local! {
         static KEPT: RefCell<Kept> = RefCell::new(Kept::default());
     }
@@ -25,19 +25,21 @@ pub fn component(shells: &[u8], number: u32) -> Vec<u8> {
         if kept.0 != shells {
             *kept = (shells.to_vec(), components(shells));
         }
-        kept.1[number as usize].clone()
+        let length = 3 * shells.len();
+        kept.1[length * number as usize..][..length].to_vec()
     })
 }
 
-fn components(shells: &[u8]) -> Vec<Vec<u8>> {
+/// All components of the shells, one after another.
+fn components(shells: &[u8]) -> Vec<u8> {
     let m: Vec<usize> = shells.iter().map(|&m| m.into()).collect();
-    let bytes = |orders: &[usize]| orders.iter().map(|&order| order as u8).collect();
+    let byte = |&order: &usize| order as u8;
     if m.len() == 2 {
         let list = shell::pair(m[0], m[1]);
-        list.iter().map(|orders| bytes(orders)).collect()
+        list.iter().flatten().map(byte).collect()
     } else {
         let list = shell::quadruple(m[0], m[1], m[2], m[3]);
-        list.iter().map(|orders| bytes(orders)).collect()
+        list.iter().flatten().map(byte).collect()
     }
 }
 
@@ -68,10 +70,17 @@ pub fn roll(kind: u8, orders: &[u8; 12]) -> Vec<u8> {
     second::write_roll(kind, orders, &terms(kind, orders))
 }
 
+/// The length of that roll and the number of its terms.
+pub fn measure(kind: u8, orders: &[u8; 12]) -> (usize, usize) {
+    let terms = terms(kind, orders);
+    let length = second::write_roll(kind, orders, &terms).len();
+    (length, terms.len())
+}
+
 /// Is this list the one that the Rust expands from the header's kind and orders?
 pub fn is_own_list(header: &Header, list: &[Term]) -> bool {
     // The count is cheap; most lists that are not the Rust's own fail here.
-    second::count_histories(header.kind, &header.orders) == header.count
+    second::count_histories(header.kind, &header.orders, NOW.terms) == header.count
         && terms(header.kind, &header.orders) == list
 }
 

@@ -2,7 +2,8 @@
 //! get_ functions and the sum loops that are fed from outside.
 
 use oracle::random::Random;
-use oracle::second::{self, Header, Term};
+use oracle::requests::{self, AT_THE_CAP, AT_THE_LISTING};
+use oracle::second::{self, Header, Term, BEFORE, NOW};
 use oracle::{floats, rolls, rust_side};
 
 fn agreed_terms(kind: u8, orders: &[u8; 12]) -> Vec<Term> {
@@ -13,45 +14,70 @@ fn agreed_terms(kind: u8, orders: &[u8; 12]) -> Vec<Term> {
         kind,
         orders
     );
-    assert_eq!(terms.len(), second::count_histories(kind, orders) as usize);
+    let counted = second::count_histories(kind, orders, NOW.terms);
+    assert_eq!(terms.len(), counted as usize);
+    let length = second::write_roll(kind, orders, &terms).len();
+    assert_eq!(second::measure(kind, orders), (length, terms.len()));
     terms
 }
 
-/// Most terms, longest roll, largest scale.
-fn facts(kind: u8) -> (usize, usize, u32) {
-    let mut facts = (0, 0, 0);
-    for orders in rolls::every_request(kind) {
-        let terms = agreed_terms(kind, &orders);
-        let roll = second::write_roll(kind, &orders, &terms);
-        let scale = terms.iter().map(|term| term.scale).max();
-        facts.0 = facts.0.max(terms.len());
-        facts.1 = facts.1.max(roll.len());
-        facts.2 = facts.2.max(scale.unwrap_or(0));
-        let (header, read) = second::check(&roll).expect("a fresh roll reads");
-        assert_eq!((header.kind, header.orders), (kind, orders));
-        assert!(read == terms);
+/// A fresh roll reads.
+fn agreed_roll(kind: u8, orders: &[u8; 12]) {
+    let terms = agreed_terms(kind, orders);
+    let roll = second::write_roll(kind, orders, &terms);
+    let (header, read) = NOW.check(&roll).expect("a fresh roll reads");
+    assert_eq!((header.kind, header.orders), (kind, *orders));
+    assert!(read == terms);
+}
+
+/// All requests within the limits of before, and one in so many of the others.
+fn requests_of_kind(kind: u8, one_in: usize) {
+    let is_old = |orders: &[u8; 12]| {
+        let mut centres = orders.chunks(3);
+        centres.all(|centre| centre.iter().sum::<u8>() <= BEFORE.order_sum)
+    };
+    let (old, new): (Vec<_>, Vec<_>) = requests::every(kind).into_iter().partition(is_old);
+    for orders in old.iter().chain(new.iter().step_by(one_in)) {
+        agreed_roll(kind, orders);
     }
-    facts
 }
 
 #[test]
-fn every_request_of_kinds_0_to_3() {
-    assert_eq!(facts(0), (78, 681, 36));
-    assert_eq!(facts(1), (620, 5_825, 36));
-    assert_eq!(facts(2), (4_592, 41_977, 36));
-    assert_eq!(facts(3), (2_573, 28_774, 432));
+fn requests_of_kinds_0_and_1() {
+    requests_of_kind(0, 1);
+    requests_of_kind(1, 1);
+}
+
+#[test]
+fn requests_of_kind_2() {
+    requests_of_kind(2, 100);
+}
+
+#[test]
+fn requests_of_kind_3() {
+    requests_of_kind(3, 1_000);
 }
 
 #[test]
 fn some_coulomb_requests() {
     let mut random = Random::new(1);
-    for at in 0..400 {
-        let orders = match at % 4 {
-            0 => rolls::any_request(&mut random, 4),
-            _ => rolls::small_request(&mut random, 4),
-        };
-        if second::count_histories(4, &orders) <= second::MOST_TERMS {
-            agreed_terms(4, &orders);
+    for _ in 0..300 {
+        agreed_terms(4, &requests::short(&mut random, 4));
+    }
+    for _ in 0..50 {
+        agreed_terms(4, &requests::any_of(&mut random, 4, 1..=requests::LONG));
+    }
+}
+
+/// The Rust takes a second and more for each.
+#[test]
+#[ignore]
+fn coulomb_requests_around_the_cap() {
+    let mut random = Random::new(6);
+    for _ in 0..200 {
+        let orders = requests::around_the_cap(&mut random);
+        if second::check_measured(4, &orders).is_ok() {
+            assert_eq!(rust_side::measure(4, &orders), second::measure(4, &orders));
         }
     }
 }
@@ -61,7 +87,7 @@ fn own_terms_and_aux_give_the_unchanged_value() {
     let mut random = Random::new(2);
     for _ in 0..20_000 {
         let roll = rolls::fresh(&mut random);
-        let (header, terms) = second::check(&roll).expect("a fresh roll reads");
+        let (header, terms) = NOW.check(&roll).expect("a fresh roll reads");
         let taste = floats::taste(&mut random);
         let centres = floats::centres(&mut random, taste);
         let boys = floats::boys(&mut random, taste, usize::from(header.l) + 1);
@@ -98,18 +124,18 @@ fn geometry_and_tables() {
 
 #[test]
 fn the_largest_request_is_counted_to_the_cap_only() {
-    let orders = [4, 0, 0, 4, 0, 0, 4, 0, 0, 4, 0, 0];
-    assert_eq!(second::count_histories(4, &orders), 65_536);
+    let orders = [6, 0, 0, 6, 0, 0, 6, 0, 0, 6, 0, 0];
+    assert_eq!(second::count_histories(4, &orders, NOW.terms), 1_048_576);
 }
 
 #[test]
 fn requests_at_the_limits() {
-    let [within, above] = rolls::AT_THE_CAP;
-    assert_eq!(agreed_terms(4, &within).len(), 65_534);
-    assert_eq!(second::count_histories(4, &above), 65_536);
-    let [listed, refused] = rolls::AT_THE_LISTING;
-    let (listed, refused) = (rust_side::roll(4, &listed), rust_side::roll(4, &refused));
-    assert_eq!((listed.len(), refused.len()), (65_511, 65_583));
+    let [within, above] = AT_THE_CAP;
+    assert_eq!(agreed_terms(4, &within).len(), 1_048_572);
+    assert_eq!(second::count_histories(4, &above, 2 * NOW.terms), 1_048_576);
+    let [listed, refused] = AT_THE_LISTING;
+    let (listed, refused) = (rust_side::roll(3, &listed), rust_side::roll(3, &refused));
+    assert_eq!((listed.len(), refused.len()), (65_532, 65_540));
     assert!(second::listing(&listed).is_ok());
     assert_eq!(second::listing(&refused), Err(second::refusal(6)));
 }
@@ -120,7 +146,7 @@ fn rolls_of_a_length() {
     for length in 65_530..65_542 {
         let roll = rolls::of_length(&mut random, length);
         assert_eq!(roll.len(), length);
-        assert!(second::check(&roll).is_ok());
+        assert!(NOW.check(&roll).is_ok());
         assert_eq!(second::listing(&roll).is_ok(), length <= 65_536);
     }
 }
@@ -128,7 +154,7 @@ fn rolls_of_a_length() {
 #[test]
 fn a_list_with_another_order_is_not_the_own_one() {
     let roll = rust_side::roll(0, &[1, 0, 0, 1, 0, 0, 0, 0, 0, 0, 0, 0]);
-    let (header, mut terms): (Header, _) = second::check(&roll).expect("a fresh roll reads");
+    let (header, mut terms): (Header, _) = NOW.check(&roll).expect("a fresh roll reads");
     assert!(rust_side::is_own_list(&header, &terms));
     terms.swap(0, 1);
     assert!(!rust_side::is_own_list(&header, &terms));

@@ -2,7 +2,7 @@
 
 use oracle::answer::answer_line;
 use oracle::rolls;
-use oracle::second::{check, read_number, Unread};
+use oracle::second::{read_number, Unread, NOW};
 
 fn ask(question: &str) -> String {
     let mut answer = Vec::new();
@@ -84,24 +84,32 @@ fn shells() {
     assert_eq!(ask("shell 2 18 18"), "refused 6");
     assert_eq!(ask("shell 2 18 19"), "refused 5");
     assert_eq!(ask("shell 2 17 0"), "refused 6");
-    assert_eq!(ask("shell 5 0 1"), "refused 2");
+    assert!(ask("shell 6").starts_with("shell 84 060000050100"));
+    assert_eq!(ask("shell 6 84 0"), ask("shell 6"));
+    assert_eq!(ask("shell 6 83 0"), "refused 6");
+    assert_eq!(ask("shell 7 0 1"), "refused 2");
     assert_eq!(ask("component 1 1 1"), "component 010000000100");
     assert_eq!(
         ask("component 4 4 4 4 50624"),
         "component 000004000004000004000004"
     );
-    assert_eq!(ask("component 4 4 4 4 50625"), "refused 13");
-    assert_eq!(ask("component 5 4 4 4 50625"), "refused 2");
+    assert_eq!(
+        ask("component 6 6 6 6 614655"),
+        "component 000006000006000006000006"
+    );
+    assert_eq!(ask("component 6 6 6 6 614656"), "refused 13");
+    assert_eq!(ask("component 7 6 6 6 614656"), "refused 2");
 }
 
 #[test]
 fn refusals_of_a_request() {
     let cases = [
         ("4 4 0 0 4 0 0 4 0 0 4 0 0", "refused 4"),
-        ("4 4 0 0 4 0 0 4 0 0 4 0 0 0 0", "refused 4"),
-        ("4 4 0 0 4 0 0 4 0 0 4 0 0 0 1", "refused 5"),
-        ("0 5 0 0 0 0 0 0 0 0 0 0 0", "refused 2"),
-        ("0 2 2 1 0 0 0 0 0 0 0 0 0", "refused 2"),
+        ("4 6 0 0 6 0 0 6 0 0 6 0 0", "refused 4"),
+        ("4 6 0 0 6 0 0 6 0 0 6 0 0 0 0", "refused 4"),
+        ("4 6 0 0 6 0 0 6 0 0 6 0 0 0 1", "refused 5"),
+        ("0 7 0 0 0 0 0 0 0 0 0 0 0", "refused 2"),
+        ("0 2 2 3 0 0 0 0 0 0 0 0 0", "refused 2"),
         ("0 255 255 2 0 0 0 0 0 0 0 0 0", "refused 2"),
         ("0 0 0 0 0 0 0 9 0 0 0 0 0", "refused 3"),
         ("3 0 0 0 0 0 0 0 0 0 0 0 1", "refused 3"),
@@ -113,8 +121,35 @@ fn refusals_of_a_request() {
     for (request, expected) in cases {
         assert_eq!(ask(&format!("expand {}", request)), expected, "{}", request);
     }
-    assert!(ask("expand 0 4 0 0 0 0 0 0 0 0 0 0 0").starts_with("roll"));
+    assert!(ask("expand 0 6 0 0 0 0 0 0 0 0 0 0 0").starts_with("roll"));
     assert!(ask("expand 0 0 0 0 0 0 0 0 0 0 0 0 0 20 9").starts_with("roll"));
+}
+
+/// the length and the terms of what `expand` writes, with its refusals but for the buffer's.
+#[test]
+fn measuring() {
+    let cases = [
+        ("0 0 0 0 0 0 0 0 0 0 0 0 0", "measured 11 terms 1"),
+        ("0 1 0 0 1 0 0 0 0 0 0 0 0", "measured 17 terms 2"),
+        ("2 6 0 0 6 0 0 0 0 0 0 0 0", "measured 4665226 terms 380480"),
+        ("4 6 0 0 6 0 0 6 0 0 6 0 0", "refused 4"),
+        ("4 6 0 0 6 0 0 6 0 0 6 0 1", "refused 2"),
+        ("3 6 0 0 6 0 0 6 0 0 0 0 1", "refused 3"),
+        ("0 7 0 0 0 0 0 1 0 0 0 0 0", "refused 2"),
+        ("5 7 0 0 0 0 0 1 0 0 0 0 0", "refused 1"),
+        ("4 6 0 0 6 0 0 6 0 0 6 0 0 0 0", "?"),
+        ("0 0 0 0 0 0 0 0 0 0 0 0", "?"),
+    ];
+    for (request, expected) in cases {
+        assert_eq!(ask(&format!("measure {}", request)), expected);
+    }
+}
+
+/// the buffer that is lent where none is named holds the longest roll.
+#[test]
+fn the_longest_roll_fits() {
+    let expanded = ask("expand 4 1 1 0 4 0 1 1 3 0 3 0 0");
+    assert!(expanded.starts_with("roll 15001920 terms 1048096 "));
 }
 
 #[test]
@@ -132,7 +167,12 @@ fn reading() {
             "opened 0 0 1 0 0 0 0 0 0 place 8",
         ),
         ("check 000000000000000101000000", "refused 7 at 11"),
-        ("open 0002020100000001", "refused 7 at 3"),
+        ("open 0002020300000001", "refused 7 at 3"),
+        (
+            "open 00060000000000ffff3f",
+            "opened 0 6 1048575 6 0 0 0 0 0 place 10",
+        ),
+        ("open 00060000000000808040", "refused 7 at 7"),
         ("check 0000000000000001010100", "refused 7 at 9"),
         ("check 01000000000000010100020808", "refused 7 at 10"),
         (
@@ -140,10 +180,10 @@ fn reading() {
             "opened 1 0 1 0 0 0 0 0 0 place 8",
         ),
         (
-            "check 00000000000000018080040000",
+            "check 000000000000000180a0fc8d080000",
             "opened 0 0 1 0 0 0 0 0 0 place 8",
         ),
-        ("check 00000000000000018180040000", "refused 7 at 8"),
+        ("check 000000000000000181a0fc8d080000", "refused 7 at 8"),
         ("next 0 0 1 8 0000000000000001010000", "term 1 0 next 11 0"),
         ("next 0 0 0 11 0000000000000001010000", "end"),
         ("next 0 0 0 10 0000000000000001010000", "refused 7 at 10"),
@@ -151,7 +191,12 @@ fn reading() {
         ("next 0 0 1 12 0000000000000001010000", "refused 7 at 12"),
         ("next 0 0 0 12 0000000000000001010000", "refused 7 at 12"),
         ("next 5 0 0 11 0000000000000001010000", "refused 7 at 11"),
-        ("next 0 9 0 11 0000000000000001010000", "refused 7 at 11"),
+        ("next 0 12 0 11 0000000000000001010000", "end"),
+        ("next 0 13 0 11 0000000000000001010000", "refused 7 at 11"),
+        ("next 3 18 0 11 0000000000000001010000", "end"),
+        ("next 3 19 0 11 0000000000000001010000", "refused 7 at 11"),
+        ("next 4 24 0 11 0000000000000001010000", "end"),
+        ("next 4 25 0 11 0000000000000001010000", "refused 7 at 11"),
     ];
     for (question, expected) in cases {
         assert_eq!(ask(question), expected, "{}", question);
@@ -237,12 +282,14 @@ fn cut_or_wrong() {
 fn each_cut_of_a_good_roll_is_14() {
     let mut good = 0;
     for roll in rolls::to_be_cut() {
-        if check(&roll).is_err() {
+        if NOW.check(&roll).is_err() {
             continue;
         }
         good += 1;
         for cut in 0..roll.len() {
-            let refused = check(&roll[..cut]).expect_err("a cut roll does not read");
+            let refused = NOW
+                .check(&roll[..cut])
+                .expect_err("a cut roll does not read");
             let parted = roll[..cut].iter().rev().take_while(|&&b| b > 127).count();
             let expected = (14, (cut - parted) as u64);
             assert_eq!((refused.number, refused.place), expected, "{:?}", roll);
@@ -303,7 +350,7 @@ fn lines_that_are_no_question() {
         "shell +2",
         "shell -2",
         "shell 256",
-        "shell 2 1048577 0",
+        "shell 2 16777217 0",
         "shell 2 0",
         "shell 2 0 0 0",
         "shell 2 0 18446744073709551616",
@@ -320,6 +367,7 @@ fn lines_that_are_no_question() {
         "next 0 0 4294967296 0 -",
         "expand 0 0 0 0 0 0 0 0 0 0 0 0",
         "expand 0 0 0 0 0 0 0 0 0 0 0 0 0 0",
+        "expand 0 0 0 0 0 0 0 0 0 0 0 0 0 16777217 0",
         "jk 0 0",
         "jk 1 0",
         "jk 1 0 0 0",

@@ -3,9 +3,11 @@
 use oracle::answer::answer_all;
 use oracle::diff::class;
 use oracle::parse::write_roll;
-use oracle::questions::{write_all, write_every_request, KINDS};
+use oracle::questions::{write_all, KINDS};
 use oracle::rolls::{to_be_cut, tried_one_by_one};
+use oracle::runs;
 use std::collections::BTreeSet;
+use std::io::{self, Write};
 
 fn questions(kind: &str, count: u64, seed: u64) -> Vec<u8> {
     let mut lines = Vec::new();
@@ -38,6 +40,13 @@ fn every_kind_of_answer_comes_up() {
                 "refused  4",
                 "refused  5",
                 "refused  6",
+            ],
+            "measure" => &[
+                "measured",
+                "refused  1",
+                "refused  2",
+                "refused  3",
+                "refused  4",
             ],
             "list" => &["listing", "refused  6", "refused  7", "refused 14"],
             "open" | "check" => &["opened", "refused  7", "refused 14"],
@@ -77,7 +86,7 @@ fn every_kind_of_answer_comes_up() {
 fn rolls_that_are_tried_one_by_one() {
     let tried = tried_one_by_one();
     let cut: usize = to_be_cut().iter().map(Vec::len).sum();
-    assert_eq!((to_be_cut().len(), cut), (200, 6_657));
+    assert_eq!((to_be_cut().len(), cut), (200, 6_927));
     assert_eq!(tried.len(), cut + 22_364);
     let asked = questions("check", 50_000, 1);
     let mut line = b"check ".to_vec();
@@ -94,12 +103,42 @@ fn a_seed_gives_the_same_questions() {
     assert!(questions("eval", 200, 5) != questions("eval", 200, 6));
 }
 
+/// The lines of a run.
+fn run(write: impl FnOnce(&mut dyn Write) -> io::Result<()>) -> Vec<u8> {
+    let mut text = Vec::new();
+    write(&mut text).expect("memory takes all");
+    text
+}
+
 #[test]
 fn every_request_is_asked_once() {
-    for (kind, count) in [(0, 1_225), (3, 42_875)] {
-        let mut text = Vec::new();
-        write_every_request(kind, &mut text).expect("memory takes all");
-        let different: BTreeSet<&[u8]> = lines(&text).into_iter().collect();
+    for (kind, count) in [(0, 7_056), (3, 592_704)] {
+        let whole = run(|out| runs::every_request(kind, 0, 1, out));
+        let different: BTreeSet<&[u8]> = lines(&whole).into_iter().collect();
         assert_eq!(different.len(), count);
+        let parts: Vec<_> = (0..7)
+            .map(|part| run(|out| runs::every_request(kind, part, 7, out)))
+            .collect();
+        let parts: BTreeSet<&[u8]> = parts.iter().flat_map(|part| lines(part)).collect();
+        assert!(parts == different);
     }
+}
+
+#[test]
+fn every_component_is_asked_once() {
+    let text = run(|out| runs::every_component(6, out));
+    let asked = lines(&text);
+    assert_eq!(asked.len(), 614_656);
+    assert_eq!(asked[614_655], b"component 6 6 6 6 614655");
+}
+
+#[test]
+fn requests_within_the_cap_and_around_it() {
+    let within = answers(&run(|out| runs::within_the_cap(40, 1, out)));
+    let around = answers(&run(|out| runs::around_the_cap(100, 1, out)));
+    let classes = |text: &[u8]| lines(text).into_iter().map(class).collect::<BTreeSet<_>>();
+    assert_eq!(lines(&within).len(), 40);
+    assert!(classes(&within).iter().eq(["roll"]));
+    assert_eq!(lines(&around).len(), 100);
+    assert!(classes(&around).iter().eq(["measured", "refused  4"]));
 }

@@ -1,5 +1,5 @@
 -- How much a list of terms measures: its terms and their bytes, or that they are too many.
-use Prim.Native.Nat.{ℕ, _+_, _*_, _/_, _≤_}
+use Prim.Native.Nat.{ℕ, _+_, _*_, _/_, _^_, _≤_}
 use mathlib.Core.Path.{_≡_}
 use mathlib.Core.Bool.{cond}
 use mathlib.Core.List.{List, [], _∷_}
@@ -71,3 +71,30 @@ pub record Measures (k : Kind) (left scale count : ℕ) (r : Measured) : Type 0 
 pub record MeasuresFrom (k : Kind) (left scale count : ℕ) (c : CentreName) (x : Axis) (number : ℕ) (r : Measured) : Type 0 where
   pub is : (p : Path) → p .scale ≡ scale → p .count ≡ count → Good k left p → r ≡ measured (termsFrom k left p c x number)
   pub small-enough : SmallMeasure r
+
+-- what is told of the branch of a number holds of each in its group
+pub record MeasuresGroup (k : Kind) (left scale count : ℕ) (c : CentreName) (x : Axis) (number : ℕ) (r : Measured) : Type 0 where
+  pub is : (p : Path) → p .scale ≡ scale → p .count ≡ count → Good k left p
+      → measured (termsFrom k left p c x number) ≡ plus (groupOf (widthOf k number) r) (measured (termsFrom k left p c x (number + widthOf k number)))
+  pub small-enough : SmallMeasure r
+
+-- a measure in one word: so much for each term, and their bytes
+abbrev pub oneTerm : ℕ
+oneTerm = 2 ^ 32
+
+abbrev pub overWord : ℕ
+overWord = (mostTerms + 1) * oneTerm
+
+unfoldable pub wordOf : Measured → ℕ
+wordOf (Fits a b) = a * oneTerm + b
+wordOf Over = overWord
+
+-- the word of a measure of which something is told
+pub record WordOf (Told : Measured → Type 0) (r : ℕ) : Type 0 where
+  pub size : Measured
+  pub word : r ≡ wordOf size
+  pub told : Told size
+
+-- what a word says is the one small measure that has it
+pub record Unpacked (word : ℕ) (r : Measured) : Type 0 where
+  pub only : (m : Measured) → SmallMeasure m → word ≡ wordOf m → r ≡ m

@@ -1,6 +1,6 @@
 //! The checks of each call but the roll's, in the order in which they refuse.
 
-use super::limits::{orders_used, LARGEST_MATRIX, MOST_TERMS, ORDER_SUM};
+use super::limits::{orders_used, LARGEST_MATRIX, NOW};
 use super::refusal::{refusal, Refusal};
 use super::roll::Header;
 use super::steps::count_histories;
@@ -10,7 +10,7 @@ use crate::parse::{Centre, Lengths};
 
 /// Shell list: 2, 5, 6.
 pub fn check_shell(m: u8, buffer: usize, start: u64) -> Result<(), Refusal> {
-    if u32::from(m) > ORDER_SUM {
+    if m > NOW.order_sum {
         return Err(refusal(2));
     }
     let m = usize::from(m);
@@ -19,7 +19,7 @@ pub fn check_shell(m: u8, buffer: usize, start: u64) -> Result<(), Refusal> {
 
 /// Component by number: 2, 13.
 pub fn check_component(shells: &[u8], number: u32) -> Result<(), Refusal> {
-    if shells.iter().any(|&m| u32::from(m) > ORDER_SUM) {
+    if shells.iter().any(|&m| m > NOW.order_sum) {
         return Err(refusal(2));
     }
     let count: u32 = shells
@@ -32,17 +32,50 @@ pub fn check_component(shells: &[u8], number: u32) -> Result<(), Refusal> {
     Ok(())
 }
 
-fn fits(length: usize, buffer: usize, start: u64) -> Result<(), Refusal> {
+/// 5: the start place is beyond the buffer's end.
+fn check_start(buffer: usize, start: u64) -> Result<(), Refusal> {
     if start > buffer as u64 {
         return Err(refusal(5));
     }
+    Ok(())
+}
+
+fn fits(length: usize, buffer: usize, start: u64) -> Result<(), Refusal> {
+    check_start(buffer, start)?;
     if length > buffer - start as usize {
         return Err(refusal(6));
     }
     Ok(())
 }
 
-// Expansion
+// Expansion and measuring
+
+/// 1, 2, 3: the kind and the twelve orders.
+fn check_orders(kind: u8, orders: &[u8; 12]) -> Result<(), Refusal> {
+    if kind > 4 {
+        return Err(refusal(1));
+    }
+    let (used, unused) = orders.split_at(orders_used(kind));
+    let sum = |centre: &[u8]| centre.iter().map(|&o| u32::from(o)).sum::<u32>();
+    if used
+        .chunks(3)
+        .any(|centre| sum(centre) > NOW.order_sum.into())
+    {
+        return Err(refusal(2));
+    }
+    if unused.iter().any(|&o| o != 0) {
+        return Err(refusal(3));
+    }
+    Ok(())
+}
+
+/// 4: more complete histories than the cap.
+fn check_count(kind: u8, orders: &[u8; 12]) -> Result<(), Refusal> {
+    if count_histories(kind, orders, NOW.terms) > NOW.terms {
+        return Err(refusal(4));
+    }
+    Ok(())
+}
 
 /// Expansion: 1, 2, 3, 5, 4 here; 6 once the roll's length is known.
 pub fn check_request(
@@ -51,24 +84,15 @@ pub fn check_request(
     buffer: usize,
     start: u64,
 ) -> Result<(), Refusal> {
-    if kind > 4 {
-        return Err(refusal(1));
-    }
-    let (used, unused) = orders.split_at(orders_used(kind));
-    let sum = |centre: &[u8]| centre.iter().map(|&o| u32::from(o)).sum::<u32>();
-    if used.chunks(3).any(|centre| sum(centre) > ORDER_SUM) {
-        return Err(refusal(2));
-    }
-    if unused.iter().any(|&o| o != 0) {
-        return Err(refusal(3));
-    }
-    if start > buffer as u64 {
-        return Err(refusal(5));
-    }
-    if count_histories(kind, orders) > MOST_TERMS {
-        return Err(refusal(4));
-    }
-    Ok(())
+    check_orders(kind, orders)?;
+    check_start(buffer, start)?;
+    check_count(kind, orders)
+}
+
+/// Measuring: 1, 2, 3, 4. There is no buffer.
+pub fn check_measured(kind: u8, orders: &[u8; 12]) -> Result<(), Refusal> {
+    check_orders(kind, orders)?;
+    check_count(kind, orders)
 }
 
 /// 6: the whole roll doesn't fit from the start place on.

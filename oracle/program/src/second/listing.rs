@@ -1,15 +1,14 @@
 //! The listing of a roll.
 
-use super::limits::{orders_used, LONGEST_LISTED};
+use super::limits::{orders_used, LONGEST_LISTED, NOW};
 use super::refusal::{refusal, Refusal};
-use super::roll::check;
 
 /// The listing of a roll, each line with its line feed.
 pub fn listing(roll: &[u8]) -> Result<String, Refusal> {
     if roll.len() > LONGEST_LISTED {
         return Err(refusal(6));
     }
-    let (header, terms) = check(roll)?;
+    let (header, terms) = NOW.check(roll)?;
     let mut text = format!("kind {} orders", header.kind);
     for order in &header.orders[..orders_used(header.kind)] {
         text += &format!(" {}", order);

@@ -5,6 +5,7 @@
 //! and the checks of an evaluation. Nothing here calls the unchanged Rust. The step rules and
 //! the geometry are here too, so that the two can be held against each other.
 
+mod census;
 mod checks;
 mod geometry;
 mod limits;
@@ -13,11 +14,12 @@ mod refusal;
 mod roll;
 mod steps;
 
-pub use checks::{check_component, check_evaluation, check_matrices, check_request};
-pub use checks::{check_results, check_room, check_shell, check_table};
+pub use census::{facts, Facts};
+pub use checks::{check_component, check_evaluation, check_matrices, check_measured};
+pub use checks::{check_request, check_results, check_room, check_shell, check_table};
 pub use geometry::geometry_and_table;
-pub use limits::{orders_used, table_size, MOST_TERMS};
+pub use limits::{orders_used, table_size, Limits, BEFORE, NOW};
 pub use listing::listing;
 pub use refusal::{refusal, Refusal};
-pub use roll::{check, next, open, read_number, write_number, write_roll, Header, Step, Unread};
+pub use roll::{measure, read_number, write_number, write_roll, Header, Step, Unread};
 pub use steps::{count_histories, terms, Term};

@@ -1,9 +1,8 @@
 //! The roll: its writer, its reader and the cursor.
 
-use super::limits::{most_boys, most_l, most_prefactors, orders_used, table_size};
-use super::limits::{MOST_SCALE, MOST_TERMS, ORDER_SUM};
+use super::limits::{most_boys, most_prefactors, orders_used, table_size, Limits};
 use super::refusal::{cut, fault, Refusal};
-use super::steps::Term;
+use super::steps::{each_term, Term};
 use crate::parse::Cursor;
 
 /// A number in groups of seven bits, lowest first.
@@ -24,21 +23,53 @@ fn write_term(out: &mut Vec<u8>, term: &Term) {
     }
 }
 
+fn write_header(out: &mut Vec<u8>, kind: u8, orders: &[u8; 12], count: usize) {
+    write_number(out, kind.into());
+    for &order in &orders[..orders_used(kind)] {
+        write_number(out, order.into());
+    }
+    write_number(out, count as u32);
+}
+
 pub fn write_roll(kind: u8, orders: &[u8; 12], terms: &[Term]) -> Vec<u8> {
     let mut out = Vec::new();
-    write_number(&mut out, kind.into());
-    for &order in &orders[..orders_used(kind)] {
-        write_number(&mut out, order.into());
-    }
-    write_number(&mut out, terms.len() as u32);
+    write_header(&mut out, kind, orders, terms.len());
     for term in terms {
         write_term(&mut out, term);
     }
     out
 }
 
+fn number_length(number: u32) -> usize {
+    match number >> 7 {
+        0 => 1,
+        rest => 1 + number_length(rest),
+    }
+}
+
+fn term_length(term: &Term) -> usize {
+    let length = |&number: &u8| number_length(number.into());
+    let prefactors: usize = term.prefactors.iter().map(length).sum();
+    let count = term.prefactors.len() as u32;
+    number_length(term.scale) + length(&term.boys) + number_length(count) + prefactors
+}
+
+/// The length of a request's roll and the number of its terms, for orders within the limits
+/// and the cap.
+pub fn measure(kind: u8, orders: &[u8; 12]) -> (usize, usize) {
+    let (mut length, mut count) = (0, 0);
+    each_term(kind, orders, &mut |term| {
+        length += term_length(term);
+        count += 1;
+    });
+    let mut header = Vec::new();
+    write_header(&mut header, kind, orders, count);
+    (header.len() + length, count)
+}
+
 /// Reads numbers one after another; the place of a refusal is where the number begins.
 struct Reader<'a> {
+    limits: &'a Limits,
     roll: &'a [u8],
     place: usize,
 }
@@ -57,7 +88,7 @@ impl<'a> Reader<'a> {
     }
 
     fn term(&mut self, kind: u8, l: u32) -> Result<Term, Refusal> {
-        let scale = self.number(1, MOST_SCALE)?;
+        let scale = self.number(1, self.limits.scale)?;
         let boys = self.number(0, most_boys(kind, l))? as u8;
         let count = self.number(0, most_prefactors(kind, l))?;
         let mut prefactors = Vec::new();
@@ -111,43 +142,6 @@ pub struct Header {
     pub place: usize,
 }
 
-/// The header alone.
-pub fn open(roll: &[u8]) -> Result<Header, Refusal> {
-    let mut reader = Reader { roll, place: 0 };
-    let kind = reader.number(0, 4)? as u8;
-    let mut orders = [0; 12];
-    for at in 0..orders_used(kind) {
-        let first_of_centre = at - at % 3;
-        let sum: u8 = orders[first_of_centre..at].iter().sum();
-        orders[at] = reader.number(0, ORDER_SUM - u32::from(sum))? as u8;
-    }
-    let count = reader.number(1, MOST_TERMS)?;
-    Ok(Header {
-        kind,
-        orders,
-        l: orders.iter().sum(),
-        count,
-        place: reader.place,
-    })
-}
-
-/// The whole roll judged.
-pub fn check(roll: &[u8]) -> Result<(Header, Vec<Term>), Refusal> {
-    let header = open(roll)?;
-    let mut reader = Reader {
-        roll,
-        place: header.place,
-    };
-    let mut terms = Vec::new();
-    for _ in 0..header.count {
-        terms.push(reader.term(header.kind, header.l.into())?);
-    }
-    if reader.place < roll.len() {
-        return Err(fault(reader.place));
-    }
-    Ok((header, terms))
-}
-
 /// What a step of the cursor answers.
 #[derive(Clone, Debug, PartialEq)]
 pub enum Step {
@@ -155,29 +149,75 @@ pub enum Step {
     End,
 }
 
-pub fn next(cursor: Cursor, roll: &[u8]) -> Result<Step, Refusal> {
-    let forged =
-        cursor.kind > 4 || cursor.l > most_l(cursor.kind) || cursor.place > roll.len() as u64;
-    if forged {
-        return Err(Refusal {
-            number: 7,
-            place: cursor.place,
-        });
+/// What a cabinet that has these limits says of a roll.
+impl Limits {
+    /// The header alone.
+    pub fn open(&self, roll: &[u8]) -> Result<Header, Refusal> {
+        let mut reader = self.reader(roll, 0);
+        let kind = reader.number(0, 4)? as u8;
+        let mut orders = [0; 12];
+        for at in 0..orders_used(kind) {
+            let first_of_centre = at - at % 3;
+            let sum: u8 = orders[first_of_centre..at].iter().sum();
+            orders[at] = reader.number(0, (self.order_sum - sum).into())? as u8;
+        }
+        let count = reader.number(1, self.terms)?;
+        Ok(Header {
+            kind,
+            orders,
+            l: orders.iter().sum(),
+            count,
+            place: reader.place,
+        })
     }
-    let place = cursor.place as usize;
-    if cursor.left == 0 {
-        return if place < roll.len() {
-            Err(fault(place))
-        } else {
-            Ok(Step::End)
+
+    /// The whole roll judged.
+    pub fn check(&self, roll: &[u8]) -> Result<(Header, Vec<Term>), Refusal> {
+        let header = self.open(roll)?;
+        let mut reader = self.reader(roll, header.place);
+        let mut terms = Vec::new();
+        for _ in 0..header.count {
+            terms.push(reader.term(header.kind, header.l.into())?);
+        }
+        if reader.place < roll.len() {
+            return Err(fault(reader.place));
+        }
+        Ok((header, terms))
+    }
+
+    /// One step of the cursor, forged or not.
+    pub fn next(&self, cursor: Cursor, roll: &[u8]) -> Result<Step, Refusal> {
+        let forged =
+            cursor.kind > 4 || cursor.l > self.l(cursor.kind) || cursor.place > roll.len() as u64;
+        if forged {
+            return Err(Refusal {
+                number: 7,
+                place: cursor.place,
+            });
+        }
+        let place = cursor.place as usize;
+        if cursor.left == 0 {
+            return if place < roll.len() {
+                Err(fault(place))
+            } else {
+                Ok(Step::End)
+            };
+        }
+        let mut reader = self.reader(roll, place);
+        let term = reader.term(cursor.kind, cursor.l.into())?;
+        let after = Cursor {
+            left: cursor.left - 1,
+            place: reader.place as u64,
+            ..cursor
         };
+        Ok(Step::Term(term, after))
     }
-    let mut reader = Reader { roll, place };
-    let term = reader.term(cursor.kind, cursor.l.into())?;
-    let after = Cursor {
-        left: cursor.left - 1,
-        place: reader.place as u64,
-        ..cursor
-    };
-    Ok(Step::Term(term, after))
+
+    fn reader<'a>(&'a self, roll: &'a [u8], place: usize) -> Reader<'a> {
+        Reader {
+            limits: self,
+            roll,
+            place,
+        }
+    }
 }

@@ -1,11 +1,11 @@
 //! The step rules: the histories of a request, their count and their terms.
 
-use super::limits::MOST_TERMS;
+use std::collections::HashMap;
 
 /// A branch of one step. It is legal when its multiplier is at least 1.
 #[derive(Clone, Copy, Default)]
-struct Branch {
-    multiplier: u8,
+pub struct Branch {
+    pub multiplier: u8,
     /// What falls, one each: places among the twelve orders.
     falls: [Option<usize>; 2],
     prefactor: u8,
@@ -28,15 +28,6 @@ impl Branches {
             count: list.len(),
         }
     }
-}
-
-/// Where a history stands.
-#[derive(Clone, Default)]
-struct Walk {
-    left: [u8; 12],
-    scale: u32,
-    boys: u8,
-    prefactors: Vec<u8>,
 }
 
 /// A term of the list.
@@ -158,62 +149,84 @@ fn branches(kind: u8, left: &[u8; 12]) -> Branches {
     }
 }
 
-/// Walks the complete histories in dictionary order; stops when the sink says so.
-fn walk(kind: u8, at: &mut Walk, sink: &mut dyn FnMut(&Walk) -> bool) -> bool {
-    let step = branches(kind, &at.left);
-    if step.count == 0 {
-        return sink(at);
-    }
-    let listed = &step.all[..step.count];
-    for branch in listed.iter().filter(|branch| branch.multiplier >= 1) {
-        let before = (at.left, at.scale, at.boys);
-        for &place in branch.falls.iter().flatten() {
-            at.left[place] -= 1;
-        }
-        at.scale *= u32::from(branch.multiplier);
-        at.boys += u8::from(branch.raises);
-        at.prefactors.push(branch.prefactor);
-        let goes_on = walk(if branch.to_overlap { 0 } else { kind }, at, sink);
-        at.prefactors.pop();
-        at.left = before.0;
-        at.scale = before.1;
-        at.boys = before.2;
-        if !goes_on {
-            return false;
-        }
-    }
-    true
+/// The legal branches where a history stands.
+pub fn legal(kind: u8, left: &[u8; 12]) -> impl Iterator<Item = Branch> {
+    let step = branches(kind, left);
+    let listed = (0..step.count).map(move |at| step.all[at]);
+    listed.filter(|branch| branch.multiplier >= 1)
 }
 
-fn root(orders: &[u8; 12]) -> Walk {
-    Walk {
-        left: *orders,
+impl Branch {
+    /// Where a history stands after the branch.
+    pub fn leads_to(&self, kind: u8, left: &[u8; 12]) -> (u8, [u8; 12]) {
+        let mut left = *left;
+        for &place in self.falls.iter().flatten() {
+            left[place] -= 1;
+        }
+        (if self.to_overlap { 0 } else { kind }, left)
+    }
+}
+
+/// Walks the complete histories in dictionary order; `term` is that of the history so far.
+fn walk(kind: u8, left: &[u8; 12], term: &mut Term, sink: &mut dyn FnMut(&Term)) {
+    if *left == [0; 12] {
+        return sink(term);
+    }
+    let (scale, boys) = (term.scale, term.boys);
+    for branch in legal(kind, left) {
+        let (kind, left) = branch.leads_to(kind, left);
+        term.scale = scale * u32::from(branch.multiplier);
+        term.boys = boys + u8::from(branch.raises);
+        term.prefactors.push(branch.prefactor);
+        walk(kind, &left, term, sink);
+        term.prefactors.pop();
+    }
+    term.scale = scale;
+    term.boys = boys;
+}
+
+/// Hands out the terms by 01's step rules one after another, for orders within the limits.
+pub fn each_term(kind: u8, orders: &[u8; 12], sink: &mut dyn FnMut(&Term)) {
+    let mut term = Term {
         scale: 1,
-        ..Walk::default()
-    }
+        ..Term::default()
+    };
+    walk(kind, orders, &mut term, sink);
 }
 
-/// The number of complete histories, but no more than one above the cap. The largest request
-/// has 72,581,848 of them.
-pub fn count_histories(kind: u8, orders: &[u8; 12]) -> u32 {
-    let mut count = 0;
-    walk(kind, &mut root(orders), &mut |_| {
-        count += 1;
-        count <= MOST_TERMS
-    });
-    count
-}
-
-/// The list by 01's step rules, for orders within the limits.
+/// The list of them.
 pub fn terms(kind: u8, orders: &[u8; 12]) -> Vec<Term> {
     let mut list = Vec::new();
-    walk(kind, &mut root(orders), &mut |at| {
-        list.push(Term {
-            scale: at.scale,
-            boys: at.boys,
-            prefactors: at.prefactors.clone(),
-        });
-        true
-    });
+    each_term(kind, orders, &mut |term| list.push(term.clone()));
     list
+}
+
+/// The number of complete histories, but no more than one above `most`. What lies ahead goes by
+/// kind and orders left alone, so it is counted once for each: the largest request has
+/// 905,995,238,216 histories.
+pub fn count_histories(kind: u8, orders: &[u8; 12], most: u32) -> u32 {
+    let mut known = HashMap::new();
+    count(kind, orders, most, &mut known)
+}
+
+type Known = HashMap<(u8, [u8; 12]), u32>;
+
+fn count(kind: u8, left: &[u8; 12], most: u32, known: &mut Known) -> u32 {
+    if *left == [0; 12] {
+        return 1;
+    }
+    if let Some(&counted) = known.get(&(kind, *left)) {
+        return counted;
+    }
+    let mut sum = 0;
+    for branch in legal(kind, left) {
+        let (kind, left) = branch.leads_to(kind, left);
+        sum += count(kind, &left, most, known);
+        if sum > most {
+            sum = most + 1;
+            break;
+        }
+    }
+    known.insert((kind, *left), sum);
+    sum
 }

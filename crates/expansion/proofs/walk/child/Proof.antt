@@ -7,6 +7,9 @@ use Rattle.expansion.proofs.walk.child.Tie as tie
 branch-requires : tie.Need-branch-requires
 branch-requires c κs = search needs
 
+cast-moved : tie.Need-cast-moved
+cast-moved c = search needs
+
 moved-requires : tie.Need-moved-requires
 moved-requires c κs = search child-moves
 
@@ -17,4 +20,4 @@ returns : tie.Need-returns
 returns c = search child-of
 
 pub child-spec : {M : Type 1} → statement M
-child-spec = tie.close (tie.spec branch-requires moved-requires sub-below returns)
+child-spec = tie.close (tie.spec branch-requires cast-moved moved-requires sub-below returns)

@@ -1,27 +1,39 @@
--- `branch` and `node` meet their contracts. Assumes nothing.
+-- `below`, `branch` and `node` meet their contracts. Assumes nothing.
 use borrow.Author.Needs.{needs}
-use Rattle.expansion.proofs.WalkCycle.{nodeFuel, branchFuel, branch-none, number-fits, skip-falls, skip-may, skipped, child-falls, child-may, then-may, then-done, then-last, node-emits, node-emitted, node-none, first-falls, first-may, first-done}
+use Rattle.expansion.proofs.WalkCycle.{nodeFuel, belowFuel, branchFuel, below-falls, branch-none, number-fits, skip-falls, skip-may, skipped, child-falls, child-may, then-may, then-done, then-last, node-emits, node-emitted, node-none, first-falls, first-may, first-done}
 use Prim.Native.Nat.{ℕ, _<_}
 use borrow.Fn.Kinds.{In}
 use borrow.Fn.PlainCycle.{Measures, is, falls, and}
+use Rattle.expansion.proofs.walk.below.Reads as below
+use Rattle.expansion.proofs.walk.below.Kinds as below-kinds
+use Rattle.expansion.proofs.walk.+below+branch+node.Lts-below as below-lts
 use Rattle.expansion.proofs.walk.branch.Reads as branch
 use Rattle.expansion.proofs.walk.branch.Kinds as branch-kinds
-use Rattle.expansion.proofs.walk.+branch+node.Lts-branch as branch-lts
+use Rattle.expansion.proofs.walk.+below+branch+node.Lts-branch as branch-lts
 use Rattle.expansion.proofs.walk.node.Reads as node
 use Rattle.expansion.proofs.walk.node.Kinds as node-kinds
-use Rattle.expansion.proofs.walk.+branch+node.Lts-node as node-lts
+use Rattle.expansion.proofs.walk.+below+branch+node.Lts-node as node-lts
 use Rattle.expansion.proofs.terms.emit.Reads as emit-reads
 use Rattle.expansion.proofs.walk.child.Reads as child-reads
 use Rattle.expansion.proofs.walk.choose.Reads as choose-reads
 use Rattle.steps.proofs.multipliers.Reads as multipliers-reads
-use Rattle.expansion.proofs.walk.+branch+node.{statement}
-use Rattle.expansion.proofs.walk.+branch+node.Tie.{close}
+use Rattle.expansion.proofs.walk.+below+branch+node.{statement}
+use Rattle.expansion.proofs.walk.+below+branch+node.Tie.{close}
+
+abbrev μ-below : Measures 1 below-kinds.ps ℕ
+μ-below κs a = belowFuel (a .1 .1 .0)
 
 abbrev μ-branch : Measures 1 branch-kinds.ps ℕ
 μ-branch κs a = branchFuel (a .1 .1 .0) (a .1 .1 .1 .0) (a .1 .1 .1 .1 .0) (a .1 .1 .1 .1 .1 .1 .1 .0)
 
 abbrev μ-node : Measures 1 node-kinds.ps ℕ
 μ-node κs a = nodeFuel (a .1 .1 .0) (a .1 .1 .1 .0) (a .1 .1 .1 .1 .0)
+
+abbrev below-at : ℕ → In 1 below-kinds.ps
+below-at t = and 1 below-kinds.ps (is 1 below-kinds.ps μ-below t) below.Pre
+
+abbrev below-below : ℕ → In 1 below-kinds.ps
+below-below t = and 1 below-kinds.ps (falls 1 below-kinds.ps _<_ μ-below t) below.Pre
 
 abbrev branch-at : ℕ → In 1 branch-kinds.ps
 branch-at t = and 1 branch-kinds.ps (is 1 branch-kinds.ps μ-branch t) branch.Pre
@@ -36,11 +48,32 @@ abbrev node-below : ℕ → In 1 node-kinds.ps
 node-below t = and 1 node-kinds.ps (falls 1 node-kinds.ps _<_ μ-node t) node.Pre
 
 -- what each may ask and learns of the functions that it calls
+abbrev below-claims : ℕ → below-lts.Claims
+below-claims t = (emit-reads.Asked, emit-reads.Learnt, node-below t, node.Post)
+
 abbrev branch-claims : ℕ → branch-lts.Claims
-branch-claims t = (branch-below t, branch.Post, child-reads.Asked, child-reads.Learnt, node-below t, node.Post)
+branch-claims t = (branch-below t, branch.Post, child-reads.Asked, child-reads.Learnt, below-below t, below.Post)
 
 abbrev node-claims : ℕ → node-lts.Claims
 node-claims t = (emit-reads.Asked, emit-reads.Learnt, choose-reads.Asked, choose-reads.Learnt, multipliers-reads.Asked, multipliers-reads.Learnt, branch-below t, branch.Post)
+
+below-emit-requires : (t : ℕ) → below-lts.Need-emit-requires (below-claims t) (below-at t) below.Post
+below-emit-requires t c κs = search node-emits
+
+below-same-length : (t : ℕ) → below-lts.Need-same-length (below-claims t) (below-at t) below.Post
+below-same-length t c = search needs
+
+below-returns : (t : ℕ) → below-lts.Need-returns (below-claims t) (below-at t) below.Post
+below-returns t c = search node-emitted
+
+below-node-requires : (t : ℕ) → below-lts.Need-node-requires (below-claims t) (below-at t) below.Post
+below-node-requires t c κs = (search below-falls, search)
+
+below-same-length-2 : (t : ℕ) → below-lts.Need-same-length-2 (below-claims t) (below-at t) below.Post
+below-same-length-2 t c = search needs
+
+below-returns-2 : (t : ℕ) → below-lts.Need-returns-2 (below-claims t) (below-at t) below.Post
+below-returns-2 t c = search needs
 
 branch-returns : (t : ℕ) → branch-lts.Need-returns (branch-claims t) (branch-at t) branch.Post
 branch-returns t c = search branch-none
@@ -60,8 +93,8 @@ branch-returns-2 t c = search skipped
 branch-child-requires : (t : ℕ) → branch-lts.Need-child-requires (branch-claims t) (branch-at t) branch.Post
 branch-child-requires t c κs = (search, (search, search))
 
-branch-node-requires : (t : ℕ) → branch-lts.Need-node-requires (branch-claims t) (branch-at t) branch.Post
-branch-node-requires t c κs = (search child-falls, search child-may)
+branch-below-requires : (t : ℕ) → branch-lts.Need-below-requires (branch-claims t) (branch-at t) branch.Post
+branch-below-requires t c κs = (search child-falls, search child-may)
 
 branch-same-length-2 : (t : ℕ) → branch-lts.Need-same-length-2 (branch-claims t) (branch-at t) branch.Post
 branch-same-length-2 t c = search needs
@@ -114,8 +147,17 @@ node-same-length-2 t c = search needs
 node-returns-3 : (t : ℕ) → node-lts.Need-returns-3 (node-claims t) (node-at t) node.Post
 node-returns-3 t c = search first-done
 
-pub +branch+node-spec : {M : Type 1} → statement M
-+branch+node-spec = close μ-branch μ-node (λ t. branch-lts.spec (branch-claims t)
+pub +below+branch+node-spec : {M : Type 1} → statement M
++below+branch+node-spec = close μ-below μ-branch μ-node (λ t. below-lts.spec (below-claims t)
+    (below-at t)
+    below.Post
+    (below-emit-requires t)
+    (below-same-length t)
+    (below-returns t)
+    (below-node-requires t)
+    (below-same-length-2 t)
+    (below-returns-2 t))
+    (λ t. branch-lts.spec (branch-claims t)
     (branch-at t)
     branch.Post
     (branch-returns t)
@@ -124,7 +166,7 @@ pub +branch+node-spec : {M : Type 1} → statement M
     (branch-same-length t)
     (branch-returns-2 t)
     (branch-child-requires t)
-    (branch-node-requires t)
+    (branch-below-requires t)
     (branch-same-length-2 t)
     (branch-returns-3 t)
     (branch-add-branch-2 t)
