@@ -1,7 +1,7 @@
 /* stack [STEP]: how many bytes of stack the deepest calls of each exported function take. The calls run on a stack of
  * their own, painted before; the lowest byte that changed tells. Every request of overlap is expanded, every 7th of
- * kinetic, 97th of nuclear, 9,973rd of moment and STEP-th of Coulomb (99,991), the largest of each kind, and of Coulomb
- * those that the sizes of the frames say to be the deepest. */
+ * kinetic, 97th of nuclear, 9,973rd of moment and STEP-th of Coulomb (99,991), the one with the most terms of each kind,
+ * and of Coulomb one that goes through branch 7 alone as often as the cap lets it, and one with the most orders. */
 #define _GNU_SOURCE
 #include "../../include/xewumbal.h"
 #include <stdio.h>
@@ -17,9 +17,7 @@ static const uint8_t centres[XEW_KINDS] = { 2, 2, 2, 3, 4 };
 static const uint8_t most_terms[XEW_KINDS][XEW_ORDERS] = {
     { 6, 0, 0, 6 }, { 6, 0, 0, 6 }, { 6, 0, 0, 6 }, { 6, 0, 0, 6, 0, 0, 6 }, { 2, 1, 0, 2, 0, 2, 1, 3, 0, 1, 0, 2 },
 };
-/* Coulomb: two that go deepest, one within the cap and one that is refused 4; and the most orders. */
-static const uint8_t deepest_accepted[XEW_ORDERS] = { 2, 0, 0, 3, 1, 1, 4, 1, 1, 1, 0, 0 };
-static const uint8_t deepest_refused[XEW_ORDERS] = { 5, 1, 0, 5, 0, 1, 4, 1, 1, 5, 0, 0 };
+static const uint8_t deepest[XEW_ORDERS] = { 2, 0, 0, 3, 1, 1, 4, 1, 1, 1, 0, 0 };
 static const uint8_t most_orders[XEW_ORDERS] = { 6, 0, 0, 6, 0, 0, 6, 0, 0, 6, 0, 0 };
 static uint8_t *rolls[XEW_KINDS], out[MOST_BYTES];
 static xew_opened opened[XEW_KINDS];
@@ -112,19 +110,16 @@ static void measure(void)
 
 static void expand_deepest(void)
 {
-    note(expand_one(&deepest_accepted).refusal);
+    note(expand_one(&deepest).refusal);
 }
 
-static void expand_refused(void)
+static void expand_most_orders(void)
 {
-    note(expand_one(&deepest_refused).refusal);
     note(expand_one(&most_orders).refusal);
 }
 
-static void measure_deepest(void)
+static void measure_most_orders(void)
 {
-    note(measure_one(&deepest_accepted).refusal);
-    note(measure_one(&deepest_refused).refusal);
     note(measure_one(&most_orders).refusal);
 }
 
@@ -189,13 +184,13 @@ CALLER void jk(void)
     note(xew_jk(16, floats, 65536, matrices[0], 256, matrices[1], 256, matrices[2], 256));
 }
 
-static size_t deepest;
+static size_t most;
 
 static void row(const char *name, void (*calls)(void))
 {
     size_t bytes = measured(calls, 0xa5), other = measured(calls, 0x5a);
     bytes = other > bytes ? other : bytes; /* the lowest byte may have had the colour of the paint */
-    deepest = bytes > deepest ? bytes : deepest;
+    most = bytes > most ? bytes : most;
     printf("  %-44s %6zu  (%u answered, %u refused)\n", name, bytes, answered, refused);
 }
 
@@ -230,10 +225,10 @@ int main(int words, char **word)
     for (uint8_t k = 0; k < XEW_KINDS; k++)
         row_of_kind("xew_expand", k, expand);
     row("xew_expand, Coulomb, the deepest", expand_deepest);
-    row("xew_expand, Coulomb, the deepest refused", expand_refused);
+    row("xew_expand, Coulomb x6,x6,x6,x6", expand_most_orders);
     for (uint8_t k = 0; k < XEW_KINDS; k++)
         row_of_kind("xew_measure", k, measure);
-    row("xew_measure, Coulomb, the deepest", measure_deepest);
+    row("xew_measure, Coulomb x6,x6,x6,x6", measure_most_orders);
     row("xew_shell_list, order 6", shell_list);
     row("xew_shell2, the last component", shell2);
     row("xew_shell4, the last component", shell4);
@@ -243,6 +238,6 @@ int main(int words, char **word)
     row("xew_prefactors, each kind", prefactors);
     row("xew_evaluate, the most terms of each kind", evaluate);
     row("xew_jk, size 16", jk);
-    printf("  %-44s %6zu\n", "the deepest", deepest);
+    printf("  %-44s %6zu\n", "the deepest", most);
     return 0;
 }
