@@ -73,7 +73,7 @@ pub fn large() -> Request {
 }
 
 /// The requests of the table. `largest` is one of the twelve with the most terms within the cap, `longest` one of the
-/// twelve with the most bytes; `large` and `long` were, up to the requests of order sums of 4 and 65,535 terms.
+/// twelve with the most bytes; `large` and `long` are those among order sums up to 4 and at most 65,535 terms.
 pub fn measured() -> Vec<Request> {
     vec![
         Request::along_x("s,s,s,s", 4, [0; 4]),

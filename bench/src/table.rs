@@ -72,7 +72,7 @@ impl Table {
         for row in rows {
             let took = row.expansion[1];
             let cells = format!(
-                "{} | {:.0} | {:.2}",
+                "{} | {:.0} | {:.4}",
                 row.request.title(),
                 took,
                 took / largest
