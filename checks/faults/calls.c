@@ -8,17 +8,18 @@
 #include <string.h>
 #include <unistd.h>
 
+static uint8_t bytes[MOST_BYTES];
 struct arena roll_arena, orders_arena, out_arena, boys_arena, i_arena, d_arena, j_arena, k_arena;
 
 static void try_shell_list(void)
 {
-    uint8_t list[45] = { 0 }, order = (uint8_t)(once_in(8) ? bits() : below(6));
+    uint8_t list[MOST_LIST] = { 0 }, order = (uint8_t)(once_in(8) ? bits() : below(XEW_MOST_ORDER + 2));
     size_t need = expected_list(order, list);
     size_t length = (size_t[]){ need, need, need + below(80), need ? need - 1 : 0, below(100), 0, 1 }[below(7)];
     size_t start = any_start(length, need), room = start <= length ? length - start : 0;
     xew_written expected = { need, (uint32_t)need / 3, 0 };
-    if (order > 4 || start > length || need > room)
-        expected = (xew_written){ 0, 0, order > 4 ? 2 : start > length ? 5 : 6 };
+    if (order > XEW_MOST_ORDER || start > length || need > room)
+        expected = (xew_written){ 0, 0, order > XEW_MOST_ORDER ? 2 : start > length ? 5 : 6 };
     struct slice out = lend(&out_arena, "out", length, 1);
     maybe_null(&out, LIST_OUT);
     for (int again = 0; again < 2; again++) {
@@ -41,8 +42,8 @@ static void try_component(enum function f)
     uint8_t m[4];
     uint32_t all = 1;
     for (int i = 0; i < 4; i++) {
-        m[i] = (uint8_t)(once_in(30) ? bits() : once_in(30) ? 5 : below(5));
-        all *= i < shells && m[i] < 5 ? (m[i] + 1u) * (m[i] + 2u) / 2 : 1;
+        m[i] = (uint8_t)(once_in(30) ? bits() : once_in(30) ? XEW_MOST_ORDER + 1 : below(XEW_MOST_ORDER + 1));
+        all *= i < shells && m[i] <= XEW_MOST_ORDER ? (m[i] + 1u) * (m[i] + 2u) / 2 : 1;
     }
     uint32_t number = (uint32_t[]){ all, all - 1, all + 1, 0, (uint32_t)bits(), UINT32_MAX, (uint32_t)below(all),
                                     (uint32_t)below(all) }[below(8)];
@@ -138,17 +139,34 @@ static void try_jk(void)
     }
 }
 
+/* The number of a large scene, which is rare since it takes seconds; the first five come early. */
+static uint64_t large_scene(void)
+{
+    return call.scene % 700 == 350 ? call.scene / 700 % 50 : UINT64_MAX;
+}
+
+/* A largest request, or a roll of as many terms as one may have and one of one more. */
+static void play_large(uint64_t number)
+{
+    if (number < LARGEST) {
+        struct slice roll = try_expand(&largest[number], largest[number].length, 0);
+        try_evaluate(roll, expected_open(roll.mine, roll.length));
+        return;
+    }
+    for (uint32_t more = 0; more < 2; more++) {
+        struct slice roll = lend_copy(&roll_arena, "roll", bytes, most_terms_roll(bytes, XEW_MOST_TERMS + more), 1);
+        xew_opened opened = try_open(roll), checked = try_check(roll);
+        hold(same_opened(opened, checked), "xew_open and xew_check disagree");
+        try_evaluate(roll, checked);
+    }
+}
+
 static void play(void)
 {
-    static uint8_t bytes[MOST_BYTES];
-    if (call.scene % 500 == 1) {
-        const struct request *largest = largest_request();
-        try_expand(largest, largest->length, 0);
-    }
     struct slice roll = lend_copy(&roll_arena, "roll", bytes, any_roll(bytes), 1);
     xew_opened opened = try_open(roll), checked = try_check(roll);
     hold(checked.refusal || same_opened(opened, checked), "xew_open and xew_check disagree");
-    xew_cursor cursor = { below(roll.length + 1), 1, 0, 8 };
+    xew_cursor cursor = { below(roll.length + 1), 1, 0, 2 * XEW_MOST_ORDER };
     if (!opened.refusal)
         cursor = step_through(roll, opened, checked);
     try_next(roll, cursor);
@@ -164,9 +182,11 @@ static void play(void)
     size_t need = known->length;
     size_t length = (size_t[]){ need, need, need + below(200), need - 1, below(need), 0, 1 }[below(7)];
     try_expand(known, length, any_start(length, need));
+    if (call.scene % 200 == 3)
+        try_expand(&over[call.scene / 200 % OVER], 100, any_start(100, 100));
     struct request request;
     any_request(&request);
-    length = once_in(100) ? MOST_BYTES : below(4000);
+    length = once_in(5000) ? MOST_BYTES : once_in(100) ? 1000000 : below(4000);
     try_expand(&request, length, any_start(length, 100));
 
     try_shell_list();
@@ -204,9 +224,13 @@ int main(int words, char **word)
     if (words == 5)
         call.scene = strtoull(word[4], NULL, 10) - 1;
     do {
-        alarm(10);
         seed_random(seed, ++call.scene);
-        play();
+        bool is_large = large_scene() <= LARGEST;
+        alarm(is_large ? 120 : 10);
+        if (is_large)
+            play_large(large_scene());
+        else
+            play();
     } while (words == 4 && call.number < calls);
     return words == 5 || report() ? 0 : 1;
 }

@@ -1,19 +1,19 @@
 /* What a call must answer, by docs/01-scope.md and docs/02-change-requests.md alone: everything but the terms of an
- * expansion, the floats of a result and whether they are finite. */
+ * expansion (histories.c has their number), the floats of a result and whether they are finite. */
 #include "faults.h"
 #include <math.h>
 #include <string.h>
 
-const uint8_t orders_used[] = { 6, 6, 6, 9, 12 }, table_size[] = { 8, 11, 11, 12, 23 }, most_l[] = { 8, 8, 8, 12, 16 };
-/* The longest rolls of the unchanged Rust within the cap. */
-const size_t longest_roll[] = { 681, 5825, 41977, 28774, 850272 };
+const uint8_t orders_used[] = { 6, 6, 6, 9, 12 }, table_size[] = { 8, 11, 11, 12, 23 };
+/* The longest rolls within the cap. */
+const size_t longest_roll[] = { 10458, 127541, 4665226, 2971075, 15001920 };
 
 uint8_t expected_request(uint8_t kind, const uint8_t *orders)
 {
     if (kind > 4)
         return 1;
     for (int i = 0; i < orders_used[kind]; i += 3)
-        if (orders[i] + orders[i + 1] + orders[i + 2] > 4)
+        if (orders[i] + orders[i + 1] + orders[i + 2] > XEW_MOST_ORDER)
             return 2;
     for (int i = orders_used[kind]; i < XEW_ORDERS; i++)
         if (orders[i] != 0)
@@ -24,7 +24,7 @@ uint8_t expected_request(uint8_t kind, const uint8_t *orders)
 size_t expected_list(uint8_t order, uint8_t *out)
 {
     size_t at = 0;
-    if (order > 4)
+    if (order > XEW_MOST_ORDER)
         return 0;
     for (int x = order; x >= 0; x--)
         for (int y = order - x; y >= 0; y--) {
@@ -38,9 +38,9 @@ size_t expected_list(uint8_t order, uint8_t *out)
 xew_component expected_component(const uint8_t *shells, int count, uint32_t number)
 {
     xew_component answer = { { 0 }, 0 };
-    uint8_t list[45];
+    uint8_t list[MOST_LIST];
     for (int i = 0; i < count; i++)
-        if (shells[i] > 4)
+        if (shells[i] > XEW_MOST_ORDER)
             answer.refusal = 2;
     for (int i = count - 1; i >= 0 && !answer.refusal; i--) {
         uint32_t triples = (uint32_t)expected_list(shells[i], list) / 3;
@@ -82,7 +82,7 @@ xew_opened expected_open(const uint8_t *roll, size_t length)
     if (!bad)
         opened.cursor.kind = (uint8_t)value;
     for (int i = 0; !bad && i < orders_used[opened.cursor.kind]; i++) {
-        room = i % 3 ? room : 4;
+        room = i % 3 ? room : XEW_MOST_ORDER;
         bad = number(roll, length, &at, 0, room, &value);
         if (!bad) {
             opened.orders[i] = (uint8_t)value;
@@ -108,7 +108,9 @@ xew_step expected_next(xew_cursor cursor, const uint8_t *roll, size_t length)
     uint64_t value;
     refused.refusal = 7;
     refused.place = at;
-    if (cursor.kind > 4 || cursor.l > most_l[cursor.kind] || at > length || (cursor.left == 0 && at < length))
+    if (cursor.kind > 4 || cursor.l > orders_used[cursor.kind] / 3 * XEW_MOST_ORDER)
+        return refused;
+    if (at > length || (cursor.left == 0 && at < length))
         return refused;
     if (cursor.left == 0) {
         step.found = 2;

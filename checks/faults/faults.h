@@ -51,17 +51,20 @@ bool once_in(uint64_t times);
 /* inputs.c: requests and their rolls, and other bytes. */
 struct request {
     uint8_t kind, orders[XEW_ORDERS];
-    uint32_t terms;
-    size_t length;
-    const uint8_t *roll;
+    size_t length;       /* of its roll; 0 where it is not known */
+    const uint8_t *roll; /* or none */
 };
-#define MOST_BYTES 1048576
+#define MOST_BYTES 16777216
+#define MOST_LIST (3 * (XEW_MOST_ORDER + 1) * (XEW_MOST_ORDER + 2) / 2)
+#define LARGEST 4
+#define OVER 4
+extern const struct request largest[LARGEST], over[OVER];
 void make_requests(void);
-const struct request *known_request(void);
-const struct request *largest_request(void);
+const struct request *known_request(void); /* one with its roll */
 void any_request(struct request *request);
 size_t any_roll(uint8_t *out); /* at most MOST_BYTES */
 size_t good_roll(uint8_t *out, size_t most); /* one that reads, of at most so many bytes */
+size_t most_terms_roll(uint8_t *out, uint32_t terms); /* so many terms in as few bytes as can be */
 size_t any_start(size_t length, size_t need);
 xew_cursor any_cursor(xew_cursor cursor, size_t length);
 
@@ -71,9 +74,10 @@ void any_floats(double *out, size_t count);
 void any_centres(xew_centre centres[4]);
 
 /* expected.c: what a call must answer, by docs/01-scope.md and docs/02-change-requests.md alone. */
-extern const uint8_t orders_used[XEW_KINDS], table_size[XEW_KINDS], most_l[XEW_KINDS];
-extern const size_t longest_roll[XEW_KINDS]; /* by the unchanged Rust */
+extern const uint8_t orders_used[XEW_KINDS], table_size[XEW_KINDS];
+extern const size_t longest_roll[XEW_KINDS]; /* by a count of every request, apart from the library */
 uint8_t expected_request(uint8_t kind, const uint8_t *orders);
+uint64_t expected_terms(uint8_t kind, const uint8_t *orders); /* histories.c: of a request that keeps the limits */
 size_t expected_list(uint8_t order, uint8_t *out); /* its bytes; 0 where there is none */
 xew_component expected_component(const uint8_t *shells, int count, uint32_t number);
 xew_opened expected_open(const uint8_t *roll, size_t length);

@@ -33,22 +33,39 @@ bool once_in(uint64_t times)
 
 #define ONE_OF(list) ((list)[below(sizeof(list) / sizeof *(list))])
 
-/* Requests whose rolls are known: small ones, longer ones, and the largest of each kind that has many terms. */
-enum { SMALL = 400, LONGER = 60, NAMED = 7, LARGEST = 2, MOST_SMALL = 1500, MOST_LONGER = 45000 };
+/* The largest requests within the limits. */
+const struct request largest[LARGEST] = {
+    { .kind = 4, .orders = { 2, 1, 0, 2, 0, 2, 1, 3, 0, 1, 0, 2 }, .length = 14908072 }, /* the most terms, 1,048,572 */
+    { .kind = 4, .orders = { 1, 1, 0, 4, 0, 1, 1, 3, 0, 3, 0, 0 }, .length = 15001920 }, /* the longest roll */
+    { .kind = 2, .orders = { 6, 0, 0, 6, 0, 0 }, .length = 4665226 },
+    { .kind = 3, .orders = { 6, 0, 0, 6, 0, 0, 6, 0, 0 }, .length = 2971075 },
+};
+
+/* Requests over the cap. */
+const struct request over[OVER] = {
+    { .kind = 4, .orders = { 1, 1, 0, 2, 1, 1, 0, 0, 4, 0, 2, 2 } }, /* 1,048,576 histories */
+    { .kind = 4, .orders = { 3, 0, 0, 3, 1, 0, 3, 0, 0, 2, 1, 0 } }, /* measuring goes through the most states */
+    { .kind = 4, .orders = { 6, 0, 0, 6, 0, 0, 6, 0, 0, 6, 0, 0 } }, /* the most histories, 905,995,238,216 */
+    { .kind = 4, .orders = { 2, 2, 2, 2, 2, 2, 2, 2, 2, 2, 2, 2 } },
+};
+
+/* Requests whose rolls are known: small ones, longer ones, and large ones of each kind. */
+enum { SMALL = 400, LONGER = 60, NAMED = 7, LARGE = 2, MOST_SMALL = 1500, MOST_LONGER = 45000, MOST_NAMED = 900000 };
 static struct request requests[SMALL + LONGER + NAMED];
 static const struct request named[NAMED] = {
-    { .kind = 4, .orders = { 0, 0, 3, 1, 1, 1, 0, 0, 2, 0, 1, 2 } }, /* the most terms, 65,534 */
-    { .kind = 4, .orders = { 1, 0, 3, 0, 1, 0, 4, 0, 0, 1, 1, 1 } }, /* the longest roll, 850,272 bytes */
-    { .kind = 0, .orders = { 4, 0, 0, 4, 0, 0 } },
-    { .kind = 1, .orders = { 4, 0, 0, 4, 0, 0 } },
+    { .kind = 4, .orders = { 0, 0, 3, 1, 1, 1, 0, 0, 2, 0, 1, 2 } }, /* 65,534 terms */
+    { .kind = 4, .orders = { 1, 0, 3, 0, 1, 0, 4, 0, 0, 1, 1, 1 } }, /* 850,272 bytes */
+    { .kind = 0, .orders = { 6, 0, 0, 6, 0, 0 } },
+    { .kind = 1, .orders = { 6, 0, 0, 6, 0, 0 } },
     { .kind = 2, .orders = { 4, 0, 0, 4, 0, 0 } },
     { .kind = 3, .orders = { 4, 0, 0, 4, 0, 0, 4, 0, 0 } },
     { .kind = 4, .orders = { 1, 0, 0, 1, 0, 0, 1, 0, 0, 1, 0, 0 } },
 };
 
-static void centre_orders(uint8_t *orders, uint64_t most)
+/* Orders of a sum from least to most. */
+static void centre_orders(uint8_t *orders, uint64_t least, uint64_t most)
 {
-    uint64_t left = below(most + 1), axis = below(3);
+    uint64_t left = least + below(most - least + 1), axis = below(3);
     memset(orders, 0, 3);
     orders[axis] = (uint8_t)left;
     if (once_in(3))
@@ -57,26 +74,26 @@ static void centre_orders(uint8_t *orders, uint64_t most)
     orders[(axis + 1) % 3] = (uint8_t)(left - orders[axis]);
 }
 
-static void legal_request(struct request *request, uint64_t most)
+/* Of any kind; the order sums of a Coulomb request are from least to most. */
+static void legal_request(struct request *request, uint64_t least, uint64_t most)
 {
     memset(request, 0, sizeof *request);
     request->kind = (uint8_t)below(5);
     for (int i = 0; i < orders_used[request->kind]; i += 3)
-        centre_orders(request->orders + i, request->kind == 4 ? most : 4);
+        centre_orders(request->orders + i, least, request->kind == 4 ? most : XEW_MOST_ORDER);
 }
 
-/* Expands a request for the list; false where its roll is not wanted. */
+/* Expands a request for the list; false where its roll has more bytes. */
 static bool keep(struct request *request, size_t most)
 {
-    static uint8_t out[MOST_BYTES];
-    xew_written written = xew_expand(request->kind, &request->orders, out, sizeof out, 0);
-    if (written.refusal || written.length > most)
+    static uint8_t out[MOST_NAMED];
+    xew_written written = xew_expand(request->kind, &request->orders, out, most, 0);
+    if (written.refusal)
         return false;
     uint8_t *roll = malloc(written.length);
     if (!roll)
         abort();
     memcpy(roll, out, written.length);
-    request->terms = written.terms;
     request->length = written.length;
     request->roll = roll;
     return true;
@@ -89,42 +106,37 @@ void make_requests(void)
     call.labels = "";
     for (int tries = 0; next < requests + SMALL + LONGER; tries++) {
         bool small = next < requests + SMALL;
-        legal_request(next, small ? 1 + below(2) : 3);
+        legal_request(next, 0, small ? 1 + below(2) : 3);
         next += keep(next, small ? MOST_SMALL : MOST_LONGER);
         if (tries == 20000)
             fail("xew_expand: too many refusals of legal requests");
     }
     for (int i = 0; i < NAMED; i++) {
         *next = named[i];
-        if (!keep(next++, MOST_BYTES))
+        if (!keep(next++, MOST_NAMED))
             fail("xew_expand: a request within the cap is refused");
     }
 }
 
-const struct request *largest_request(void)
-{
-    return &requests[SMALL + LONGER + below(LARGEST)];
-}
-
 const struct request *known_request(void)
 {
+    const struct request *large = requests + SMALL + LONGER;
     if (once_in(2000))
-        return largest_request();
+        return &large[below(LARGE)];
     if (once_in(60))
         return &requests[SMALL + below(LONGER)];
-    return once_in(20) ? &requests[SMALL + LONGER + LARGEST + below(NAMED - LARGEST)] : &requests[below(SMALL)];
+    return once_in(20) ? &large[LARGE + below(NAMED - LARGE)] : &requests[below(SMALL)];
 }
 
 void any_request(struct request *request)
 {
-    legal_request(request, once_in(100) ? 4 : 1 + below(2));
-    if (once_in(200)) {
-        *request = named[0];
-        for (int i = 0; i < XEW_ORDERS; i++)
-            request->orders[i] = i % 3 ? 0 : 4; /* Coulomb x4,x4,x4,x4 */
-    }
+    static const uint8_t orders[] = { 1, 2, 5, 6, 7, 9, 127, 128, 255 };
+    if (once_in(200))
+        legal_request(request, 3, 4); /* Coulomb: about the cap */
+    else
+        legal_request(request, 0, once_in(200) ? XEW_MOST_ORDER : 1 + below(2));
     if (once_in(12))
-        request->orders[below(XEW_ORDERS)] = (uint8_t[]){ 1, 2, 4, 5, 9, 127, 128, 255 }[below(8)];
+        request->orders[below(XEW_ORDERS)] = ONE_OF(orders);
     if (once_in(40))
         for (int i = 0; i < XEW_ORDERS; i++)
             request->orders[i] = (uint8_t)bits();
@@ -157,9 +169,11 @@ static size_t put(uint8_t *out, uint64_t number)
 /* A legal roll that no expansion gives; if it need not be good, with numbers beyond their limits now and then. */
 static size_t made_up(uint8_t *out, bool good)
 {
-    static const uint32_t scales[] = { 1, 2, 127, 128, 16383, 16384, 65535, 65536, 65537, 0 };
+    static const uint32_t scales[] = { 1, 2, 127, 128, 16383, 16384, 65536, 65537, 2097151, 2097152, 268435455,
+                                       268435456, XEW_MOST_SCALE - 1, XEW_MOST_SCALE, XEW_MOST_SCALE + 1, UINT32_MAX, 0 };
+    static const uint32_t counts[] = { 0, 1, 65535, 65536, XEW_MOST_TERMS, XEW_MOST_TERMS + 1, UINT32_MAX };
     struct request request;
-    legal_request(&request, 4);
+    legal_request(&request, once_in(8) ? XEW_MOST_ORDER : 0, XEW_MOST_ORDER);
     uint8_t kind = request.kind;
     uint64_t l = 0, count = below(once_in(20) ? 300 : 8);
     bool has_boys = kind == 2 || kind == 4;
@@ -169,16 +183,25 @@ static size_t made_up(uint8_t *out, bool good)
         at += put(out + at, request.orders[i]);
         l += request.orders[i];
     }
-    at += put(out + at, count);
+    at += put(out + at, !good && once_in(4) ? ONE_OF(counts) : count);
     for (uint64_t term = 0; term < count; term++) {
         uint64_t odd = !good && once_in(8), most = l + (kind == 1);
         uint64_t factors = once_in(3) ? most + odd : below(most + 1);
-        at += put(out + at, good ? scales[below(8)] : ONE_OF(scales));
+        at += put(out + at, good ? scales[below(14)] : ONE_OF(scales));
         at += put(out + at, has_boys ? below(l + 1 + odd) : odd);
         at += put(out + at, factors);
         for (uint64_t i = 0; i < factors; i++)
             at += put(out + at, below(table_size[kind] + odd));
     }
+    return at;
+}
+
+size_t most_terms_roll(uint8_t *out, uint32_t terms)
+{
+    memset(out, 0, 7);
+    size_t at = 7 + put(out + 7, terms);
+    for (uint32_t term = 0; term < terms; term++, at += 3)
+        memcpy(out + at, (uint8_t[]){ 1, 0, 0 }, 3);
     return at;
 }
 
@@ -193,7 +216,7 @@ static size_t noise(uint8_t *out)
 
 static size_t mutated(uint8_t *out, size_t length)
 {
-    static const uint8_t bytes[] = { 0, 1, 4, 5, 8, 22, 23, 127, 128, 129, 255 };
+    static const uint8_t bytes[] = { 0, 1, 4, 5, 6, 7, 8, 22, 23, 24, 25, 127, 128, 129, 255 };
     size_t at = length ? below(once_in(2) && length > 30 ? 30 : length) : 0;
     size_t more = 1 + below(5);
     switch (length ? below(8) : 5) {
@@ -256,8 +279,8 @@ size_t good_roll(uint8_t *out, size_t most)
 
 xew_cursor any_cursor(xew_cursor cursor, size_t length)
 {
-    static const uint8_t ls[] = { 0, 1, 7, 8, 9, 11, 12, 13, 15, 16, 17, 128, 255 };
-    static const uint32_t lefts[] = { 0, 1, 2, 65535, 65536, UINT32_MAX };
+    static const uint8_t ls[] = { 0, 1, 8, 11, 12, 13, 16, 17, 18, 19, 23, 24, 25, 128, 255 };
+    static const uint32_t lefts[] = { 0, 1, 2, 65535, 65536, XEW_MOST_TERMS, XEW_MOST_TERMS + 1, UINT32_MAX };
     const size_t places[] = { length, length + 1, length + 2, SIZE_MAX, SIZE_MAX - 1, (size_t)1 << 63,
                               (size_t)1 << 32 };
     if (once_in(3))

@@ -149,59 +149,84 @@ void try_cuts(const uint8_t *bytes, size_t length)
     }
 }
 
-void try_expand(const struct request *request, size_t length, size_t start)
+/* The size of a request's roll: its terms are the histories counted apart from the library. */
+static xew_written try_measure(const struct request *request)
+{
+    struct slice orders = lend_copy(&orders_arena, "orders", request->orders, XEW_ORDERS, 1);
+    uint8_t kind = request->kind, refusal = expected_request(kind, request->orders);
+    uint64_t histories = refusal ? 0 : expected_terms(kind, request->orders), terms = histories;
+    if (histories > XEW_MOST_TERMS) {
+        refusal = 4;
+        terms = 0;
+    }
+    xew_written first = { 0 };
+    for (int again = 0; again < 2; again++) {
+        BEGIN(MEASURE, "kind", kind);
+        with_slice(&orders);
+        xew_written size = xew_measure(kind, orders.lent);
+        count(MEASURE, size.refusal, again);
+        hold(size.refusal == refusal && size.terms == terms, "xew_measure: another answer than the documents'");
+        if (refusal)
+            hold(size.length == 0, "xew_measure: a number beside a refusal");
+        else
+            hold(size.length <= longest_roll[kind], "xew_measure: longer than the longest");
+        hold(!again || same_written(first, size), "xew_measure: two answers");
+        first = size;
+    }
+    if (refusal == 4)
+        count_histories(histories);
+    return first;
+}
+
+/* An expansion, after its measuring, which it is held to. Answers the roll, lent again for reading. */
+struct slice try_expand(const struct request *request, size_t length, size_t start)
 {
     static uint8_t first_roll[MOST_BYTES];
     struct slice orders = lend_copy(&orders_arena, "orders", request->orders, XEW_ORDERS, 1);
     struct slice out = lend(&out_arena, "out", length, 1);
-    uint8_t kind = request->kind, expected = expected_request(kind, request->orders);
+    uint8_t kind = request->kind, refusal = expected_request(kind, request->orders), byte = (uint8_t)bits();
     size_t room = start <= length ? length - start : 0;
-    int l = 0;
-    for (int i = 0; i < XEW_ORDERS; i++)
-        l += request->orders[i];
-    if (!expected && start > length)
-        expected = 5;
-    if (!expected && kind == 4 && l > 12)
-        expected = 4;
-    if (!expected && request->roll && request->length > room)
-        expected = 6;
-    xew_written first = { 0 };
+    fill(&out, byte);
+    xew_written expected = try_measure(request);
+    hold(untouched(&out, byte, 0, 0), "xew_measure: a byte changed");
+    if (!refusal && start > length)
+        refusal = 5;
+    if (!refusal)
+        refusal = expected.refusal;
+    if (!refusal && expected.length > room)
+        refusal = 6;
+    if (refusal)
+        expected = (xew_written){ 0, 0, refusal };
     maybe_null(&out, EXPAND_OUT);
     for (int again = 0; again < 2; again++) {
-        uint8_t byte = (uint8_t)bits();
+        byte = (uint8_t)bits();
         fill(&out, byte);
         BEGIN(EXPAND, "kind out_len start", kind, length, start);
         with_slice(&orders);
         with_slice(&out);
         xew_written w = xew_expand(kind, orders.lent, out.lent, length, start);
         count(EXPAND, w.refusal, again);
-        if (expected || request->roll)
-            hold(w.refusal == expected, "xew_expand: another refusal");
-        hold(w.refusal != 4 || (kind == 4 && l > 10), "xew_expand: 4 of a request within the cap");
-        hold(w.refusal != 6 || room < longest_roll[kind], "xew_expand: 6 where there is room");
-        hold(!again || same_written(first, w), "xew_expand: two answers");
-        first = w;
-        if (w.refusal) {
-            hold(w.length == 0 && w.terms == 0, "xew_expand: a number beside a refusal");
-            hold(untouched(&out, byte, 0, 0), "xew_expand: a byte changed beside a refusal");
+        hold(same_written(w, expected), "xew_expand: another answer than the documents' and xew_measure's");
+        hold(untouched(&out, byte, refusal ? 0 : start, refusal ? 0 : start + w.length),
+             "xew_expand: a byte changed beside the roll or a refusal");
+        if (refusal)
             continue;
-        }
-        hold(w.length <= room, "xew_expand: a length beyond the buffer");
-        hold(untouched(&out, byte, start, start + w.length), "xew_expand: a byte changed beside the roll");
         const uint8_t *roll = (uint8_t *)out.mine + start;
         hold(!again || memcmp(first_roll, roll, w.length) == 0, "xew_expand: two rolls");
         memcpy(first_roll, roll, w.length);
+        if (request->length > 0)
+            hold(w.length == request->length, "xew_expand: another length than is known");
         if (request->roll)
-            hold(w.length == request->length && w.terms == request->terms && !memcmp(roll, request->roll, w.length),
-                 "xew_expand: another roll than before");
+            hold(!memcmp(roll, request->roll, w.length), "xew_expand: another roll than before");
     }
-    if (first.refusal)
-        return;
-    count_roll(first);
-    struct slice roll = lend_copy(&roll_arena, "roll", first_roll, first.length, 1);
+    struct slice roll = lend_copy(&roll_arena, "roll", first_roll, expected.length, 1);
+    if (refusal)
+        return roll;
+    count_roll(expected);
     xew_opened checked = try_check(roll);
-    hold(!checked.refusal && checked.cursor.kind == kind && checked.cursor.l == l && checked.cursor.left == first.terms
+    hold(!checked.refusal && checked.cursor.kind == kind && checked.cursor.left == expected.terms
              && !memcmp(checked.orders, request->orders, XEW_ORDERS), "xew_expand: its roll does not read back");
     step_through(roll, checked, checked);
+    return roll;
 }
 

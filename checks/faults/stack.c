@@ -1,5 +1,7 @@
 /* stack [STEP]: how many bytes of stack the deepest calls of each exported function take. The calls run on a stack of
- * their own, painted before; the lowest byte that changed tells. Every STEP-th Coulomb request is expanded (97). */
+ * their own, painted before; the lowest byte that changed tells. Every request of overlap is expanded, every 7th of
+ * kinetic, 97th of nuclear, 9,973rd of moment and STEP-th of Coulomb (99,991), the one with the most terms of each kind,
+ * and of Coulomb one that goes through branch 7 alone as often as the cap lets it, and one with the most orders. */
 #define _GNU_SOURCE
 #include "../../include/xewumbal.h"
 #include <stdio.h>
@@ -7,14 +9,17 @@
 #include <string.h>
 #include <ucontext.h>
 
-enum { SIZE = 1 << 20, MOST_BYTES = 1048576, TRIPLES = 35 };
+enum { SIZE = 1 << 20, MOST_BYTES = 16777216 };
+enum { TRIPLES = (XEW_MOST_ORDER + 1) * (XEW_MOST_ORDER + 2) * (XEW_MOST_ORDER + 3) / 6 }; /* of a centre */
 
 static const uint8_t centres[XEW_KINDS] = { 2, 2, 2, 3, 4 };
 /* The most terms of each kind within the cap. */
 static const uint8_t most_terms[XEW_KINDS][XEW_ORDERS] = {
-    { 4, 0, 0, 4 }, { 4, 0, 0, 4 }, { 4, 0, 0, 4 }, { 4, 0, 0, 4, 0, 0, 4 }, { 0, 0, 3, 1, 1, 1, 0, 0, 2, 0, 1, 2 },
+    { 6, 0, 0, 6 }, { 6, 0, 0, 6 }, { 6, 0, 0, 6 }, { 6, 0, 0, 6, 0, 0, 6 }, { 2, 1, 0, 2, 0, 2, 1, 3, 0, 1, 0, 2 },
 };
-static uint8_t rolls[XEW_KINDS][MOST_BYTES], out[MOST_BYTES];
+static const uint8_t deepest[XEW_ORDERS] = { 2, 0, 0, 3, 1, 1, 4, 1, 1, 1, 0, 0 };
+static const uint8_t most_orders[XEW_ORDERS] = { 6, 0, 0, 6, 0, 0, 6, 0, 0, 6, 0, 0 };
+static uint8_t *rolls[XEW_KINDS], out[MOST_BYTES];
 static xew_opened opened[XEW_KINDS];
 static size_t lengths[XEW_KINDS];
 static uint8_t triples[TRIPLES][3];
@@ -23,7 +28,7 @@ static const xew_centre a = { 0, 0, 0, 1 }, b = { 1, 0, 0, 2 }, c = { 0, 1, 0, 3
 
 static _Alignas(64) uint8_t stack[SIZE];
 static uint8_t *top, kind;
-static uint32_t step = 97;
+static uint32_t steps[XEW_KINDS] = { 1, 7, 97, 9973, 99991 };
 static unsigned answered, refused;
 static void (*function)(void);
 static ucontext_t here, there;
@@ -34,9 +39,13 @@ static void note(uint8_t refusal)
     refused += refusal != 0;
 }
 
+/* These functions call the library themselves; what is above their frame is not counted. All calls of one row come from
+ * the same height. */
+#define CALLER __attribute__((noinline)) static
+#define FROM_HERE (top = __builtin_frame_address(0))
+
 static void enter(void)
 {
-    top = __builtin_frame_address(0);
     function();
 }
 
@@ -61,119 +70,166 @@ static size_t measured(void (*calls)(void), uint8_t paint)
     return (size_t)(top - low);
 }
 
-/* Every request of kinds 0 to 3; some of Coulomb, of which many are refused 4. */
-static void expand(void)
+/* One in steps of the requests of a kind, and the one with the most terms; of Coulomb most are refused 4. */
+static void each_request(xew_written (*called)(const uint8_t (*orders)[12]))
 {
     uint32_t count = 1;
     for (int i = 0; i < centres[kind]; i++)
         count *= TRIPLES;
-    for (uint32_t number = 0; number < count; number += kind == 4 ? step : 1) {
+    for (uint32_t number = 0; number < count; number += steps[kind]) {
         uint8_t orders[XEW_ORDERS] = { 0 };
         uint32_t rest = number;
         for (int i = 0; i < centres[kind]; i++, rest /= TRIPLES)
             memcpy(orders + 3 * i, triples[rest % TRIPLES], 3);
-        note(xew_expand(kind, &orders, out, sizeof out, 0).refusal);
+        note(called(&orders).refusal);
     }
+    note(called(&most_terms[kind]).refusal);
 }
 
-static void expand_most_terms(void)
+CALLER xew_written expand_one(const uint8_t (*orders)[12])
 {
-    note(xew_expand(4, &most_terms[4], out, sizeof out, 0).refusal);
+    FROM_HERE;
+    return xew_expand(kind, orders, out, sizeof out, 0);
+}
+
+CALLER xew_written measure_one(const uint8_t (*orders)[12])
+{
+    FROM_HERE;
+    return xew_measure(kind, orders);
+}
+
+static void expand(void)
+{
+    each_request(expand_one);
+}
+
+static void measure(void)
+{
+    each_request(measure_one);
+}
+
+static void expand_deepest(void)
+{
+    note(expand_one(&deepest).refusal);
 }
 
 static void expand_most_orders(void)
 {
-    static const uint8_t orders[XEW_ORDERS] = { 4, 0, 0, 4, 0, 0, 4, 0, 0, 4, 0, 0 };
-    note(xew_expand(4, &orders, out, sizeof out, 0).refusal);
+    note(expand_one(&most_orders).refusal);
 }
 
-static void shell_list(void)
+static void measure_most_orders(void)
 {
-    note(xew_shell_list(4, out, sizeof out, 0).refusal);
+    note(measure_one(&most_orders).refusal);
 }
 
-static void shell2(void)
+CALLER void shell_list(void)
 {
-    note(xew_shell2(4, 4, 224).refusal);
+    FROM_HERE;
+    note(xew_shell_list(XEW_MOST_ORDER, out, sizeof out, 0).refusal);
 }
 
-static void shell4(void)
+CALLER void shell2(void)
 {
-    note(xew_shell4(4, 4, 4, 4, 50624).refusal);
+    FROM_HERE;
+    note(xew_shell2(XEW_MOST_ORDER, XEW_MOST_ORDER, 783).refusal);
 }
 
-static void open_rolls(void)
+CALLER void shell4(void)
 {
+    FROM_HERE;
+    note(xew_shell4(XEW_MOST_ORDER, XEW_MOST_ORDER, XEW_MOST_ORDER, XEW_MOST_ORDER, 614655).refusal);
+}
+
+CALLER void open_rolls(void)
+{
+    FROM_HERE;
     for (int k = 0; k < XEW_KINDS; k++)
         note(xew_open(rolls[k], lengths[k]).refusal);
 }
 
-static void check(void)
+CALLER void check(void)
 {
+    FROM_HERE;
     for (int k = 0; k < XEW_KINDS; k++)
         note(xew_check(rolls[k], lengths[k]).refusal);
 }
 
-static void next(void)
+CALLER void next(void)
 {
+    FROM_HERE;
     for (int k = 0; k < XEW_KINDS; k++)
         note(xew_next(opened[k].cursor, rolls[k], lengths[k]).refusal);
 }
 
-static void prefactors(void)
+CALLER void prefactors(void)
 {
+    FROM_HERE;
     for (uint8_t k = 0; k < XEW_KINDS; k++)
         note(xew_prefactors(k, a, b, c, d).refusal);
 }
 
-static void evaluate(void)
+CALLER void evaluate(void)
 {
+    FROM_HERE;
     for (int k = 0; k < XEW_KINDS; k++) {
         size_t boys = k == 2 || k == 4 ? opened[k].cursor.l + 1u : 0;
         note(xew_evaluate(rolls[k], lengths[k], a, b, c, d, 1, floats, boys).refusal);
     }
 }
 
-static void jk(void)
+CALLER void jk(void)
 {
+    FROM_HERE;
     note(xew_jk(16, floats, 65536, matrices[0], 256, matrices[1], 256, matrices[2], 256));
 }
 
-static size_t deepest;
+static size_t most;
 
 static void row(const char *name, void (*calls)(void))
 {
     size_t bytes = measured(calls, 0xa5), other = measured(calls, 0x5a);
     bytes = other > bytes ? other : bytes; /* the lowest byte may have had the colour of the paint */
-    deepest = bytes > deepest ? bytes : deepest;
+    most = bytes > most ? bytes : most;
     printf("  %-44s %6zu  (%u answered, %u refused)\n", name, bytes, answered, refused);
+}
+
+static void row_of_kind(const char *call, uint8_t k, void (*calls)(void))
+{
+    char name[64];
+    kind = k;
+    snprintf(name, sizeof name, "%s, kind %d, 1 in %u requests", call, k, steps[k]);
+    row(name, calls);
 }
 
 int main(int words, char **word)
 {
     int count = 0;
-    step = words > 1 ? (uint32_t)strtoul(word[1], NULL, 10) : step;
-    if (words > 2 || step == 0) {
+    steps[4] = words > 1 ? (uint32_t)strtoul(word[1], NULL, 10) : steps[4];
+    if (words > 2 || steps[4] == 0) {
         fprintf(stderr, "usage: stack [STEP]\n");
         return 2;
     }
-    for (int m = 0; m <= 4; m++)
+    for (int m = 0; m <= XEW_MOST_ORDER; m++)
         for (int x = m; x >= 0; x--)
             for (int y = m - x; y >= 0; y--)
                 memcpy(triples[count++], (uint8_t[]){ (uint8_t)x, (uint8_t)y, (uint8_t)(m - x - y) }, 3);
     for (uint8_t k = 0; k < XEW_KINDS; k++) {
-        lengths[k] = xew_expand(k, &most_terms[k], rolls[k], MOST_BYTES, 0).length;
+        lengths[k] = xew_measure(k, &most_terms[k]).length;
+        rolls[k] = malloc(lengths[k]);
+        if (!rolls[k] || xew_expand(k, &most_terms[k], rolls[k], lengths[k], 0).refusal)
+            abort();
         opened[k] = xew_open(rolls[k], lengths[k]);
     }
     printf("bytes of stack below the caller's frame\n");
-    for (kind = 0; kind < XEW_KINDS; kind++) {
-        char name[64];
-        snprintf(name, sizeof name, "xew_expand, kind %d, 1 in %u requests", kind, kind == 4 ? step : 1);
-        row(name, expand);
-    }
-    row("xew_expand, Coulomb with 65,534 terms", expand_most_terms);
-    row("xew_expand, Coulomb x4,x4,x4,x4", expand_most_orders);
-    row("xew_shell_list, order 4", shell_list);
+    for (uint8_t k = 0; k < XEW_KINDS; k++)
+        row_of_kind("xew_expand", k, expand);
+    row("xew_expand, Coulomb, the deepest", expand_deepest);
+    row("xew_expand, Coulomb x6,x6,x6,x6", expand_most_orders);
+    for (uint8_t k = 0; k < XEW_KINDS; k++)
+        row_of_kind("xew_measure", k, measure);
+    row("xew_measure, Coulomb x6,x6,x6,x6", measure_most_orders);
+    row("xew_shell_list, order 6", shell_list);
     row("xew_shell2, the last component", shell2);
     row("xew_shell4, the last component", shell4);
     row("xew_open, the most terms of each kind", open_rolls);
@@ -182,6 +238,6 @@ int main(int words, char **word)
     row("xew_prefactors, each kind", prefactors);
     row("xew_evaluate, the most terms of each kind", evaluate);
     row("xew_jk, size 16", jk);
-    printf("  %-44s %6zu\n", "the deepest", deepest);
+    printf("  %-44s %6zu\n", "the deepest", most);
     return 0;
 }

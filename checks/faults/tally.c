@@ -10,6 +10,7 @@ static const struct {
     uint8_t refusals[7];
 } functions[FUNCTIONS] = {
     [EXPAND] = { "xew_expand", { 1, 2, 3, 5, 4, 6 } },
+    [MEASURE] = { "xew_measure", { 1, 2, 3, 4 } },
     [SHELL_LIST] = { "xew_shell_list", { 2, 5, 6 } },
     [SHELL2] = { "xew_shell2", { 2, 13 } },
     [SHELL4] = { "xew_shell4", { 2, 13 } },
@@ -38,9 +39,18 @@ static const struct {
     [JK_K] = { JK, "k" },
 };
 
+/* Rolls that have to come up, by their lengths. */
+static const struct {
+    const char *label;
+    size_t length;
+} large[] = {
+    { "895 terms", 10458 },       { "10,265 terms", 127541 },      { "380,480 terms", 4665226 },
+    { "185,377 terms", 2971075 }, { "1,048,572 terms", 14908072 }, { "15,001,920 bytes", 15001920 },
+};
+enum { REFUSALS = 15, LARGE = sizeof large / sizeof *large }; /* no refusal, and 1 to 14 */
+
 uint64_t further_calls;
-enum { REFUSALS = 15 }; /* none, and 1 to 14 */
-static uint64_t answers[FUNCTIONS][REFUSALS], found[3], most_terms, most_bytes, empties[EMPTIES];
+static uint64_t answers[FUNCTIONS][REFUSALS], found[3], rolls[LARGE], just_over, most_histories, empties[EMPTIES];
 
 void begin(enum function f, const char *labels, size_t words_count, const uint64_t *words)
 {
@@ -87,8 +97,14 @@ void count_found(uint8_t which)
 
 void count_roll(xew_written written)
 {
-    most_terms += written.terms == 65534;
-    most_bytes += written.length == 850272;
+    for (int i = 0; i < LARGE; i++)
+        rolls[i] += written.length == large[i].length;
+}
+
+void count_histories(uint64_t histories)
+{
+    just_over += histories == XEW_MOST_TERMS + 1;
+    most_histories += histories == 905995238216;
 }
 
 void maybe_null(struct slice *slice, enum empty which)
@@ -125,9 +141,11 @@ bool report(void)
         const char *name = functions[f].name;
         printf("%s", name);
         show(name, "answered", answers[f][0]);
-        if (f == EXPAND) {
-            show(name, "65,534 terms", most_terms);
-            show(name, "850,272 bytes", most_bytes);
+        for (int i = 0; f == EXPAND && i < LARGE; i++)
+            show(name, large[i].label, rolls[i]);
+        if (f == MEASURE) {
+            show(name, "1,048,576 histories", just_over);
+            show(name, "905,995,238,216 histories", most_histories);
         }
         if (f == NEXT) {
             show(name, "term", found[1]);

@@ -4,7 +4,7 @@
 
 #include "faults.h"
 
-enum function { EXPAND, SHELL_LIST, SHELL2, SHELL4, OPEN, CHECK, NEXT, PREFACTORS, EVALUATE, JK, FUNCTIONS };
+enum function { EXPAND, MEASURE, SHELL_LIST, SHELL2, SHELL4, OPEN, CHECK, NEXT, PREFACTORS, EVALUATE, JK, FUNCTIONS };
 
 /* Slices that may be of length 0 and null. */
 enum empty {
@@ -25,6 +25,7 @@ void hold(bool good, const char *what);
 void count(enum function f, uint8_t refusal, int again); /* again: 1 for the second call with the same arguments */
 void count_found(uint8_t found);
 void count_roll(xew_written written);
+void count_histories(uint64_t histories); /* of a request over the cap */
 void maybe_null(struct slice *slice, enum empty which); /* where the length is 0, half of the time */
 bool same_written(xew_written a, xew_written b);
 bool report(void); /* false where something that should come up did not */
@@ -37,6 +38,6 @@ void try_next(struct slice roll, xew_cursor cursor);
 xew_cursor step_through(struct slice roll, xew_opened opened, xew_opened checked);
 void try_evaluate(struct slice roll, xew_opened checked);
 void try_cuts(const uint8_t *bytes, size_t length); /* of a roll that reads */
-void try_expand(const struct request *request, size_t length, size_t start);
+struct slice try_expand(const struct request *request, size_t length, size_t start);
 
 #endif

@@ -49,12 +49,33 @@ xew_opened __wrap_xew_check(const uint8_t *roll, size_t roll_len)
     return opened;
 }
 
+static uint8_t *lent_before; /* to an expansion */
+
+xew_written __real_xew_measure(uint8_t kind, const uint8_t (*orders)[12]);
+xew_written __wrap_xew_measure(uint8_t kind, const uint8_t (*orders)[12])
+{
+    if (is("measures-a-thirteenth-order"))
+        seen = (*(const volatile uint8_t (*)[13])orders)[12];
+    if (is("measures-and-writes-the-orders"))
+        *(volatile uint8_t *)*orders = (*orders)[0];
+    if (is("measures-and-writes-as-before") && lent_before) {
+        *lent_before ^= 1;
+        lent_before = NULL;
+    }
+    xew_written size = __real_xew_measure(kind, orders);
+    if (is("measures-a-byte-too-few") && !size.refusal)
+        size.length--;
+    if (is("measures-beyond-the-cap") && size.refusal == 4)
+        size = (xew_written){ 16777216, 1048576, 0 };
+    return size;
+}
+
 xew_written __real_xew_expand(uint8_t kind, const uint8_t (*orders)[12], uint8_t *out, size_t out_len, size_t start);
 xew_written __wrap_xew_expand(uint8_t kind, const uint8_t (*orders)[12], uint8_t *out, size_t out_len, size_t start)
 {
-    static int calls; /* the first ones make the requests whose rolls are known */
-    if (is("refuses-where-there-is-room") && ++calls > 5000 && out_len >= 1048576 && start == 0)
-        out_len = 0;
+    if (is("refuses-where-there-is-room") && __real_xew_measure(kind, orders).length == out_len - start)
+        out_len = start = 0;
+    lent_before = start < out_len ? out + start : NULL;
     xew_written written = __real_xew_expand(kind, orders, out, out_len, start);
     if (is("writes-beside-a-refusal") && written.refusal && out_len > 0)
         out[out_len - 1] ^= 1;
