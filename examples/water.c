@@ -99,12 +99,15 @@ static double primitive(int kind, const uint8_t *roll, size_t length, const xew_
 /* One integral over basis functions: its roll is made once and summed for every choice of primitives. */
 static double integral(int kind, const int *f, int count)
 {
-    static uint8_t roll[1048576];
     uint8_t orders[XEW_ORDERS] = {0};
     int l = 0, choices = 1;
     for (int i = 0; i < count; i++, choices *= PRIMITIVES)
         if (basis[f[i]].axis >= 0) orders[3 * i + basis[f[i]].axis] = 1, l++;
-    xew_written written = xew_expand(kind, &orders, roll, sizeof roll, 0);
+    xew_written size = xew_measure(kind, &orders); /* what the roll takes is lent, and no more */
+    accept(size.refusal, 0);
+    uint8_t *roll = malloc(size.length);
+    if (roll == NULL) perror("water"), exit(1);
+    xew_written written = xew_expand(kind, &orders, roll, size.length, 0);
     accept(written.refusal, 0);
     xew_opened judged = xew_check(roll, written.length); /* as for a roll that was stored */
     accept(judged.refusal, judged.place);
@@ -123,6 +126,7 @@ static double integral(int kind, const int *f, int count)
             sum += factor * (kind == NUCLEAR ? charges[a] : 1) * primitive(kind, roll, written.length, c, l);
         }
     }
+    free(roll);
     return sum;
 }
 

@@ -88,10 +88,14 @@ fn primitive(kind: u8, roll: &[u8], c: [Centre; 4], l: usize) -> Result<f64, Ref
 }
 
 /// One integral over basis functions. Its roll is made once, judged as a stored one, and summed for all primitives.
-fn integral(kind: u8, functions: &[&Function], room: &mut [u8]) -> Result<f64, Refusal> {
+fn integral(kind: u8, functions: &[&Function]) -> Result<f64, Refusal> {
     let mut orders = [0; ORDERS];
     functions.iter().zip(orders.chunks_mut(3)).for_each(|(f, three)| three.copy_from_slice(&f.orders));
-    let roll = match expand(kind, &orders, room, 0) {
+    let mut room = match measure(kind, &orders) {
+        Expanded::Roll { length, .. } => vec![0; length], // what the roll takes is lent, and no more
+        Expanded::Refused(refusal) => return Err(refusal),
+    };
+    let roll = match expand(kind, &orders, &mut room, 0) {
         Expanded::Roll { length, .. } => &room[..length],
         Expanded::Refused(refusal) => return Err(refusal),
     };
@@ -122,14 +126,13 @@ fn integral(kind: u8, functions: &[&Function], room: &mut [u8]) -> Result<f64, R
 }
 
 fn main() {
-    let mut room = vec![0; 1 << 20];
     let mut seen = [(0, 0.0_f64, 0.0_f64); KINDS as usize]; // of each kind: values, largest, largest difference
     for line in EXPECTED.lines().filter(|line| !line.starts_with("//")) {
         let row: Vec<f64> = line.split(',').flat_map(|text| text.trim().parse()).collect();
         let (kind, should) = (row[0] as u8, row[5]);
         let used = if kind == COULOMB { 4 } else { 2 };
         let functions: Vec<&Function> = row[1..=used].iter().map(|&f| &BASIS[f as usize]).collect();
-        let ours = integral(kind, &functions, &mut room).unwrap_or_else(|refusal| {
+        let ours = integral(kind, &functions).unwrap_or_else(|refusal| {
             eprintln!("water: refused {}: {refusal} ({refusal:?})", refusal.number());
             exit(1)
         });

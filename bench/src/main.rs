@@ -24,12 +24,21 @@ use std::process::exit;
 
 /// As include/xewumbal.h has them; the structs of the binding take them.
 const ORDERS: usize = 12;
-const PREFACTORS: usize = 16;
+const PREFACTORS: usize = 24;
 const TABLE: usize = 23;
 
-fn list(requests: Vec<Request>) {
+/// Each request once for each run.
+fn list(requests: Vec<Request>, runs: fn(&Request) -> usize) {
     for request in requests {
-        println!("{}", request.line());
+        print!("{}", format!("{}\n", request.line()).repeat(runs(&request)));
+    }
+}
+
+/// Under the emulator the Rust takes seconds for a call of many terms.
+fn emulated_runs(request: &Request) -> usize {
+    match ours::measure(request).terms {
+        0..=99_999 => 3,
+        _ => 1,
     }
 }
 
@@ -49,8 +58,9 @@ fn rows() -> Result<Vec<Row>, String> {
 
 fn run(words: &[&str]) -> Result<(), String> {
     match words {
-        ["list", "picture"] => list(picture::requests()),
-        ["list", _] => list([requests::measured(), requests::refused()].concat()),
+        ["list", "picture"] => list(picture::requests(), |_| 1),
+        ["list", "emulated"] => list(requests::tabled(), emulated_runs),
+        ["list", _] => list(requests::tabled(), |_| 3),
         ["measure", time, request @ ..] => {
             let time = time.parse().map_err(|_| "no number of milliseconds")?;
             let request = Request::of_line(&request.join(" ")).ok_or("no request")?;

@@ -14,33 +14,35 @@ pub struct Row {
     pub terms: f64,
     pub bytes: f64,
     pub expansion: [f64; 2],
+    pub measuring: f64,
     pub evaluation: [f64; 2],
     pub check: f64,
     pub copy: f64,
 }
 
 /// A request that is refused: our time alone.
-fn refused(request: &Request, time: Duration) -> [f64; 8] {
+fn refused(request: &Request, time: Duration) -> [f64; 9] {
     let mut out = vec![0; ROOM];
     let call = Call::new(|| u64::from(ours::expand(request, &mut out).refusal));
     let [took] = in_turn([call], time);
-    [0.0, 0.0, 0.0, took, 0.0, 0.0, 0.0, 0.0]
+    [0.0, 0.0, 0.0, took, 0.0, 0.0, 0.0, 0.0, 0.0]
 }
 
 /// A request whose roll and value are the same on both sides.
-fn accepted(request: &Request, time: Duration) -> Result<[f64; 8], String> {
-    // A heap that has held the largest list no longer gives pages back to the system after each call of the Rust.
-    drop(rust_side::terms(&requests::largest()));
+fn accepted(request: &Request, time: Duration) -> Result<[f64; 9], String> {
+    // A heap that has held a large list no longer gives pages back to the system after each call of the Rust.
+    drop(rust_side::terms(&requests::large()));
     let roll = ours::roll(request);
     let with = Numbers::of(request);
     let terms = same::terms(request, &roll)?;
     same::value(request, &roll, &with)?;
     let mut out = vec![0; ROOM];
     let mut copied = vec![0; roll.len()];
-    let expansion = in_turn(
+    let [apply, expand, measure] = in_turn(
         [
             Call::new(|| rust_side::terms(request).len() as u64),
             Call::new(|| u64::from(ours::expand(request, &mut out).terms)),
+            Call::new(|| u64::from(ours::measure(request).terms)),
         ],
         time,
     );
@@ -56,12 +58,12 @@ fn accepted(request: &Request, time: Duration) -> Result<[f64; 8], String> {
         ],
         time,
     );
-    let [apply, expand] = expansion;
     Ok([
         f64::from(terms),
         roll.len() as f64,
         apply,
         expand,
+        measure,
         get,
         evaluate,
         check,
@@ -91,6 +93,7 @@ impl Row {
             self.expansion[side] = self.expansion[side].min(other.expansion[side]);
             self.evaluation[side] = self.evaluation[side].min(other.evaluation[side]);
         }
+        self.measuring = self.measuring.min(other.measuring);
         self.check = self.check.min(other.check);
         self.copy = self.copy.min(other.copy);
     }
@@ -98,17 +101,18 @@ impl Row {
     /// What `print` has printed.
     pub fn of_line(line: &str) -> Option<Row> {
         let words: Vec<&str> = line.split(' ').collect();
-        if words.len() != 21 {
+        if words.len() != 22 {
             return None;
         }
         let numbers: Vec<f64> = words[13..].iter().map_while(|n| n.parse().ok()).collect();
-        let [terms, bytes, apply, expand, get, evaluate, check, copy]: [f64; 8] =
+        let [terms, bytes, apply, expand, measuring, get, evaluate, check, copy]: [f64; 9] =
             numbers.try_into().ok()?;
         Some(Row {
             request: Request::of_line(&words[..13].join(" "))?,
             terms,
             bytes,
             expansion: [apply, expand],
+            measuring,
             evaluation: [get, evaluate],
             check,
             copy,

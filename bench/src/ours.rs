@@ -5,11 +5,15 @@ use crate::raw::{self, Value, Written};
 pub use crate::raw::{check, next, Step};
 use crate::requests::Request;
 
-/// Any roll fits into so many bytes.
-pub const ROOM: usize = 1 << 20;
+/// Any roll fits into so many bytes; the longest has 15,001,920.
+pub const ROOM: usize = 1 << 24;
 
 pub fn expand(request: &Request, out: &mut [u8]) -> Written {
     raw::expand(request.kind, &request.orders, out, 0)
+}
+
+pub fn measure(request: &Request) -> Written {
+    raw::measure(request.kind, &request.orders)
 }
 
 pub fn evaluate(roll: &[u8], with: &Numbers) -> Value {

@@ -1,7 +1,7 @@
 //! The picture: time of a call against the number of terms, for both sides, as SVG.
 
 use crate::measure::Row;
-use crate::ours::{self, ROOM};
+use crate::ours;
 use crate::requests::{self, Request};
 
 const OURS: &str = "#1f5fa8";
@@ -11,24 +11,23 @@ const RUST: &str = "#c0501a";
 const TOP: f64 = 70.0;
 const WIDTH: f64 = 360.0;
 const HEIGHT: f64 = 360.0;
-const MOST_TERMS: i32 = 5;
-const TIMES: (i32, i32) = (1, 9);
+const MOST_TERMS: f64 = 6.1;
+const TIMES: (i32, i32) = (1, 10);
 
 /// Requests along x by kind, and the largest, so that each has `step` times the terms of the one before.
 fn chosen(kinds: &[u8], step: f64) -> Vec<Request> {
-    let mut out = vec![0; ROOM];
     let mut all = Vec::new();
     let mut candidates = requests::measured();
     for &kind in kinds {
-        candidates.extend((0..625u16).map(|n| {
-            let x = [n / 125, n / 25 % 5, n / 5 % 5, n % 5].map(|order| order as u8);
+        candidates.extend((0..2401u16).map(|n| {
+            let x = [n / 343, n / 49 % 7, n / 7 % 7, n % 7].map(|order| order as u8);
             Request::along_x("", kind, x)
         }));
     }
     for request in candidates.into_iter().filter(|r| kinds.contains(&r.kind)) {
-        let written = ours::expand(&request, &mut out);
-        if written.refusal == 0 {
-            all.push((written.terms, request));
+        let measured = ours::measure(&request);
+        if measured.refusal == 0 {
+            all.push((measured.terms, request));
         }
     }
     all.sort_by_key(|(terms, _)| std::cmp::Reverse(*terms));
@@ -44,7 +43,7 @@ fn chosen(kinds: &[u8], step: f64) -> Vec<Request> {
 }
 
 fn x(left: f64, terms: f64) -> f64 {
-    left + WIDTH * terms.log10() / f64::from(MOST_TERMS)
+    left + WIDTH * terms.log10() / MOST_TERMS
 }
 
 fn y(nanoseconds: f64) -> f64 {
@@ -88,9 +87,9 @@ fn line(x1: f64, y1: f64, x2: f64, y2: f64) -> String {
 fn axes(left: f64, title: &str) -> String {
     let bottom = TOP + HEIGHT;
     let mut svg = String::new();
-    for power in 0..=MOST_TERMS {
-        let at = x(left, 10f64.powi(power));
-        let label = ["1", "10", "100", "1,000", "10,000", "100,000"][power as usize];
+    let labels = ["1", "10", "100", "1,000", "10,000", "100,000", "1,000,000"];
+    for (power, label) in labels.iter().enumerate() {
+        let at = x(left, 10f64.powi(power as i32));
         svg += &line(at, TOP, at, bottom);
         svg += &text(at, bottom + 18.0, "middle", label);
     }

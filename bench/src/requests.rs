@@ -31,8 +31,9 @@ impl Request {
         let numbers: Vec<u8> = line.split(' ').map_while(|n| n.parse().ok()).collect();
         let (kind, orders) = numbers.split_first()?;
         let orders = <[u8; 12]>::try_from(orders).ok()?;
-        let mut named = measured().into_iter().chain(refused());
-        let known = named.find(|r| r.kind == *kind && r.orders == orders);
+        let known = tabled()
+            .into_iter()
+            .find(|r| r.kind == *kind && r.orders == orders);
         Some(known.unwrap_or_else(|| Request::new("", *kind, orders)))
     }
 
@@ -59,37 +60,53 @@ impl Request {
 
     /// The name, with the request where the name does not say it.
     pub fn title(&self) -> String {
-        if KINDS.contains(&self.name.as_str()) {
+        if self.name.starts_with(KINDS[self.kind as usize]) {
             return self.words();
         }
         format!("{}: {}", self.name, self.words())
     }
 }
 
-/// One of the twelve requests with the most terms within the cap, 65,534.
-pub fn largest() -> Request {
-    Request::new("largest", 4, [3, 0, 0, 1, 1, 1, 2, 1, 0, 2, 0, 0])
+/// A Coulomb request of 65,534 terms.
+pub fn large() -> Request {
+    Request::new("large", 4, [3, 0, 0, 1, 1, 1, 2, 1, 0, 2, 0, 0])
 }
 
-/// The requests of the table. The longest has the most bytes within the cap.
+/// The requests of the table. `largest` is one of the twelve with the most terms within the cap, `longest` one of the
+/// twelve with the most bytes; `large` and `long` were, up to the requests of order sums of 4 and 65,535 terms.
 pub fn measured() -> Vec<Request> {
     vec![
         Request::along_x("s,s,s,s", 4, [0; 4]),
         Request::along_x("p,p,p,p", 4, [1; 4]),
         Request::along_x("d,d,d,d", 4, [2; 4]),
-        largest(),
-        Request::new("longest", 4, [0, 0, 1, 1, 3, 0, 1, 1, 1, 4, 0, 0]),
+        Request::along_x("f,f,f,f", 4, [3; 4]),
+        large(),
+        Request::new("long", 4, [0, 0, 1, 1, 3, 0, 1, 1, 1, 4, 0, 0]),
+        Request::new("largest", 4, [2, 1, 0, 2, 0, 2, 1, 3, 0, 1, 0, 2]),
+        Request::new("longest", 4, [1, 1, 0, 4, 0, 1, 1, 3, 0, 3, 0, 0]),
         Request::along_x("nuclear", 2, [4, 4, 0, 0]),
+        Request::along_x("nuclear-6", 2, [6, 6, 0, 0]),
         Request::along_x("overlap", 0, [4, 4, 0, 0]),
+        Request::along_x("overlap-6", 0, [6, 6, 0, 0]),
         Request::along_x("kinetic", 1, [4, 4, 0, 0]),
+        Request::along_x("kinetic-6", 1, [6, 6, 0, 0]),
         Request::along_x("moment", 3, [4, 4, 4, 0]),
+        Request::along_x("moment-6", 3, [6, 6, 6, 0]),
     ]
 }
 
-/// Requests over the cap: one with 65,536 histories, and the one with the most, 72,581,848.
+/// The requests of all rows.
+pub fn tabled() -> Vec<Request> {
+    [measured(), refused()].concat()
+}
+
+/// Requests over the cap: one with 1,048,576 histories, one whose measuring goes through the most states, one of order
+/// sums of 4 with 72,581,848, and the one with the most, 905,995,238,216.
 pub fn refused() -> Vec<Request> {
     vec![
-        Request::new("just-over", 4, [0, 0, 2, 0, 3, 0, 0, 2, 0, 0, 3, 1]),
-        Request::along_x("most", 4, [4; 4]),
+        Request::new("just-over", 4, [1, 1, 0, 2, 1, 1, 0, 0, 4, 0, 2, 2]),
+        Request::new("slowest", 4, [3, 0, 0, 3, 1, 0, 3, 0, 0, 2, 1, 0]),
+        Request::along_x("fours", 4, [4; 4]),
+        Request::along_x("most", 4, [6; 4]),
     ]
 }

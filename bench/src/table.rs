@@ -87,6 +87,19 @@ fn heading(columns: &str) {
     println!("{}|", "|---".repeat(columns.split(" | ").count()));
 }
 
+fn print_measuring(rows: &[&Row]) {
+    heading("measuring | terms | xew_measure, ns a call | part of xew_expand");
+    for row in rows {
+        println!(
+            "| {} | {} | {:.0} | {:.3} |",
+            row.request.title(),
+            row.terms,
+            row.measuring,
+            row.measuring / row.expansion[1]
+        );
+    }
+}
+
 /// Bytes in a nanosecond are gigabytes in a second.
 fn print_bytes(rows: &[&Row]) {
     heading("bytes | roll, bytes | written, MB a second | copied, MB a second");
@@ -106,6 +119,7 @@ pub fn print(rows: &[Row], has_goals: bool) {
     let (accepted, refused): (Vec<&Row>, Vec<&Row>) = rows.iter().partition(|row| row.terms > 0.0);
     table.print_expansion(&accepted);
     table.print_evaluation(&accepted);
+    print_measuring(&accepted);
     print_bytes(&accepted);
     let most = accepted
         .iter()

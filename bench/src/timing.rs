@@ -5,6 +5,8 @@ use std::time::{Duration, Instant};
 /// A batch is at least this long.
 const BATCH: Duration = Duration::from_millis(4);
 const ROUNDS: u32 = 8;
+/// A call that takes so many nanoseconds has one round after its first batch.
+const LONG: f64 = 3e8;
 
 /// A call that answers the same number each time; `run` makes so many.
 pub struct Call<'a> {
@@ -47,16 +49,20 @@ impl<'a> Call<'a> {
     }
 }
 
-/// Nanoseconds of each call. They are run in turn until each has had the time.
+/// Nanoseconds of each call. They are run in turn until each has had its rounds and the time.
 pub fn in_turn<const N: usize>(mut calls: [Call; N], time: Duration) -> [f64; N] {
     let mut rounds = 0;
-    while rounds < ROUNDS || calls.iter().any(|call| call.spent < time) {
+    loop {
+        let mut is_done = true;
         for call in calls.iter_mut() {
-            if rounds < ROUNDS || call.spent < time {
+            if call.spent < time || (rounds < ROUNDS && call.best < LONG) {
                 call.batch();
+                is_done = false;
             }
+        }
+        if is_done {
+            return calls.map(|call| call.best);
         }
         rounds += 1;
     }
-    calls.map(|call| call.best)
 }

@@ -35,12 +35,15 @@ fn terms(roll: &[u8]) -> Vec<(u32, u8, Vec<u8>)> {
     }
 }
 
+/// The roll of a request, in just the bytes that it measures.
 fn expanded(kind: u8, orders: [u8; ORDERS]) -> Vec<u8> {
-    let mut room = vec![0; 1 << 20];
-    match expand(kind, &orders, &mut room, 0) {
-        Expanded::Roll { length, .. } => room[..length].to_vec(),
+    let measured = measure(kind, &orders);
+    let mut room = match measured {
+        Expanded::Roll { length, .. } => vec![0; length],
         refused => panic!("{refused:?}"),
-    }
+    };
+    assert_eq!(expand(kind, &orders, &mut room, 0), measured);
+    room
 }
 
 #[test]
@@ -50,6 +53,17 @@ fn the_roll_stands_where_it_was_asked_for() {
     assert_eq!(room[..2], [UNTOUCHED; 2]);
     assert_eq!(room[2..19], ROLL);
     assert_eq!(room[19], UNTOUCHED);
+}
+
+#[test]
+fn a_roll_measured_and_not_written() {
+    let measured = Expanded::Roll { length: 17, terms: 2 };
+    assert_eq!(measure(OVERLAP, &ROLL_ORDERS), measured);
+    let mut room = [UNTOUCHED; 17];
+    assert_eq!(expand(OVERLAP, &ROLL_ORDERS, &mut room[..16], 0), Expanded::Refused(Refusal::NoRoom));
+    assert_eq!(room, [UNTOUCHED; 17]);
+    assert_eq!(expand(OVERLAP, &ROLL_ORDERS, &mut room, 0), measured);
+    assert_eq!(room, ROLL);
 }
 
 #[test]
@@ -133,6 +147,7 @@ fn shells() {
     assert_eq!(shell2(1, 1, 1), Component::Orders([1, 0, 0, 0, 1, 0, 0, 0, 0, 0, 0, 0]));
     assert_eq!(shell4(0, 1, 0, 1, 5), Component::Orders([0, 0, 0, 0, 1, 0, 0, 0, 0, 0, 0, 1]));
     assert_eq!(shell4(4, 4, 4, 4, 50624), Component::Orders([0, 0, 4, 0, 0, 4, 0, 0, 4, 0, 0, 4]));
+    assert_eq!(shell4(6, 6, 6, 6, 614655), Component::Orders([0, 0, 6, 0, 0, 6, 0, 0, 6, 0, 0, 6]));
 }
 
 #[test]
@@ -174,9 +189,9 @@ fn refusals() -> [(u8, Refusal); 14] {
     let sum = |roll, a, boys| refusal!(Value, evaluate(roll, a, UNIT, UNIT, UNIT, 1.0, boys));
     let found = [
         (1, request(5, [0; ORDERS], 0)),
-        (2, request(OVERLAP, [5, 0, 0, 0, 0, 0, 0, 0, 0, 0, 0, 0], 0)),
+        (2, request(OVERLAP, [7, 0, 0, 0, 0, 0, 0, 0, 0, 0, 0, 0], 0)),
         (3, request(OVERLAP, one_at(&[6]), 0)),
-        (4, request(COULOMB, [4, 0, 0, 4, 0, 0, 4, 0, 0, 4, 0, 0], 0)),
+        (4, request(COULOMB, [6, 0, 0, 6, 0, 0, 6, 0, 0, 6, 0, 0], 0)),
         (5, request(OVERLAP, [0; ORDERS], 11)),
         (6, request(OVERLAP, [0; ORDERS], 10)),
         (7, sum(&[5], UNIT, &[])),
@@ -206,12 +221,18 @@ fn each_refusal_comes_up_with_the_words_of_the_header() {
 #[test]
 fn the_other_ways_to_refuse() {
     let mut room = [UNTOUCHED; 18];
-    assert_eq!(shell_list(5, &mut room, 0), Listed::Refused(Refusal::OrderSum));
+    assert_eq!(shell_list(7, &mut room, 0), Listed::Refused(Refusal::OrderSum));
     assert_eq!(shell_list(2, &mut room, 19), Listed::Refused(Refusal::StartBeyondEnd));
     assert_eq!(shell_list(2, &mut room, 1), Listed::Refused(Refusal::NoRoom));
     assert_eq!(room, [UNTOUCHED; 18]);
     assert_eq!(prefactors(5, UNIT, UNIT, UNIT, UNIT), Table::Refused(Refusal::Kind));
     assert_eq!(shell4(4, 4, 4, 4, 50625), Component::Refused(Refusal::ComponentNumber));
+    assert_eq!(shell4(6, 6, 6, 6, 614656), Component::Refused(Refusal::ComponentNumber));
     assert_eq!(open(&[]), Opened::Refused(Refusal::CutRoll { place: 0 }));
     assert_eq!(expand(OVERLAP, &[0; ORDERS], &mut [], 0), Expanded::Refused(Refusal::NoRoom));
+    assert_eq!(measure(5, &[0; ORDERS]), Expanded::Refused(Refusal::Kind));
+    assert_eq!(measure(OVERLAP, &[7; ORDERS]), Expanded::Refused(Refusal::OrderSum));
+    assert_eq!(measure(OVERLAP, &one_at(&[6])), Expanded::Refused(Refusal::UnusedOrder));
+    let sixes = [6, 0, 0, 6, 0, 0, 6, 0, 0, 6, 0, 0];
+    assert_eq!(measure(COULOMB, &sixes), Expanded::Refused(Refusal::TooManyTerms));
 }

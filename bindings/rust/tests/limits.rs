@@ -61,6 +61,29 @@ fn most_terms() {
     }
 }
 
+/// The requests of 1,048,572 terms and of 1,048,576 histories are next to the cap.
+#[test]
+fn most_terms_of_a_request() {
+    let largest = [2, 1, 0, 2, 0, 2, 1, 3, 0, 1, 0, 2];
+    assert_eq!(measure(COULOMB, &largest), Expanded::Roll { length: 14908072, terms: 1048572 });
+    let just_over = [1, 1, 0, 2, 1, 1, 0, 0, 4, 0, 2, 2];
+    assert_eq!(measure(COULOMB, &just_over), Expanded::Refused(Refusal::TooManyTerms));
+}
+
+/// The longest roll that there is, in just its bytes and in one less.
+#[test]
+fn most_roll() {
+    let orders = [1, 1, 0, 4, 0, 1, 1, 3, 0, 3, 0, 0];
+    let longest = Expanded::Roll { length: 15001920, terms: 1048096 };
+    assert_eq!(measure(COULOMB, &orders), longest);
+    let mut room = vec![0; 15001920];
+    assert!(room.len() <= MOST_ROLL);
+    assert_eq!(expand(COULOMB, &orders, &mut room[1..], 0), Expanded::Refused(Refusal::NoRoom));
+    assert!(room.iter().all(|&byte| byte == 0));
+    assert_eq!(expand(COULOMB, &orders, &mut room, 0), longest);
+    assert!(matches!(check(&room), Opened::Roll { orders: read, .. } if read == orders));
+}
+
 #[test]
 fn most_scale() {
     let first = Cursor { place: 8, left: 1, kind: OVERLAP, l: 0 };
@@ -71,9 +94,9 @@ fn most_scale() {
 
 #[test]
 fn prefactors_of_a_term() {
-    let orders = [4, 0, 0, 4, 0, 0, 4, 0, 0, 4, 0, 0];
+    let orders = [MOST_ORDER, 0, 0, MOST_ORDER, 0, 0, MOST_ORDER, 0, 0, MOST_ORDER, 0, 0];
     for count in [PREFACTORS, PREFACTORS + 1] {
-        let listed: Vec<u8> = (1..=count as u8).collect();
+        let listed: Vec<u8> = (1..=count).map(|n| (n % TABLE) as u8).collect();
         let roll = [&[COULOMB], &orders[..], &[1, 1, 0, count as u8], &listed].concat();
         let cursor = match open(&roll) {
             Opened::Roll { cursor, .. } => cursor,
