@@ -9,7 +9,7 @@ use questions::least;
 // The most bytes of a roll that is given, and the bytes of the buffer that is usually lent to the library.
 pub(crate) const MOST: usize = 1048576;
 
-// The most bytes that a question can have lent to the library: more than any roll takes.
+// The most bytes that a question can have lent to the library: more than any roll takes (D-89).
 pub(crate) const LARGE: usize = 16777216;
 
 const FILL: u8 = 0xa5;

@@ -16,9 +16,9 @@ use words::Asked;
 use words::NUMBERS;
 
 // What `shell M` lends, from place 0 on: more than any list needs (D-45).
-const SHELL_LENT: usize = 256;
+const SHELL_LENT: u64 = 256;
 // Room for the longest listing: a term of three bytes takes at most fourteen letters, and each byte more at most three.
-const LISTING_LENT: usize = 5 * Kind::MOST_LISTED;
+const LISTING_LENT: u64 = 5 * Kind::MOST_LISTED as u64;
 
 enum Question {
     Echo,
@@ -73,19 +73,22 @@ fn of(shape: usize) -> Question {
 fn lends(q: Question, n: [u64; NUMBERS]) -> Lent {
     match q {
         Question::Shell => buffer(SHELL_LENT, 0),
-        Question::ShellIn => buffer(n[1] as usize, n[2] as usize),
-        Question::Expand => buffer(lent::LARGE, 0),
-        Question::ExpandIn => buffer(n[13] as usize, n[14] as usize),
+        Question::ShellIn => buffer(n[1], n[2]),
+        Question::Expand => buffer(lent::LARGE as u64, 0),
+        Question::ExpandIn => buffer(n[13], n[14]),
         Question::List => buffer(LISTING_LENT, 0),
         _ => buffer(0, 0),
     }
 }
 
-fn buffer(size: usize, start: usize) -> Lent {
-    Lent { size, start }
+fn buffer(size: u64, start: u64) -> Lent {
+    Lent {
+        size: size as usize,
+        start: start as usize,
+    }
 }
 
-// The bytes without which a question has no answer: all of the buffer that it says, or else those of the roll.
+// The bytes that a question's buffer must have: as many as it says, or else those of the roll.
 pub(crate) fn room(asked: Asked) -> usize {
     let n = asked.numbers;
     let q = of(asked.question);

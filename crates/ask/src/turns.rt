@@ -13,8 +13,6 @@ use words::Asked;
 
 // Shapes: B, W and P are numbers below 2^8, 2^32 and 2^64, L a buffer's length, R a roll, * floats, ^ any bytes; the first is
 // the empty line. `questions::of` has their numbers.
-// Forms: # is a number, $ a float's bits, % bytes that were lent in hexadecimal, | a text of them, & the answer's own bytes in
-// hexadecimal, ~ in decimal, * a table, < and > floats, ^ the line itself; at ! what waits goes out. `answers` has their numbers.
 pub(crate) fn turn(
     input: &[u8],
     s: State,
@@ -70,8 +68,9 @@ fn answered(
     say(answers::heard(s, told), line, lent, floats, out, used)
 }
 
-// The turn by way of a larger buffer, for a question that has bytes lent alone. The buffer stands on the stack only here: the
-// compiler puts no function that calls itself into its caller. No question needs more than there is, so that call is not made.
+// The answer by way of a larger buffer, to a question that has bytes lent alone. It stands on the stack only here: the compiler
+// puts no function that calls itself into its caller, unless that call comes last. No question needs more than there is, so the
+// call is not made.
 fn in_large(
     s: State,
     asked: Asked,
@@ -96,6 +95,8 @@ fn large_bytes() -> [u8; lent::LARGE] {
 }
 
 // Prints an answer after the `used` bytes that wait in `out`.
+// Forms: # is a number, $ a float's bits, % bytes that were lent in hexadecimal, | a text of them, & the answer's own bytes in
+// hexadecimal, ~ in decimal, * a table, < and > floats, ^ the line itself; at ! what waits goes out. `answers` has their numbers.
 fn say(t: Told, line: &[u8], bytes: &[u8], floats: &[f64], out: &mut [u8], used: usize) -> usize {
     forms::print(
         b"^

@@ -39,7 +39,7 @@ fn usage() {
     );
 }
 
-// A refusal's line, with document 01's words.
+// A refusal's line, with the words of document 01 and of the requests.
 fn say_refused(refusal: u8) {
     say(b"refused ");
     io::print_decimal(STDERR_FILENO, refusal as u64);
@@ -144,8 +144,9 @@ fn in_usual(kind: u8, orders: [u8; Kind::ORDERS]) {
     answer(kind, orders, &mut out);
 }
 
-// The answer by way of the larger buffer, for a roll of so many bytes. The buffer stands on the stack only here: the compiler
-// puts no function that calls itself into its caller. No roll is longer than the buffer, so that call is not made.
+// The answer by way of the larger buffer, to a request whose roll has so many bytes. It stands on the stack only here: the
+// compiler puts no function that calls itself into its caller, unless that call comes last. No roll is longer than the buffer,
+// so the call is not made.
 fn in_large(kind: u8, orders: [u8; Kind::ORDERS], long: usize) {
     if LARGE < long {
         in_large(kind, orders, long - LARGE);

@@ -8,6 +8,7 @@ pub mod MeasureGroups
 pub mod MeasureSizes
 pub mod MeasureWords
 pub mod Only
+pub mod Packings
 pub mod ReadsBack
 pub mod RequestLaws
 pub mod Sizes

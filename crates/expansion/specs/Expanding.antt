@@ -76,7 +76,7 @@ pub record ExpandTold (kind : ℕ) (orders before : List ℕ) (begin : ℕ) (r :
   pub answer : r ≡ namedTold (kindOf kind) orders before begin
   pub out : after ≡ namedOut (namedTold (kindOf kind) orders before begin) (kindOf kind) orders before begin
 
--- 02, Q-6: a request's roll measured and not written: 2, 3, 4 in this order, or its length and its term count
+-- 02, Q-6: a request's roll measured and not written: 2, 3, 4 in this order, or its length and its term count (D-88)
 unfoldable pub kindMeasured : Kind → List ℕ → Expanded
 kindMeasured k orders =
     cond (tooHigh k orders) (Refused 2)

@@ -1,5 +1,6 @@
 -- What the contracts of inner functions speak of, beside what 01 says.
 pub mod Measuring
+pub mod Packings
 pub mod Requests
 pub mod View
 pub mod Walking
