@@ -1,15 +1,18 @@
--- A component's answer: refusal 2 before the walk, and a pair as a quadruple whose last two shells have one triple each.
-use Prim.Native.Nat.{ℕ, _≤_, _<_}
+-- A component's answer: refusal 2 before 13, and a pair as a quadruple whose last two shells have one triple each.
+use Prim.Native.Nat.{ℕ, _*_, _≤_, _<_}
 use mathlib.Core.Path.{_≡_, refl, sym, ap, _∙_}
 use mathlib.Core.Bool.{Bool, true, false, cond, _||_, or-false}
 use mathlib.Core.List.{List, [], _∷_, _++_, map, flatMap}
+use native.Mathlib.Omega.{arith}
 use borrow.Author.Tests.{lt-ltb, le-ltb, ltb-false}
 use lib.Dec.{ltb}
-use lib.ListN.{replicate}
+use lib.ListN.{length, getD, replicate}
 use Rattle.kind.specs.Limits.{mostOrder}
 use Rattle.laws.proofs.Cases.{or-false-both}
 use Rattle.shell.specs.declared.Component.{Component}
-use Rattle.shell.specs.Shells.{descending, triples, beside, pairs, quadruples, refused, component, shell2Of, shell4Of}
+use Rattle.shell.specs.Shells.{descending, triples, beside, pairs, quadruples, refused, found, component, shell2Of, shell4Of}
+use Rattle.shell.specs.inner.Counted.{Counts}
+use Rattle.shell.proofs.Places.{counts-beside, beside-inside}
 
 pub low-first : (a b : ℕ) (r : Bool) → r ≡ (ltb mostOrder a || ltb mostOrder b) → r ≡ false → a ≤ mostOrder
 low-first a b r is e = ltb-false mostOrder a (or-false-both (ltb mostOrder a) (ltb mostOrder b) (sym is ∙ e) .0)
@@ -34,12 +37,25 @@ refused-second a b c d number r q x is e is′ e′ answer =
     let high : (ltb mostOrder c || ltb mostOrder d) ≡ true = sym is′ ∙ e′ in
     simp (low, high) answer
 
-pub walked-four : (a b c d number : ℕ) (r q : Bool) (x : Component) → r ≡ (ltb mostOrder a || ltb mostOrder b) → r ≡ false → q ≡ (ltb mostOrder c || ltb mostOrder d) → q ≡ false → x ≡ component (quadruples a b c d) number → x ≡ shell4Of a b c d number
+pub numbered-four : (a b c d number : ℕ) (r q : Bool) (x : Component) → r ≡ (ltb mostOrder a || ltb mostOrder b) → r ≡ false → q ≡ (ltb mostOrder c || ltb mostOrder d) → q ≡ false → x ≡ component (quadruples a b c d) number → x ≡ shell4Of a b c d number
 unfolding shell4Of
-walked-four a b c d number r q x is e is′ e′ answer =
+numbered-four a b c d number r q x is e is′ e′ answer =
     let low : (ltb mostOrder a || ltb mostOrder b) ≡ false = sym is ∙ e in
     let low′ : (ltb mostOrder c || ltb mostOrder d) ≡ false = sym is′ ∙ e′ in
     simp (low, low′) answer
+
+-- ---- 13, or what stands at the number
+
+pub component-past : (xs ys : List (List ℕ)) (most most′ n k number : ℕ) (x : Component) → Counts xs most n → Counts ys most′ k → n * k ≤ number → x ≡ refused 13 → x ≡ component (beside xs ys) number
+unfolding component
+component-past xs ys most most′ n k number x first second past answer =
+    let over : length (beside xs ys) ≤ number = omega (arith, counts-beside first second .is) in
+    simp (le-ltb number (length (beside xs ys)) over) answer
+
+pub component-found : (xs ys : List (List ℕ)) (most most′ n k number : ℕ) (x : Component) → Counts xs most n → Counts ys most′ k → number < n * k → x ≡ found (getD (beside xs ys) number []) → x ≡ component (beside xs ys) number
+unfolding component
+component-found xs ys most most′ n k number x first second below answer =
+    simp (lt-ltb number (length (beside xs ys)) (beside-inside first second number below)) answer
 
 -- ---- a pair as a quadruple
 

@@ -1,4 +1,4 @@
 pub mod Components
 pub mod Listing
 pub mod Only
-pub mod Walking
+pub mod Places

@@ -2,53 +2,50 @@
 use Prim.Native.Nat.{ℕ, zero, suc, _+_, _*_, _-_, _/_, _≤_, _<_}
 use mathlib.Core.Path.{_≡_, refl, sym, ap, _∙_}
 use mathlib.Core.Bool.{true, false, cond}
-use mathlib.Core.List.{List, [], _∷_, _++_, flatMap, flatten}
-use native.Mathlib.Numerals.{add-three}
+use mathlib.Core.List.{List, [], _∷_, _++_, map, flatMap, flatten}
+use native.Mathlib.Numerals.{add-one}
 use native.Mathlib.Omega.{arith}
-use native.Mathlib.Nat.{add-mul, mul-comm, mul-le-mul}
+use native.Mathlib.Nat.{mul-le-mul}
 use borrow.Author.Tests.{lt-ltb, le-ltb, le-leb, lt-leb}
 use lib.Dec.{ltb, leb}
-use lib.ListN.{length, take, drop, length-append, length-drop}
-use lib.Seq.{sets, length-sets}
+use lib.ListN.{length, getD, take, drop, length-append, length-map, length-drop, drop-of-length-le}
+use lib.Seq.{sets, length-sets, drop-cons}
 use borrow.Rule.Slice.PartMut.{putMid}
 use Rattle.kind.specs.Limits.{mostOrder}
-use Rattle.laws.proofs.Lists.{flatten-append}
+use Rattle.laws.proofs.Lists.{flatten-append, sets-append}
 use Rattle.laws.proofs.Parts.{part-all, part-put}
 use Rattle.shell.specs.declared.Triple.{Triple}
-use Rattle.shell.specs.declared.Next.{Next}
-use Rattle.shell.specs.declared.Next.the-variants as next
 use Rattle.shell.specs.declared.Listed.the-variants as listed
 use Rattle.shell.specs.Shells.{descending, triples, shellBytes, listedAt, listedOut, ListTold}
-use Rattle.shell.specs.inner.Walk.{line, lines, from, orderSum, tripleOrders, tripleRest, First, Follows}
-use Rattle.shell.proofs.Walking.{triples-from, first-rest, from-head}
+use Rattle.shell.specs.inner.Counted.{tripleOrders, mostTriples, Counts}
 
 -- ---- how many
 
-line-length : (x y z : ℕ) → length (line x y z) ≡ y + 1
-unfolding line
-line-length x zero z = refl
-line-length x (suc y) z = omega (arith, line-length x y (suc z))
+-- the triples with this x, and those from x on
+abbrev pub line : ℕ → ℕ → List (List ℕ)
+line m x = map (λ (y : ℕ). x ∷ y ∷ (m - x - y) ∷ []) (descending (m - x))
 
--- one more on y and z is one more triple in each line
-lines-more : (x s : ℕ) → length (lines x (suc s)) ≡ length (lines x s) + x
-unfolding lines
-lines-more zero s = refl
-lines-more (suc x) s =
-    omega (arith, lines-more x (suc s), length-append (line x (suc s) 0) (lines x (suc (suc s))), length-append (line x s 0) (lines x (suc s)), line-length x (suc s) 0, line-length x s 0)
+abbrev pub lines : ℕ → ℕ → List (List ℕ)
+lines m x = flatMap (line m) (descending x)
 
-triples-more : (m : ℕ) → length (triples (suc m)) ≡ length (triples m) + (m + 2)
-unfolding from line lines
-triples-more m =
-    omega (arith, ap length (triples-from (suc m)), ap length (triples-from m), lines-more m 1, length-append (line m 1 0) (lines m 2), line-length m 1 0)
+pub descending-length : (n : ℕ) → length (descending n) ≡ n + 1
+unfolding descending
+descending-length zero = refl
+descending-length (suc n) = omega (arith, descending-length n)
 
-triples-twice : (m : ℕ) → 2 * length (triples m) ≡ (m + 1) * (m + 2)
-unfolding triples descending flatMap
-triples-twice zero = refl
-triples-twice (suc m) =
-    let one : m + 2 ≡ suc m + 1 = omega arith in
-    let two : m + 1 + 2 ≡ suc m + 2 = omega arith in
-    let more : 2 * length (triples (suc m)) ≡ (m + 1) * (m + 2) + 2 * (m + 2) = omega (arith, triples-more m, triples-twice m) in
-    more ∙ sym (add-mul (m + 1) 2 (m + 2)) ∙ mul-comm (m + 1 + 2) (m + 2) ∙ cc (one, two)
+pub line-length : (m x : ℕ) → length (line m x) ≡ m - x + 1
+line-length m x = length-map (descending (m - x)) (λ (y : ℕ). x ∷ y ∷ (m - x - y) ∷ []) ∙ descending-length (m - x)
+
+-- the line of x has k + 1 where x + k is m, and each later line one more
+lines-twice : (m x k : ℕ) → x + k ≡ m → 2 * length (lines m x) ≡ (x + 1) * (x + 2 * k + 2)
+unfolding descending flatMap
+lines-twice m zero k e = omega (arith, line-length m 0, length-append (line m 0) [])
+lines-twice m (suc x) k e =
+    omega (arith, line-length m (suc x), length-append (line m (suc x)) (lines m x), lines-twice m x (suc k) (omega arith))
+
+pub triples-twice : (m : ℕ) → 2 * length (triples m) ≡ (m + 1) * (m + 2)
+unfolding triples
+triples-twice m = omega (arith, lines-twice m m 0 (omega arith))
 
 -- (m+1)(m+2)/2 triples
 pub triples-count : (m : ℕ) → length (triples m) ≡ (m + 1) * (m + 2) / 2
@@ -57,72 +54,63 @@ triples-count m = omega (arith, triples-twice m)
 pub count-small : (m : ℕ) → m ≤ mostOrder → (m + 1) * (m + 2) ≤ (mostOrder + 1) * (mostOrder + 2)
 count-small m small = mul-le-mul {n₂ = mostOrder + 1} {m₂ = mostOrder + 2} (omega arith) (omega arith)
 
--- three bytes to a triple
-line-bytes : (x y z : ℕ) → length (flatten (line x y z)) ≡ 3 * length (line x y z)
-unfolding line flatten
-line-bytes x zero z = refl
-line-bytes x (suc y) z = omega (arith, line-bytes x y (suc z))
+pub counts-triples : (m : ℕ) → m ≤ mostOrder → Counts (triples m) mostTriples ((m + 1) * (m + 2) / 2)
+counts-triples m small =
+    record { is = sym (triples-count m); some = omega (arith, triples-twice m); few = omega (arith, count-small m small) }
 
-lines-bytes : (x s : ℕ) → length (flatten (lines x s)) ≡ 3 * length (lines x s)
-unfolding lines flatten
-lines-bytes zero s = refl
-lines-bytes (suc x) s =
-    omega (arith, ap length (flatten-append (line x s 0) (lines x (suc s))), length-append (flatten (line x s 0)) (flatten (lines x (suc s))), length-append (line x s 0) (lines x (suc s)), line-bytes x s 0, lines-bytes x (suc s))
+-- three bytes to a triple
+line-bytes : (m x : ℕ) (ys : List ℕ) → length (flatten (map (λ (y : ℕ). x ∷ y ∷ (m - x - y) ∷ []) ys)) ≡ 3 * length ys
+unfolding flatten
+line-bytes m x [] = refl
+line-bytes m x (y ∷ ys) = omega (arith, line-bytes m x ys)
+
+lines-bytes : (m : ℕ) (xs : List ℕ) → length (flatten (flatMap (line m) xs)) ≡ 3 * length (flatMap (line m) xs)
+unfolding flatten flatMap
+lines-bytes m [] = refl
+lines-bytes m (x ∷ xs) =
+    let rest = flatMap (line m) xs in
+    omega (
+      arith,
+      ap length (flatten-append (line m x) rest),
+      length-append (flatten (line m x)) (flatten rest),
+      length-append (line m x) rest,
+      line-bytes m x (descending (m - x)),
+      length-map (descending (m - x)) (λ (y : ℕ). x ∷ y ∷ (m - x - y) ∷ []),
+      lines-bytes m xs,
+    )
 
 pub bytes-count : (m : ℕ) → length (shellBytes m) ≡ 3 * length (triples m)
-unfolding shellBytes from
-bytes-count m =
-    let is : triples m ≡ line m 0 0 ++ lines m (suc (0 + 0)) = triples-from m in
-    rw is (omega (arith, ap length (flatten-append (line m 0 0) (lines m 1)), length-append (flatten (line m 0 0)) (flatten (lines m 1)), length-append (line m 0 0) (lines m 1), line-bytes m 0 0, lines-bytes m 1))
+unfolding shellBytes triples
+bytes-count m = lines-bytes m (descending m)
 
 -- ---- putting the list down
 
--- what is left of the list, from `at` on, makes the whole
-pub record Putting (m : ℕ) (before out : List ℕ) (t : Triple) (at : ℕ) : Type 0 where
-  pub small : orderSum t ≤ mostOrder
+-- what is left of the list from a number on, three bytes for each before it, makes the whole
+pub record Putting (m : ℕ) (before out : List ℕ) (number : ℕ) : Type 0 where
   pub long : length out ≡ length before
-  pub room : at + length (flatten (tripleRest t)) ≤ length before
-  pub stores : sets out at (flatten (tripleRest t)) ≡ sets before 0 (shellBytes m)
+  pub stores : sets out (3 * number) (flatten (drop number (triples m))) ≡ sets before 0 (shellBytes m)
 
-pub putting-first : (m : ℕ) (out : List ℕ) (t : Triple) → m ≤ mostOrder → length (shellBytes m) ≤ length out → First m t → Putting m out out t 0
+pub putting-first : (m : ℕ) (out : List ℕ) → Putting m out out 0
 unfolding shellBytes
-putting-first m out t small room first =
-    let is : tripleRest t ≡ triples m = first-rest m t first in
-    record { small = omega arith; long = refl; room = rw is (omega arith); stores = rw is }
+putting-first m out = record { long = refl; stores = refl }
 
-head-bytes : (t : Triple) (rest : List (List ℕ)) → tripleRest t ≡ tripleOrders t ∷ rest → flatten (tripleRest t) ≡ (t .x ∷ t .y ∷ t .z ∷ flatten rest)
+pub putting-more : (m many : ℕ) (before out after : List ℕ) (number : ℕ) (t : Triple) → Putting m before out number → many ≡ length (triples m) → number < many → tripleOrders t ≡ getD (triples m) number [] → after ≡ sets out (3 * number) (tripleOrders t) → Putting m before after (number + 1)
 unfolding flatten
-head-bytes t rest e = rw e
-
-pub putting-room : (m : ℕ) (before out : List ℕ) (t : Triple) (at : ℕ) → Putting m before out t at → at + 3 ≤ length out
-putting-room m before out t at p =
-    let h = from-head (t .x) (t .y) (t .z) in
-    omega (arith, p .long, p .room, ap length (head-bytes t (h .0) (h .1)))
-
-pub putting-more : (m : ℕ) (before out after : List ℕ) (t : Triple) (at : ℕ) (r : Next) (n : Triple) → Putting m before out t at → after ≡ sets out at (tripleOrders t) → Follows t r → r ≡ next.Is n → Putting m before after n (at + 3)
-unfolding Follows
-putting-more m before out after t at r n p put follows is =
-    let f : Follows t (next.Is n) = rw is at follows in
-    let bytes : flatten (tripleRest t) ≡ (t .x ∷ t .y ∷ t .z ∷ flatten (tripleRest n)) = head-bytes t (tripleRest n) (f .0) in
+putting-more m many before out after number t p counted inside is put =
+    let rest = drop (suc number) (triples m) in
+    let here : drop number (triples m) ≡ tripleOrders t ∷ rest = drop-cons (triples m) number [] (omega arith) ∙ ap (λ (x : List ℕ). x ∷ rest) (sym is) in
+    let next : 3 * number + 3 ≡ 3 * (number + 1) = omega arith in
     record {
-      small = omega arith;
-      long = ap length put ∙ length-sets out at (tripleOrders t) ∙ p .long;
-      room = omega (arith, p .room, ap length bytes);
-      stores = rw (put, add-three at) (rw bytes at (p .stores));
+      long = ap length put ∙ length-sets out (3 * number) (tripleOrders t) ∙ p .long;
+      stores =
+          rw (put, ← next, add-one number) (sym (sets-append out (3 * number) (tripleOrders t) (flatten rest)) ∙ (rw here at (p .stores)));
     }
 
-pub putting-falls : (t : Triple) (r : Next) (n : Triple) → Follows t r → r ≡ next.Is n → length (tripleRest n) < length (tripleRest t)
-unfolding Follows
-putting-falls t r n follows is =
-    let f : Follows t (next.Is n) = rw is at follows in
-    omega (arith, ap length (f .0))
-
-pub putting-done : (m : ℕ) (before out after : List ℕ) (t : Triple) (at : ℕ) (r : Next) → Putting m before out t at → after ≡ sets out at (tripleOrders t) → Follows t r → r ≡ next.Last → after ≡ sets before 0 (shellBytes m)
-unfolding Follows flatten
-putting-done m before out after t at r p put follows is =
-    let f : Follows t next.Last = rw is at follows in
-    let bytes : flatten (tripleRest t) ≡ tripleOrders t = head-bytes t [] f in
-    put ∙ rw bytes at (p .stores)
+pub putting-done : (m many : ℕ) (before out : List ℕ) (number : ℕ) → Putting m before out number → many ≡ length (triples m) → many ≤ number → out ≡ sets before 0 (shellBytes m)
+unfolding flatten
+putting-done m many before out number p counted all =
+    let none : drop number (triples m) ≡ [] = drop-of-length-le (triples m) {i = number} (omega arith) in
+    rw none at (p .stores)
 
 -- ---- what is told of it
 
@@ -148,8 +136,8 @@ told-full m start count out low-m inside counted over =
     let none : leb (start + length (shellBytes m)) (length out) ≡ false = lt-leb (start + length (shellBytes m)) (length out) past in
     record { answer = simp (low, near, full); out = simp (low, none) }
 
-pub part-room : (m start count : ℕ) (out : List ℕ) → count ≡ length (triples m) → 3 * count ≤ length out - start → length (shellBytes m) ≤ length (take (length out - start) (drop start out))
-part-room m start count out counted fits = rw (part-all out start) (omega (arith, bytes-count m, length-drop start out))
+pub part-room : (start count : ℕ) (out : List ℕ) → 3 * count ≤ length out - start → 3 * count ≤ length (take (length out - start) (drop start out))
+part-room start count out fits = rw (part-all out start) (omega (arith, length-drop start out))
 
 pub told-list : (m start count : ℕ) (out part : List ℕ) → m ≤ mostOrder → start ≤ length out → count ≡ length (triples m) → 3 * count ≤ length out - start → part ≡ sets (take (length out - start) (drop start out)) 0 (shellBytes m) → ListTold m out start (listed.Bytes (3 * count) count) (putMid start (length out - start) out part)
 unfolding listedAt listedOut

@@ -1,13 +1,14 @@
 // Shell lists: the triples of a shell as bytes, and a pair's or a quadruple's component by its number.
-ghost use Prim.Native.Nat.{_+_, _*_, _≤_};
+ghost use Prim.Native.Nat.{_+_, _*_, _≤_, _<_};
 ghost use mathlib.Core.Path.{_≡_};
 ghost use mathlib.Core.Bool.{_||_};
+ghost use mathlib.Core.List.{[], _++_};
 ghost use lib.Dec.{ltb};
-ghost use lib.ListN.{length};
+ghost use lib.ListN.{length, getD};
 ghost use lib.Seq.{sets};
 ghost use Rattle.kind.specs.Limits.{mostOrder};
-ghost use Rattle.shell.specs.Shells.{triples, shellBytes, ListTold, refused, found, component, quadruples, shell2Of, shell4Of};
-ghost use Rattle.shell.specs.inner.Walk.{orderSum, tripleOrders, Follows, FollowsPair, FollowsQuadruple, Small, SmallPair, First, FirstPair, FirstQuadruple, quadrupleOrders};
+ghost use Rattle.shell.specs.Shells.{triples, shellBytes, ListTold, pairs, quadruples, refused, found, component, shell2Of, shell4Of};
+ghost use Rattle.shell.specs.inner.Counted.{tripleOrders, pairOrders, rowOrders, mostTriples, Counts};
 use kind::Kind;
 
 // The list's length in bytes and its triples (D-31).
@@ -38,113 +39,6 @@ struct Pair {
     second: Triple,
 }
 
-struct Quadruple {
-    first: Pair,
-    second: Pair,
-}
-
-enum Next {
-    Is(Triple),
-    Last,
-}
-
-enum NextPair {
-    Is(Pair),
-    Last,
-}
-
-enum NextQuadruple {
-    Is(Quadruple),
-    Last,
-}
-
-fn first(m: u8) -> Triple
-    ensures { λ r. ⌜ First m r ⌝ }
-{
-    Triple { x: m, y: 0, z: 0 }
-}
-
-// The triple after one of its list: y falls, then x.
-fn after(t: Triple) -> Next
-    requires { ⌜ orderSum t ≤ mostOrder ⌝ }
-    ensures { λ r. ⌜ Follows t r ⌝ }
-{
-    if 0 < t.y {
-        return Next::Is(Triple {
-            x: t.x,
-            y: t.y - 1,
-            z: t.z + 1,
-        });
-    }
-    if 0 < t.x {
-        return Next::Is(Triple {
-            x: t.x - 1,
-            y: t.z + 1,
-            z: 0,
-        });
-    }
-    Next::Last
-}
-
-// The first triple of the list that one is in.
-fn again(t: Triple) -> Triple
-    requires { ⌜ orderSum t ≤ mostOrder ⌝ }
-    ensures { λ r. ⌜ First (orderSum t) r ⌝ }
-{
-    first(t.x + t.y + t.z)
-}
-
-fn after_pair(c: Pair) -> NextPair
-    requires { ⌜ SmallPair c ⌝ }
-    ensures { λ r. ⌜ FollowsPair c r ⌝ }
-{
-    let first = c.first;
-    let second = c.second;
-    match after(second) {
-        Next::Is(next) => NextPair::Is(Pair {
-            first,
-            second: next,
-        }),
-        Next::Last => match after(first) {
-            Next::Is(next) => NextPair::Is(Pair {
-                first: next,
-                second: again(second),
-            }),
-            Next::Last => NextPair::Last,
-        },
-    }
-}
-
-fn after_quadruple(c: Quadruple) -> NextQuadruple
-    requires { ⌜ Small c ⌝ }
-    ensures { λ r. ⌜ FollowsQuadruple c r ⌝ }
-{
-    let first = c.first;
-    let second = c.second;
-    match after_pair(second) {
-        NextPair::Is(next) => NextQuadruple::Is(Quadruple {
-            first,
-            second: next,
-        }),
-        NextPair::Last => match after_pair(first) {
-            NextPair::Is(next) => NextQuadruple::Is(Quadruple {
-                first: next,
-                second: pair_again(second),
-            }),
-            NextPair::Last => NextQuadruple::Last,
-        },
-    }
-}
-
-fn pair_again(c: Pair) -> Pair
-    requires { ⌜ SmallPair c ⌝ }
-    ensures { λ r. ⌜ FirstPair c r ⌝ }
-{
-    let first = again(c.first);
-    let second = again(c.second);
-    Pair { first, second }
-}
-
 fn refused(number: u8) -> Component
     ensures { λ r. ⌜ r ≡ refused number ⌝ }
 {
@@ -154,13 +48,67 @@ fn refused(number: u8) -> Component
     }
 }
 
-fn component_of(c: Quadruple) -> Component
-    ensures { λ r. ⌜ r ≡ found (quadrupleOrders c) ⌝ }
+// How many triples a shell has.
+fn count(m: u8) -> usize
+    requires { ⌜ m ≤ mostOrder ⌝ }
+    ensures { λ r. ⌜ Counts (triples m) mostTriples r ⌝ }
 {
-    let p = c.first.first;
-    let q = c.first.second;
-    let r = c.second.first;
-    let s = c.second.second;
+    let m = m as usize;
+    (m + 1) * (m + 2) / 2
+}
+
+// How many pairs two shells have.
+fn pair_count(a: u8, b: u8) -> usize
+    requires { ⌜ (a ≤ mostOrder) × (b ≤ mostOrder) ⌝ }
+    ensures { λ r. ⌜ Counts (pairs a b) (mostTriples * mostTriples) r ⌝ }
+{
+    count(a) * count(b)
+}
+
+// The triple of a row with this z: along row r x is m - r, and z goes up from 0 to r.
+fn in_row(m: u8, row: usize, z: usize) -> Triple
+    requires { ⌜ (row ≤ m) × (z ≤ row) ⌝ }
+    ensures { λ r. ⌜ tripleOrders r ≡ rowOrders m row z ⌝ }
+{
+    Triple {
+        x: m - row as u8,
+        y: (row - z) as u8,
+        z: z as u8,
+    }
+}
+
+// The triple at a number of a shell's list. Row r begins at r(r + 1)/2 and has r + 1 triples, so taking row after row off the number leaves z.
+fn triple_at(m: u8, number: usize) -> Triple
+    requires { ⌜ number < length (triples m) ⌝ }
+    ensures { λ r. ⌜ tripleOrders r ≡ getD (triples m) number [] ⌝ }
+{
+    let mut row = 0;
+    let mut z = number;
+    while row < z {
+        row += 1;
+        z -= row;
+    }
+    in_row(m, row, z)
+}
+
+// The pair at a number: the second shell runs fastest.
+fn pair_at(a: u8, b: u8, number: usize) -> Pair
+    requires { ⌜ (b ≤ mostOrder) × (number < length (pairs a b)) ⌝ }
+    ensures { λ r. ⌜ pairOrders r ≡ getD (pairs a b) number [] ⌝ }
+{
+    let fastest = count(b);
+    let first = triple_at(a, number / fastest);
+    let second = triple_at(b, number % fastest);
+    Pair { first, second }
+}
+
+fn component_of(first: Pair, second: Pair) -> Component
+    ensures { λ r. ⌜ r ≡ found (pairOrders first ++ pairOrders second) ⌝ }
+{
+    let p = first.first;
+    let q = first.second;
+    let r = second.first;
+    let s = second.second;
     let orders = [p.x, p.y, p.z, q.x, q.y, q.z, r.x, r.y, r.z, s.x, s.y, s.z];
     Component {
         found: Sought::Component,
@@ -168,40 +116,25 @@ fn component_of(c: Quadruple) -> Component
     }
 }
 
-fn first_quadruple(a: u8, b: u8, c: u8, d: u8) -> Quadruple
-    ensures { λ r. ⌜ FirstQuadruple a b c d r ⌝ }
+// The component at a number of four shells: the second pair runs fastest (D-29).
+fn quadruple_at(a: u8, b: u8, c: u8, d: u8, number: usize) -> Component
+    requires { ⌜ (b ≤ mostOrder) × (c ≤ mostOrder) × (d ≤ mostOrder) × (number < length (quadruples a b c d)) ⌝ }
+    ensures { λ r. ⌜ r ≡ found (getD (quadruples a b c d) number []) ⌝ }
 {
-    let p = first(a);
-    let q = first(b);
-    let r = first(c);
-    let s = first(d);
-    Quadruple {
-        first: Pair {
-            first: p,
-            second: q,
-        },
-        second: Pair {
-            first: r,
-            second: s,
-        },
-    }
+    let fastest = pair_count(c, d);
+    let first = pair_at(a, b, number / fastest);
+    let second = pair_at(c, d, number % fastest);
+    component_of(first, second)
 }
 
-// Goes through the list until the number is used up (D-29).
-fn walk(a: u8, b: u8, c: u8, d: u8, number: u32) -> Component
+fn numbered(a: u8, b: u8, c: u8, d: u8, number: usize) -> Component
     requires { ⌜ (a ≤ mostOrder) × (b ≤ mostOrder) × (c ≤ mostOrder) × (d ≤ mostOrder) ⌝ }
     ensures { λ r. ⌜ r ≡ component (quadruples a b c d) number ⌝ }
 {
-    let mut at = first_quadruple(a, b, c, d);
-    let mut left = number;
-    while 0 < left {
-        match after_quadruple(at) {
-            NextQuadruple::Is(next) => at = next,
-            NextQuadruple::Last => return refused(13),
-        }
-        left -= 1;
+    if pair_count(a, b) * pair_count(c, d) <= number {
+        return refused(13);
     }
-    component_of(at)
+    quadruple_at(a, b, c, d, number)
 }
 
 pub fn get_shell4(a: u8, b: u8, c: u8, d: u8, number: u32) -> Component
@@ -213,7 +146,7 @@ pub fn get_shell4(a: u8, b: u8, c: u8, d: u8, number: u32) -> Component
     if too_high(c, d) {
         return refused(2);
     }
-    walk(a, b, c, d, number)
+    numbered(a, b, c, d, number as usize)
 }
 
 // A pair is a quadruple whose last two shells have one triple each, 0 0 0 (D-30).
@@ -232,15 +165,6 @@ fn too_high(a: u8, b: u8) -> bool
     Kind::MOST_ORDER < b as usize
 }
 
-// How many triples a shell has.
-fn count(m: u8) -> usize
-    requires { ⌜ m ≤ mostOrder ⌝ }
-    ensures { λ r. ⌜ (r ≡ length (triples m)) × (r ≤ (mostOrder + 1) * (mostOrder + 2)) ⌝ }
-{
-    let m = m as usize;
-    (m + 1) * (m + 2) / 2
-}
-
 fn put(out: &mut [u8], at: usize, t: Triple)
     requires { ⌜ at + 3 ≤ length (now out) ⌝ }
     ensures { λ r. ⌜ now (out .exit) ≡ sets (now (out .entry)) at (tripleOrders t) ⌝ }
@@ -251,19 +175,14 @@ fn put(out: &mut [u8], at: usize, t: Triple)
 }
 
 // The whole list from the front of what is lent.
-fn put_list(out: &mut [u8], m: u8)
-    requires { ⌜ (m ≤ mostOrder) × (length (shellBytes m) ≤ length (now out)) ⌝ }
+fn put_list(out: &mut [u8], m: u8, many: usize)
+    requires { ⌜ (many ≡ length (triples m)) × (3 * many ≤ length (now out)) ⌝ }
     ensures { λ r. ⌜ now (out .exit) ≡ sets (now (out .entry)) 0 (shellBytes m) ⌝ }
 {
-    let mut t = first(m);
-    let mut at = 0;
-    loop {
-        put(out, at, t);
-        match after(t) {
-            Next::Is(next) => t = next,
-            Next::Last => return,
-        }
-        at += 3;
+    let mut number = 0;
+    while number < many {
+        put(out, 3 * number, triple_at(m, number));
+        number += 1;
     }
 }
 
@@ -280,6 +199,6 @@ pub fn get_ijk_list(m: u8, out: &mut [u8], start: usize) -> Listed
     if out.len() - start < 3 * triples {
         return Listed::Refused(6);
     }
-    put_list(&mut out[start..], m);
+    put_list(&mut out[start..], m, triples);
     Listed::Bytes(3 * triples, triples as u32)
 }

@@ -32,9 +32,7 @@ part-put-list-end : tie.Need-part-put-list-end
 part-put-list-end c = search needs
 
 put-list-requires : tie.Need-put-list-requires
-put-list-requires c κs =
-    let a = c .before .before .before .before .before .before .args in
-    (search needs, part-room (a .m) (a .start) _ (a .out .now) (c .before .before .count .ensures .0) (c .before .if3 .left))
+put-list-requires c κs = (search needs, search part-room)
 
 mul-t7 : tie.Need-mul-t7
 mul-t7 c = search needs

@@ -1,5 +1,5 @@
--- `get_shell4` meets its contract: refusal 2 by two pairs, then the walk. Assumes nothing.
-use Rattle.shell.proofs.Components.{low-first, low-second, refused-first, refused-second, walked-four}
+-- `get_shell4` meets its contract: refusal 2 by two pairs, then by number. Assumes nothing.
+use Rattle.shell.proofs.Components.{low-first, low-second, refused-first, refused-second, numbered-four}
 use borrow.Author.Needs.{needs}
 use Rattle.shell.proofs.get_shell4.Statement.{statement}
 use Rattle.shell.proofs.get_shell4.Tie as tie
@@ -22,11 +22,11 @@ refused-requires-2 c κs = search needs
 returns-2 : tie.Need-returns-2
 returns-2 c = search refused-second
 
-walk-requires : tie.Need-walk-requires
-walk-requires c κs = (search low-first, search low-second, search low-first, search low-second)
+numbered-requires : tie.Need-numbered-requires
+numbered-requires c κs = (search low-first, search low-second, search low-first, search low-second)
 
 returns-3 : tie.Need-returns-3
-returns-3 c = search walked-four
+returns-3 c = search numbered-four
 
 pub get-shell4-spec : {M : Type 1} → statement M
 get-shell4-spec =
@@ -38,5 +38,5 @@ get-shell4-spec =
     too-high-requires-2
     refused-requires-2
     returns-2
-    walk-requires
+    numbered-requires
     returns-3)

@@ -1,34 +1,36 @@
 -- `put_list` meets its contract. The loop's invariant is `Putting`: what is left of the list makes the whole; it gets shorter. Assumes nothing.
+use Prim.Native.Nat.{_-_}
 use borrow.Author.Needs.{needs}
-use lib.ListN.{length}
-use Rattle.shell.specs.inner.Walk.{tripleRest}
-use Rattle.shell.proofs.Listing.{Putting, putting-first, putting-room, putting-more, putting-falls, putting-done}
+use Rattle.shell.proofs.Listing.{Putting, putting-first, putting-more, putting-done}
 use Rattle.shell.proofs.put_list.Statement.{statement}
 use Rattle.shell.proofs.put_list.Tie as tie
 
 abbrev Inv-loop : tie.InvT-loop
-Inv-loop out₀ m t₀ at₀ out t at = Putting m out₀ out t at
+Inv-loop out₀ m many number₀ out number = Putting m out₀ out number
 
 abbrev μ-loop : tie.MeasureT-loop
-μ-loop out₀ m t₀ at₀ out t at = length (tripleRest t)
-
-first-requires : tie.Need-first-requires Inv-loop μ-loop
-first-requires c κs = search needs
+μ-loop out₀ m many number₀ out number = many - number
 
 loop-holds : tie.Need-loop-holds Inv-loop μ-loop
 loop-holds c = search putting-first
 
+mul-put : tie.Need-mul-put Inv-loop μ-loop
+mul-put c = search needs
+
+triple-at-requires : tie.Need-triple-at-requires Inv-loop μ-loop
+triple-at-requires c κs = search needs
+
 put-requires : tie.Need-put-requires Inv-loop μ-loop
-put-requires c κs = search putting-room
+put-requires c κs = search needs
 
-after-requires : tie.Need-after-requires Inv-loop μ-loop
-after-requires c κs = search needs
+add-number : tie.Need-add-number Inv-loop μ-loop
+add-number c = search needs
 
-enum-known-next : tie.Need-enum-known-next Inv-loop μ-loop
-enum-known-next c = search needs
+loop-less : tie.Need-loop-less Inv-loop μ-loop
+loop-less c = search needs
 
-enum-told : tie.Need-enum-told Inv-loop μ-loop
-enum-told c = search needs
+loop-again : tie.Need-loop-again Inv-loop μ-loop
+loop-again c = search putting-more
 
 same-length : tie.Need-same-length Inv-loop μ-loop
 same-length c = search needs
@@ -36,29 +38,18 @@ same-length c = search needs
 returns : tie.Need-returns Inv-loop μ-loop
 returns c = search putting-done
 
-add-at : tie.Need-add-at Inv-loop μ-loop
-add-at c = search needs
-
-loop-less : tie.Need-loop-less Inv-loop μ-loop
-loop-less c = search putting-falls
-
-loop-again : tie.Need-loop-again Inv-loop μ-loop
-loop-again c = search putting-more
-
 pub put-list-spec : {M : Type 1} → statement M
 put-list-spec =
     tie.close
     (tie.spec
     Inv-loop
     μ-loop
-    first-requires
     loop-holds
+    mul-put
+    triple-at-requires
     put-requires
-    after-requires
-    enum-known-next
-    enum-told
-    same-length
-    returns
-    add-at
+    add-number
     loop-less
-    loop-again)
+    loop-again
+    same-length
+    returns)
