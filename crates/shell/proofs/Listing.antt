@@ -21,31 +21,31 @@ use Rattle.shell.specs.inner.Counted.{tripleOrders, mostTriples, Counts}
 
 -- ---- how many
 
--- the triples with this x, and those from x on
-abbrev pub line : ℕ → ℕ → List (List ℕ)
-line m x = map (λ (y : ℕ). x ∷ y ∷ (m - x - y) ∷ []) (descending (m - x))
+-- the row of an x: its triples; and the rows from x down
+abbrev pub rowOf : ℕ → ℕ → List (List ℕ)
+rowOf m x = map (λ (y : ℕ). x ∷ y ∷ (m - x - y) ∷ []) (descending (m - x))
 
-abbrev pub lines : ℕ → ℕ → List (List ℕ)
-lines m x = flatMap (line m) (descending x)
+abbrev pub rowsFrom : ℕ → ℕ → List (List ℕ)
+rowsFrom m x = flatMap (rowOf m) (descending x)
 
 pub descending-length : (n : ℕ) → length (descending n) ≡ n + 1
 unfolding descending
 descending-length zero = refl
 descending-length (suc n) = omega (arith, descending-length n)
 
-pub line-length : (m x : ℕ) → length (line m x) ≡ m - x + 1
-line-length m x = length-map (descending (m - x)) (λ (y : ℕ). x ∷ y ∷ (m - x - y) ∷ []) ∙ descending-length (m - x)
+pub row-length : (m x : ℕ) → length (rowOf m x) ≡ m - x + 1
+row-length m x = length-map (descending (m - x)) (λ (y : ℕ). x ∷ y ∷ (m - x - y) ∷ []) ∙ descending-length (m - x)
 
--- the line of x has k + 1 where x + k is m, and each later line one more
-lines-twice : (m x k : ℕ) → x + k ≡ m → 2 * length (lines m x) ≡ (x + 1) * (x + 2 * k + 2)
+-- the row of x has k + 1 where x + k is m, and each later row one more
+rows-twice : (m x k : ℕ) → x + k ≡ m → 2 * length (rowsFrom m x) ≡ (x + 1) * (x + 2 * k + 2)
 unfolding descending flatMap
-lines-twice m zero k e = omega (arith, line-length m 0, length-append (line m 0) [])
-lines-twice m (suc x) k e =
-    omega (arith, line-length m (suc x), length-append (line m (suc x)) (lines m x), lines-twice m x (suc k) (omega arith))
+rows-twice m zero k e = omega (arith, row-length m 0, length-append (rowOf m 0) [])
+rows-twice m (suc x) k e =
+    omega (arith, row-length m (suc x), length-append (rowOf m (suc x)) (rowsFrom m x), rows-twice m x (suc k) (omega arith))
 
 pub triples-twice : (m : ℕ) → 2 * length (triples m) ≡ (m + 1) * (m + 2)
 unfolding triples
-triples-twice m = omega (arith, lines-twice m m 0 (omega arith))
+triples-twice m = omega (arith, rows-twice m m 0 (omega arith))
 
 -- (m+1)(m+2)/2 triples
 pub triples-count : (m : ℕ) → length (triples m) ≡ (m + 1) * (m + 2) / 2
@@ -59,29 +59,29 @@ counts-triples m small =
     record { is = sym (triples-count m); some = omega (arith, triples-twice m); few = omega (arith, count-small m small) }
 
 -- three bytes to a triple
-line-bytes : (m x : ℕ) (ys : List ℕ) → length (flatten (map (λ (y : ℕ). x ∷ y ∷ (m - x - y) ∷ []) ys)) ≡ 3 * length ys
+row-bytes : (m x : ℕ) (ys : List ℕ) → length (flatten (map (λ (y : ℕ). x ∷ y ∷ (m - x - y) ∷ []) ys)) ≡ 3 * length ys
 unfolding flatten
-line-bytes m x [] = refl
-line-bytes m x (y ∷ ys) = omega (arith, line-bytes m x ys)
+row-bytes m x [] = refl
+row-bytes m x (y ∷ ys) = omega (arith, row-bytes m x ys)
 
-lines-bytes : (m : ℕ) (xs : List ℕ) → length (flatten (flatMap (line m) xs)) ≡ 3 * length (flatMap (line m) xs)
+rows-bytes : (m : ℕ) (xs : List ℕ) → length (flatten (flatMap (rowOf m) xs)) ≡ 3 * length (flatMap (rowOf m) xs)
 unfolding flatten flatMap
-lines-bytes m [] = refl
-lines-bytes m (x ∷ xs) =
-    let rest = flatMap (line m) xs in
+rows-bytes m [] = refl
+rows-bytes m (x ∷ xs) =
+    let rest = flatMap (rowOf m) xs in
     omega (
       arith,
-      ap length (flatten-append (line m x) rest),
-      length-append (flatten (line m x)) (flatten rest),
-      length-append (line m x) rest,
-      line-bytes m x (descending (m - x)),
+      ap length (flatten-append (rowOf m x) rest),
+      length-append (flatten (rowOf m x)) (flatten rest),
+      length-append (rowOf m x) rest,
+      row-bytes m x (descending (m - x)),
       length-map (descending (m - x)) (λ (y : ℕ). x ∷ y ∷ (m - x - y) ∷ []),
-      lines-bytes m xs,
+      rows-bytes m xs,
     )
 
 pub bytes-count : (m : ℕ) → length (shellBytes m) ≡ 3 * length (triples m)
 unfolding shellBytes triples
-bytes-count m = lines-bytes m (descending m)
+bytes-count m = rows-bytes m (descending m)
 
 -- ---- putting the list down
 

@@ -1,22 +1,23 @@
--- What stands at a number of a list: of two lists beside each other by division, of a shell's list by rows.
+-- What stands at a number of a list: of two lists beside each other by division, of a shell's list by its row.
 use Prim.Native.Nat.{ℕ, zero, suc, _+_, _*_, _-_, _/_, _%_, _^_, _≤_, _<_}
-use mathlib.Core.Path.{_≡_, refl, sym, ap, ap₂, _∙_}
+use mathlib.Core.Path.{_≡_, refl, sym, ap, _∙_}
 use mathlib.Core.List.{List, [], _∷_, _++_, map, flatMap}
 use native.Mathlib.Nat.{not-suc-le-zero, le-of-suc-le-suc, div-eq-of-lt, mod-eq-of-lt, div-eq-sub-div, mod-eq-sub-mod, mod-lt, div-lt-iff-lt-mul, mul-le-mul}
 use native.Mathlib.Numerals.{add-one}
 use native.Mathlib.Omega.{arith}
-use borrow.Author.Tests.{ltb-true, ltb-false, lt-ltb, le-ltb}
+use borrow.Author.Tests.{ltb-true, ltb-false}
 use lib.Dec.{T, ltb, ltb→lt}
 use lib.ListN.{length, getD, length-append, length-map, List·getD-append}
 use lib.Seq.{getD-append-add}
 use mir.Syntax.{w64}
 use mir.Val.{Fits}
 use Rattle.laws.proofs.Cases.{tested}
+use Rattle.laws.proofs.Counting.{fits-below}
 use Rattle.shell.specs.declared.Triple.{Triple}
 use Rattle.shell.specs.declared.Component.{Component}
 use Rattle.shell.specs.Shells.{descending, triples, beside, found}
 use Rattle.shell.specs.inner.Counted.{tripleOrders, rowOrders, Counts}
-use Rattle.shell.proofs.Listing.{line, lines, line-length, descending-length, triples-twice}
+use Rattle.shell.proofs.Listing.{rowOf, rowsFrom, row-length, descending-length, triples-twice}
 
 getD-map : {A B : Type 0} (f : A → B) (l : List A) (n : ℕ) (d : A) (e : B) → n < length l → getD (map f l) n e ≡ f (getD l n d)
 getD-map f [] n d e inside = absurd (not-suc-le-zero inside)
@@ -35,27 +36,37 @@ beside-length [] ys = omega arith
 beside-length (x ∷ xs) ys =
     omega (arith, length-append (map (λ (y : List ℕ). x ++ y) ys) (beside xs ys), length-map ys (λ (y : List ℕ). x ++ y), beside-length xs ys)
 
-some-second : (a b n : ℕ) → n < a * b → 0 < b
-some-second a zero n p = absurd (omega arith)
-some-second a (suc b) n p = omega arith
+-- by division: the second list is the faster
+abbrev divided : List (List ℕ) → List (List ℕ) → ℕ → List ℕ
+divided xs ys n = getD xs (n / length ys) [] ++ getD ys (n % length ys) []
 
-pub beside-at : (xs ys : List (List ℕ)) (n : ℕ) → n < length (beside xs ys) → getD (beside xs ys) n [] ≡ getD xs (n / length ys) [] ++ getD ys (n % length ys) []
+beside-here : (x : List ℕ) (xs ys : List (List ℕ)) (n : ℕ) → n < length ys → getD (beside (x ∷ xs) ys) n [] ≡ divided (x ∷ xs) ys n
 unfolding beside flatMap
-beside-at [] ys n inside = absurd (not-suc-le-zero inside)
+beside-here x xs ys n here =
+    List·getD-append (map (λ (y : List ℕ). x ++ y) ys) (beside xs ys) [] n (omega (arith, length-map ys (λ (y : List ℕ). x ++ y)))
+    ∙ getD-map (λ (y : List ℕ). x ++ y) ys n [] [] here
+    ∙ rw (div-eq-of-lt here, mod-eq-of-lt here)
+
+beside-past : (x : List ℕ) (xs ys : List (List ℕ)) (n : ℕ) → 0 < length ys → length ys ≤ n → getD (beside xs ys) (n - length ys) [] ≡ divided xs ys (n - length ys) → getD (beside (x ∷ xs) ys) n [] ≡ divided (x ∷ xs) ys n
+unfolding beside flatMap
+beside-past x xs ys n some past rest =
+    let times : n / length ys ≡ suc ((n - length ys) / length ys) = div-eq-sub-div some past ∙ add-one ((n - length ys) / length ys) in
+    getD-past (map (λ (y : List ℕ). x ++ y) ys) (beside xs ys) [] n (n - length ys) (omega (arith, length-map ys (λ (y : List ℕ). x ++ y)))
+    ∙ rest
+    ∙ rw (times, mod-eq-sub-mod past)
+
+some-second : (a b n : ℕ) → n < a * b → 0 < b
+some-second a zero n below = absurd (omega arith)
+some-second a (suc b) n below = omega arith
+
+pub beside-at : (xs ys : List (List ℕ)) (n : ℕ) → n < length xs * length ys → getD (beside xs ys) n [] ≡ getD xs (n / length ys) [] ++ getD ys (n % length ys) []
+beside-at [] ys n inside = absurd (omega arith)
 beside-at (x ∷ xs) ys n inside =
-    let row = map (λ (y : List ℕ). x ++ y) ys in
-    let long : length row ≡ length ys = length-map ys (λ (y : List ℕ). x ++ y) in
+    let some : 0 < length ys = some-second (suc (length xs)) (length ys) n inside in
     tested
     (ltb n (length ys))
-    (λ t.
-    let here : n < length ys = ltb-true n (length ys) t in
-    List·getD-append row (beside xs ys) [] n (omega arith) ∙ getD-map (λ (y : List ℕ). x ++ y) ys n [] [] here ∙ rw (div-eq-of-lt here, mod-eq-of-lt here))
-    (λ f.
-    let past : length ys ≤ n = ltb-false n (length ys) f in
-    let rest : n - length ys < length (beside xs ys) = omega (arith, length-append row (beside xs ys)) in
-    let some : 0 < length ys = some-second (length xs) (length ys) (n - length ys) (omega (arith, beside-length xs ys)) in
-    let times : n / length ys ≡ suc ((n - length ys) / length ys) = div-eq-sub-div some past ∙ add-one ((n - length ys) / length ys) in
-    getD-past row (beside xs ys) [] n (n - length ys) (omega arith) ∙ beside-at xs ys (n - length ys) rest ∙ rw (times, mod-eq-sub-mod past))
+    (λ t. beside-here x xs ys n (ltb-true n (length ys) t))
+    (λ f. let past = ltb-false n (length ys) f in beside-past x xs ys n some past (beside-at xs ys (n - length ys) (omega arith)))
 
 -- ---- the same by their counts
 
@@ -64,7 +75,7 @@ module _ {xs ys : List (List ℕ)} {most most′ n k : ℕ} (x : Counts xs most 
   product-few = mul-le-mul {n₂ = most} {m₂ = most′} (x .few) (y .few)
 
   pub product-fits : T (ltb (most * most′) (2 ^ 64)) → Fits w64 (n * k)
-  product-fits small = record { fits = omega (arith, product-few, ltb→lt (most * most′) (2 ^ 64) small) }
+  product-fits small = fits-below (most * most′) product-few (ltb→lt (most * most′) (2 ^ 64) small)
 
   pub counts-beside : Counts (beside xs ys) (most * most′) (n * k)
   counts-beside = record { is = cc (x .is, y .is, beside-length xs ys); some = mul-le-mul {n₁ = 1} {m₁ = 1} (x .some) (y .some); few = product-few }
@@ -73,48 +84,22 @@ module _ {xs ys : List (List ℕ)} {most most′ n k : ℕ} (x : Counts xs most 
   beside-inside number below = rw (← (counts-beside .is)) below
 
 module _ (xs ys : List (List ℕ)) (most k number : ℕ) (y : Counts ys most k) (inside : number < length (beside xs ys)) where
+  below : number < length xs * length ys
+  below = rw (← (beside-length xs ys)) inside
+
   pub inside-first : number / k < length xs
-  inside-first = div-lt-iff-lt-mul (y .some) .1 (rw (y .is, ← (beside-length xs ys)) inside)
+  inside-first = div-lt-iff-lt-mul (y .some) .1 (rw (y .is) below)
 
   pub inside-second : number % k < length ys
   inside-second = rw (← (y .is)) (mod-lt number (y .some))
 
   pub stands-beside : (p q : List ℕ) → p ≡ getD xs (number / k) [] → q ≡ getD ys (number % k) [] → p ++ q ≡ getD (beside xs ys) number []
-  stands-beside p q first second = rw (first, second, y .is) (sym (beside-at xs ys number inside))
+  stands-beside p q first second = rw (first, second, y .is) (sym (beside-at xs ys number below))
 
   pub found-beside : (p q : List ℕ) (x : Component) → p ≡ getD xs (number / k) [] → q ≡ getD ys (number % k) [] → x ≡ found (p ++ q) → x ≡ found (getD (beside xs ys) number [])
   found-beside p q x first second answer = answer ∙ ap found (stands-beside p q first second)
 
 -- ---- the triples of a shell
-
--- row after row is taken off the number: row r begins at r(r + 1)/2
-pub record Rowed (m number row z : ℕ) : Type 0 where
-  pub within : row ≤ m
-  pub counts : 2 * number ≡ row * (row + 1) + 2 * z
-
-pub rowed-first : (m number : ℕ) → Rowed m number 0 number
-rowed-first m number = record { within = omega arith; counts = omega arith }
-
-pub rowed-more : (m number row z : ℕ) → number < length (triples m) → Rowed m number row z → row < z → Rowed m number (row + 1) (z - (row + 1))
-rowed-more m number row z inside r more =
-    tested
-    (ltb row m)
-    (λ t. let below : row < m = ltb-true row m t in record { within = omega arith; counts = omega (arith, r .counts) })
-    (λ f.
-    let last : row ≡ m = omega (arith, ltb-false row m f, r .within) in
-    let all : 2 * number ≡ m * (m + 1) + 2 * z = rw last at (r .counts) in
-    absurd (omega (arith, triples-twice m)))
-
-lines-at : (m row z number : ℕ) → row ≤ m → 2 * number ≡ row * (row + 1) + 2 * z → getD (triples m) number [] ≡ getD (lines m (m - row)) z []
-unfolding triples descending flatMap
-lines-at m zero z number within counts =
-    let same : number ≡ z = omega arith in
-    let all : m - 0 ≡ m = omega arith in
-    rw (same, all)
-lines-at m (suc row) z number within counts =
-    let one : m - row ≡ suc (m - suc row) = omega arith in
-    lines-at m row (suc row + z) number (omega arith) (omega arith)
-    ∙ rw one (getD-past (line m (suc (m - suc row))) (lines m (m - suc row)) [] (suc row + z) z (omega (arith, line-length m (suc (m - suc row)))))
 
 descending-at : (n z : ℕ) → z ≤ n → getD (descending n) z 0 ≡ n - z
 unfolding descending
@@ -123,18 +108,69 @@ descending-at zero (suc z) inside = absurd (not-suc-le-zero inside)
 descending-at (suc n) zero inside = omega arith
 descending-at (suc n) (suc z) inside = omega (arith, descending-at n z (le-of-suc-le-suc inside))
 
-line-at : (m x z : ℕ) → z ≤ m - x → getD (line m x) z [] ≡ x ∷ (m - x - z) ∷ (m - x - (m - x - z)) ∷ []
-line-at m x z inside =
+row-at : (m x z : ℕ) → z ≤ m - x → getD (rowOf m x) z [] ≡ x ∷ (m - x - z) ∷ (m - x - (m - x - z)) ∷ []
+row-at m x z inside =
     getD-map (λ (y : ℕ). x ∷ y ∷ (m - x - y) ∷ []) (descending (m - x)) z 0 [] (omega (arith, descending-length (m - x)))
     ∙ ap {B = List ℕ} (λ (y : ℕ). x ∷ y ∷ (m - x - y) ∷ []) (descending-at (m - x) z inside)
 
-lines-first : (m x z : ℕ) → z ≤ m - x → getD (lines m x) z [] ≡ getD (line m x) z []
+rows-first : (m x z : ℕ) → z ≤ m - x → getD (rowsFrom m x) z [] ≡ getD (rowOf m x) z []
 unfolding descending flatMap
-lines-first m zero z inside = List·getD-append (line m 0) [] [] z (omega (arith, line-length m 0))
-lines-first m (suc x) z inside = List·getD-append (line m (suc x)) (lines m x) [] z (omega (arith, line-length m (suc x)))
+rows-first m zero z inside = List·getD-append (rowOf m 0) [] [] z (omega (arith, row-length m 0))
+rows-first m (suc x) z inside = List·getD-append (rowOf m (suc x)) (rowsFrom m x) [] z (omega (arith, row-length m (suc x)))
 
-pub triples-at : (m number row z : ℕ) (t : Triple) → Rowed m number row z → z ≤ row → tripleOrders t ≡ rowOrders m row z → tripleOrders t ≡ getD (triples m) number []
-triples-at m number row z t r inside is =
-    let back : m - (m - row) ≡ row = omega (arith, r .within) in
+-- row r has r + 1 triples, so r(r + 1)/2 stand before it
+rows-at : (m row z number : ℕ) → row ≤ m → 2 * number ≡ row * (row + 1) + 2 * z → getD (triples m) number [] ≡ getD (rowsFrom m (m - row)) z []
+unfolding triples descending flatMap
+rows-at m zero z number within counted =
+    let same : number ≡ z = omega arith in
+    let all : m - 0 ≡ m = omega arith in
+    rw (same, all)
+rows-at m (suc row) z number within counted =
+    let one : m - row ≡ suc (m - suc row) = omega arith in
+    rows-at m row (suc row + z) number (omega arith) (omega arith)
+    ∙ rw one (getD-past (rowOf m (suc (m - suc row))) (rowsFrom m (m - suc row)) [] (suc row + z) z (omega (arith, row-length m (suc (m - suc row)))))
+
+pub triples-at : (m row z number : ℕ) → row ≤ m → z ≤ row → 2 * number ≡ row * (row + 1) + 2 * z → getD (triples m) number [] ≡ rowOrders m row z
+triples-at m row z number within inside counted =
+    let back : m - (m - row) ≡ row = omega arith in
     let left : row - (row - z) ≡ z = omega arith in
-    is ∙ sym (lines-at m row z number (r .within) (r .counts) ∙ lines-first m (m - row) z (omega arith) ∙ line-at m (m - row) z (omega arith) ∙ rw (back, left))
+    rows-at m row z number within counted ∙ rows-first m (m - row) z (omega arith) ∙ row-at m (m - row) z (omega arith) ∙ rw (back, left)
+
+-- ---- from the last row back to the number's
+
+-- where a row begins, and that the number is not in a later one
+pub record Rowed (m number row begins : ℕ) : Type 0 where
+  pub within : row ≤ m
+  pub triangle : 2 * begins ≡ row * (row + 1)
+  pub reaches : number ≤ begins + row
+
+-- an order is a byte
+pub rowed-fits : (m : ℕ) → m < 256 → Fits w64 (m * (m + 1))
+rowed-fits m byte = record { fits = omega (arith, mul-le-mul {n₁ = m} {m₁ = m + 1} {n₂ = 256} {m₂ = 256} (omega arith) (omega arith)) }
+
+even : (m : ℕ) → 2 * (m * (m + 1) / 2) ≡ m * (m + 1)
+even zero = refl
+even (suc m) = omega (arith, triples-twice m)
+
+pub rowed-first : (m number : ℕ) → number < length (triples m) → Rowed m number m (m * (m + 1) / 2)
+rowed-first m number inside = record { within = omega arith; triangle = even m; reaches = omega (arith, even m, triples-twice m) }
+
+pub rowed-some : (m number row begins : ℕ) → Rowed m number row begins → number < begins → 1 ≤ row
+rowed-some m number zero begins r before = absurd (omega arith)
+rowed-some m number (suc row) begins r before = omega arith
+
+pub rowed-falls : (m number row begins : ℕ) → Rowed m number row begins → number < begins → row - 1 < row
+rowed-falls m number row begins r before = omega (arith, rowed-some m number row begins r before)
+
+pub rowed-room : (m number row begins : ℕ) → Rowed m number row begins → number < begins → row ≤ begins
+rowed-room m number zero begins r before = omega arith
+rowed-room m number (suc row) begins r before = omega arith
+
+pub rowed-more : (m number row begins : ℕ) → Rowed m number row begins → number < begins → Rowed m number (row - 1) (begins - row)
+rowed-more m number zero begins r before = absurd (omega arith)
+rowed-more m number (suc row) begins r before =
+    let one : suc row - 1 ≡ row = omega arith in
+    rw one (record { within = omega arith; triangle = omega arith; reaches = omega arith })
+
+pub rowed-done : (m number row begins : ℕ) (t : Triple) → Rowed m number row begins → begins ≤ number → tripleOrders t ≡ rowOrders m row (number - begins) → tripleOrders t ≡ getD (triples m) number []
+rowed-done m number row begins t r begun is = is ∙ sym (triples-at m row (number - begins) number (r .within) (omega arith) (omega arith))

@@ -77,18 +77,18 @@ fn in_row(m: u8, row: usize, z: usize) -> Triple
     }
 }
 
-// The triple at a number of a shell's list. Row r begins at r(r + 1)/2 and has r + 1 triples, so taking row after row off the number leaves z.
+// The triple at a number of a shell's list: in the last row that does not begin after it. Row r begins at r(r + 1)/2.
 fn triple_at(m: u8, number: usize) -> Triple
     requires { ⌜ number < length (triples m) ⌝ }
     ensures { λ r. ⌜ tripleOrders r ≡ getD (triples m) number [] ⌝ }
 {
-    let mut row = 0;
-    let mut z = number;
-    while row < z {
-        row += 1;
-        z -= row;
+    let mut row = m as usize;
+    let mut begins = row * (row + 1) / 2;
+    while number < begins {
+        begins -= row;
+        row -= 1;
     }
-    in_row(m, row, z)
+    in_row(m, row, number - begins)
 }
 
 // The pair at a number: the second shell runs fastest.

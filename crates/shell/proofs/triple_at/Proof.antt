@@ -1,26 +1,32 @@
--- `triple_at` meets its contract. The loop's invariant is `Rowed`: the row is the shell's, and what is left of the number counts from where it begins. Assumes nothing.
+-- `triple_at` meets its contract. The loop's invariant is `Rowed`: where the row begins, and that no later row is the number's. Assumes nothing.
 use borrow.Author.Needs.{needs}
-use Rattle.shell.proofs.Places.{Rowed, rowed-first, rowed-more, triples-at}
+use Rattle.shell.proofs.Places.{Rowed, rowed-fits, rowed-first, rowed-some, rowed-falls, rowed-room, rowed-more, rowed-done}
 use Rattle.shell.proofs.triple_at.Statement.{statement}
 use Rattle.shell.proofs.triple_at.Tie as tie
 
 abbrev Inv-loop : tie.InvT-loop
-Inv-loop m number row₀ z₀ row z = Rowed m number row z
+Inv-loop m number row₀ begins₀ row begins = Rowed m number row begins
 
 abbrev μ-loop : tie.MeasureT-loop
-μ-loop m number row₀ z₀ row z = z
+μ-loop m number row₀ begins₀ row begins = row
+
+add-begins : tie.Need-add-begins Inv-loop μ-loop
+add-begins c = search needs
+
+mul-begins : tie.Need-mul-begins Inv-loop μ-loop
+mul-begins c = search rowed-fits
 
 loop-holds : tie.Need-loop-holds Inv-loop μ-loop
 loop-holds c = search rowed-first
 
-add-row : tie.Need-add-row Inv-loop μ-loop
-add-row c = search needs
+sub-begins : tie.Need-sub-begins Inv-loop μ-loop
+sub-begins c = search rowed-room
 
-sub-z : tie.Need-sub-z Inv-loop μ-loop
-sub-z c = search needs
+sub-row : tie.Need-sub-row Inv-loop μ-loop
+sub-row c = search rowed-some
 
 loop-less : tie.Need-loop-less Inv-loop μ-loop
-loop-less c = search needs
+loop-less c = search rowed-falls
 
 loop-again : tie.Need-loop-again Inv-loop μ-loop
 loop-again c = search rowed-more
@@ -29,7 +35,7 @@ in-row-requires : tie.Need-in-row-requires Inv-loop μ-loop
 in-row-requires c κs = search needs
 
 returns : tie.Need-returns Inv-loop μ-loop
-returns c = search triples-at
+returns c = search rowed-done
 
 pub triple-at-spec : {M : Type 1} → statement M
 triple-at-spec =
@@ -37,9 +43,11 @@ triple-at-spec =
     (tie.spec
     Inv-loop
     μ-loop
+    add-begins
+    mul-begins
     loop-holds
-    add-row
-    sub-z
+    sub-begins
+    sub-row
     loop-less
     loop-again
     in-row-requires
