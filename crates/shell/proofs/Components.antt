@@ -11,7 +11,7 @@ use Rattle.kind.specs.Limits.{mostOrder}
 use Rattle.laws.proofs.Cases.{or-false-both}
 use Rattle.shell.specs.declared.Component.{Component}
 use Rattle.shell.specs.Shells.{descending, triples, beside, pairs, quadruples, refused, found, component, shell2Of, shell4Of}
-use Rattle.shell.specs.inner.Counted.{Counts}
+use Rattle.shell.specs.inner.Rows.{Counts}
 use Rattle.shell.proofs.Places.{counts-beside, beside-inside}
 
 pub low-first : (a b : ℕ) (r : Bool) → r ≡ (ltb mostOrder a || ltb mostOrder b) → r ≡ false → a ≤ mostOrder

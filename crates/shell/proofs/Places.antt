@@ -2,7 +2,7 @@
 use Prim.Native.Nat.{ℕ, zero, suc, _+_, _*_, _-_, _/_, _%_, _^_, _≤_, _<_}
 use mathlib.Core.Path.{_≡_, refl, sym, ap, _∙_}
 use mathlib.Core.List.{List, [], _∷_, _++_, map, flatMap}
-use native.Mathlib.Nat.{not-suc-le-zero, le-of-suc-le-suc, div-eq-of-lt, mod-eq-of-lt, div-eq-sub-div, mod-eq-sub-mod, mod-lt, div-lt-iff-lt-mul, mul-le-mul}
+use native.Mathlib.Nat.{div-eq-of-lt, mod-eq-of-lt, div-eq-sub-div, mod-eq-sub-mod, mod-lt, div-lt-iff-lt-mul, mul-le-mul}
 use native.Mathlib.Numerals.{add-one}
 use native.Mathlib.Omega.{arith}
 use borrow.Author.Tests.{ltb-true, ltb-false}
@@ -15,14 +15,9 @@ use Rattle.laws.proofs.Cases.{tested}
 use Rattle.laws.proofs.Counting.{fits-below}
 use Rattle.shell.specs.declared.Triple.{Triple}
 use Rattle.shell.specs.declared.Component.{Component}
-use Rattle.shell.specs.Shells.{descending, triples, beside, found}
-use Rattle.shell.specs.inner.Counted.{tripleOrders, rowOrders, Counts}
-use Rattle.shell.proofs.Listing.{rowOf, rowsFrom, row-length, descending-length, triples-twice}
-
-getD-map : {A B : Type 0} (f : A → B) (l : List A) (n : ℕ) (d : A) (e : B) → n < length l → getD (map f l) n e ≡ f (getD l n d)
-getD-map f [] n d e inside = absurd (not-suc-le-zero inside)
-getD-map f (x ∷ l) zero d e inside = refl
-getD-map f (x ∷ l) (suc n) d e inside = getD-map f l n d e (le-of-suc-le-suc inside)
+use Rattle.shell.specs.Shells.{triples, beside, found}
+use Rattle.shell.specs.inner.Rows.{tripleOrders, rowOf, rowOrders, Counts}
+use Rattle.shell.proofs.Listing.{getD-map, rowsFrom, row-length, row-at, rows-all, rows-more, triples-twice}
 
 -- past the first list, what stands is the second's
 getD-past : {A : Type 0} (xs ys : List A) (d : A) (n k : ℕ) → n ≡ length xs + k → getD (xs ++ ys) n d ≡ getD ys k d
@@ -101,40 +96,20 @@ module _ (xs ys : List (List ℕ)) (most k number : ℕ) (y : Counts ys most k) 
 
 -- ---- the triples of a shell
 
-descending-at : (n z : ℕ) → z ≤ n → getD (descending n) z 0 ≡ n - z
-unfolding descending
-descending-at zero zero inside = refl
-descending-at zero (suc z) inside = absurd (not-suc-le-zero inside)
-descending-at (suc n) zero inside = omega arith
-descending-at (suc n) (suc z) inside = omega (arith, descending-at n z (le-of-suc-le-suc inside))
-
-row-at : (m x z : ℕ) → z ≤ m - x → getD (rowOf m x) z [] ≡ x ∷ (m - x - z) ∷ (m - x - (m - x - z)) ∷ []
-row-at m x z inside =
-    getD-map (λ (y : ℕ). x ∷ y ∷ (m - x - y) ∷ []) (descending (m - x)) z 0 [] (omega (arith, descending-length (m - x)))
-    ∙ ap {B = List ℕ} (λ (y : ℕ). x ∷ y ∷ (m - x - y) ∷ []) (descending-at (m - x) z inside)
-
-rows-first : (m x z : ℕ) → z ≤ m - x → getD (rowsFrom m x) z [] ≡ getD (rowOf m x) z []
-unfolding descending flatMap
-rows-first m zero z inside = List·getD-append (rowOf m 0) [] [] z (omega (arith, row-length m 0))
-rows-first m (suc x) z inside = List·getD-append (rowOf m (suc x)) (rowsFrom m x) [] z (omega (arith, row-length m (suc x)))
-
--- row r has r + 1 triples, so r(r + 1)/2 stand before it
-rows-at : (m row z number : ℕ) → row ≤ m → 2 * number ≡ row * (row + 1) + 2 * z → getD (triples m) number [] ≡ getD (rowsFrom m (m - row)) z []
-unfolding triples descending flatMap
+rows-at : (m row z number : ℕ) → row ≤ m → 2 * number ≡ row * (row + 1) + 2 * z → getD (triples m) number [] ≡ getD (rowsFrom m row) z []
 rows-at m zero z number within counted =
     let same : number ≡ z = omega arith in
-    let all : m - 0 ≡ m = omega arith in
-    rw (same, all)
+    rw (rows-all m, same)
 rows-at m (suc row) z number within counted =
-    let one : m - row ≡ suc (m - suc row) = omega arith in
-    rows-at m row (suc row + z) number (omega arith) (omega arith)
-    ∙ rw one (getD-past (rowOf m (suc (m - suc row))) (rowsFrom m (m - suc row)) [] (suc row + z) z (omega (arith, row-length m (suc (m - suc row)))))
+    rows-at m row (row + 1 + z) number (omega arith) (omega arith)
+    ∙ rw (rows-more m row (omega arith)) (getD-past (rowOf m (m - row)) (rowsFrom m (suc row)) [] (row + 1 + z) z (omega (arith, row-length m row (omega arith))))
 
+-- row r begins at r(r + 1)/2
 pub triples-at : (m row z number : ℕ) → row ≤ m → z ≤ row → 2 * number ≡ row * (row + 1) + 2 * z → getD (triples m) number [] ≡ rowOrders m row z
 triples-at m row z number within inside counted =
-    let back : m - (m - row) ≡ row = omega arith in
-    let left : row - (row - z) ≡ z = omega arith in
-    rows-at m row z number within counted ∙ rows-first m (m - row) z (omega arith) ∙ row-at m (m - row) z (omega arith) ∙ rw (back, left)
+    rows-at m row z number within counted
+    ∙ rw (rows-more m row within) (List·getD-append (rowOf m (m - row)) (rowsFrom m (suc row)) [] z (omega (arith, row-length m row within)))
+    ∙ row-at m row z within inside
 
 -- ---- from the last row back to the number's
 

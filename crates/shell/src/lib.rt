@@ -1,14 +1,14 @@
 // Shell lists: the triples of a shell as bytes, and a pair's or a quadruple's component by its number.
-ghost use Prim.Native.Nat.{_+_, _*_, _≤_, _<_};
+ghost use Prim.Native.Nat.{_+_, _*_, _-_, _≤_, _<_};
 ghost use mathlib.Core.Path.{_≡_};
 ghost use mathlib.Core.Bool.{_||_};
-ghost use mathlib.Core.List.{[], _++_};
+ghost use mathlib.Core.List.{[], _++_, flatten};
 ghost use lib.Dec.{ltb};
 ghost use lib.ListN.{length, getD};
 ghost use lib.Seq.{sets};
 ghost use Rattle.kind.specs.Limits.{mostOrder};
 ghost use Rattle.shell.specs.Shells.{triples, shellBytes, ListTold, pairs, quadruples, refused, found, component, shell2Of, shell4Of};
-ghost use Rattle.shell.specs.inner.Counted.{tripleOrders, pairOrders, rowOrders, mostTriples, Counts};
+ghost use Rattle.shell.specs.inner.Rows.{tripleOrders, pairOrders, rowOf, rowOrders, mostTriples, Counts};
 use kind::Kind;
 
 // The list's length in bytes and its triples (D-31).
@@ -174,15 +174,29 @@ fn put(out: &mut [u8], at: usize, t: Triple)
     out[at + 2] = t.z;
 }
 
-// The whole list from the front of what is lent.
-fn put_list(out: &mut [u8], m: u8, many: usize)
-    requires { ⌜ (many ≡ length (triples m)) × (3 * many ≤ length (now out)) ⌝ }
+// A row of a shell's list from a place on.
+fn put_row(out: &mut [u8], at: usize, m: u8, row: usize)
+    requires { ⌜ (row ≤ m) × (at + 3 * (row + 1) ≤ length (now out)) ⌝ }
+    ensures { λ r. ⌜ now (out .exit) ≡ sets (now (out .entry)) at (flatten (rowOf m (m - row))) ⌝ }
+{
+    let mut z = 0;
+    while z <= row {
+        put(out, at + 3 * z, in_row(m, row, z));
+        z += 1;
+    }
+}
+
+// The whole list from the front of what is lent, row after row.
+fn put_list(out: &mut [u8], m: u8)
+    requires { ⌜ length (shellBytes m) ≤ length (now out) ⌝ }
     ensures { λ r. ⌜ now (out .exit) ≡ sets (now (out .entry)) 0 (shellBytes m) ⌝ }
 {
-    let mut number = 0;
-    while number < many {
-        put(out, 3 * number, triple_at(m, number));
-        number += 1;
+    let mut row = 0;
+    let mut at = 0;
+    while row <= m as usize {
+        put_row(out, at, m, row);
+        row += 1;
+        at += 3 * row;
     }
 }
 
@@ -199,6 +213,6 @@ pub fn get_ijk_list(m: u8, out: &mut [u8], start: usize) -> Listed
     if out.len() - start < 3 * triples {
         return Listed::Refused(6);
     }
-    put_list(&mut out[start..], m, triples);
+    put_list(&mut out[start..], m);
     Listed::Bytes(3 * triples, triples as u32)
 }

@@ -32,7 +32,9 @@ part-put-list-end : tie.Need-part-put-list-end
 part-put-list-end c = search needs
 
 put-list-requires : tie.Need-put-list-requires
-put-list-requires c κs = (search needs, search part-room)
+put-list-requires c κs =
+    let a = c .before .before .before .before .before .before .args in
+    part-room (a .m) (a .start) _ (a .out .now) (c .before .before .count .ensures .is) (c .before .if3 .left)
 
 mul-t7 : tie.Need-mul-t7
 mul-t7 c = search needs

@@ -1,30 +1,30 @@
 -- `put_list` meets its contract. The loop's invariant is `Putting`: what is left of the list makes the whole; it gets shorter. Assumes nothing.
-use Prim.Native.Nat.{_-_}
+use Prim.Native.Nat.{_+_, _-_}
 use borrow.Author.Needs.{needs}
-use Rattle.shell.proofs.Listing.{Putting, putting-first, putting-more, putting-done}
+use Rattle.shell.proofs.Listing.{Putting, putting-first, putting-room, putting-more, putting-done}
 use Rattle.shell.proofs.put_list.Statement.{statement}
 use Rattle.shell.proofs.put_list.Tie as tie
 
 abbrev Inv-loop : tie.InvT-loop
-Inv-loop out₀ m many number₀ out number = Putting m out₀ out number
+Inv-loop out₀ m row₀ at₀ out row at = Putting m out₀ out row at
 
 abbrev μ-loop : tie.MeasureT-loop
-μ-loop out₀ m many number₀ out number = many - number
+μ-loop out₀ m row₀ at₀ out row at = m + 1 - row
 
 loop-holds : tie.Need-loop-holds Inv-loop μ-loop
 loop-holds c = search putting-first
 
-mul-put : tie.Need-mul-put Inv-loop μ-loop
-mul-put c = search needs
+put-row-requires : tie.Need-put-row-requires Inv-loop μ-loop
+put-row-requires c κs = (search needs, search putting-room)
 
-triple-at-requires : tie.Need-triple-at-requires Inv-loop μ-loop
-triple-at-requires c κs = search needs
+add-row : tie.Need-add-row Inv-loop μ-loop
+add-row c = search needs
 
-put-requires : tie.Need-put-requires Inv-loop μ-loop
-put-requires c κs = search needs
+mul-at : tie.Need-mul-at Inv-loop μ-loop
+mul-at c = search needs
 
-add-number : tie.Need-add-number Inv-loop μ-loop
-add-number c = search needs
+add-at : tie.Need-add-at Inv-loop μ-loop
+add-at c = search needs
 
 loop-less : tie.Need-loop-less Inv-loop μ-loop
 loop-less c = search needs
@@ -45,10 +45,10 @@ put-list-spec =
     Inv-loop
     μ-loop
     loop-holds
-    mul-put
-    triple-at-requires
-    put-requires
-    add-number
+    put-row-requires
+    add-row
+    mul-at
+    add-at
     loop-less
     loop-again
     same-length

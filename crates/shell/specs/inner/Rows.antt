@@ -1,11 +1,12 @@
--- What the code holds of a component, and how many there are of a list.
+-- How the code goes over a shell's list, by rows of one x; what it holds of a component; and how many there are of a list.
 use Prim.Native.Nat.{ℕ, _+_, _*_, _-_, _/_, _≤_, _<_}
 use mathlib.Core.Path.{_≡_}
-use mathlib.Core.List.{List, [], _∷_, _++_}
+use mathlib.Core.List.{List, [], _∷_, _++_, map}
 use lib.ListN.{length}
 use Rattle.kind.specs.Limits.{mostOrder}
 use Rattle.shell.specs.declared.Triple.{Triple}
 use Rattle.shell.specs.declared.Pair.{Pair}
+use Rattle.shell.specs.Shells.{descending}
 
 abbrev pub tripleOrders : Triple → List ℕ
 tripleOrders t = t .x ∷ t .y ∷ t .z ∷ []
@@ -13,7 +14,11 @@ tripleOrders t = t .x ∷ t .y ∷ t .z ∷ []
 abbrev pub pairOrders : Pair → List ℕ
 pairOrders c = tripleOrders (c .first) ++ tripleOrders (c .second)
 
--- of order m, in row `row`, where x is that much below m
+-- the triples of order m with this x; row r is the one of x = m - r
+abbrev pub rowOf : ℕ → ℕ → List (List ℕ)
+rowOf m x = map (λ (y : ℕ). x ∷ y ∷ (m - x - y) ∷ []) (descending (m - x))
+
+-- the one of row r with this z
 abbrev pub rowOrders : ℕ → ℕ → ℕ → List ℕ
 rowOrders m row z = (m - row) ∷ (row - z) ∷ z ∷ []
 
