@@ -1,6 +1,8 @@
 //! The table: ratios of both sides, natively beside the goals.
 
+use crate::components::{self, COUNT};
 use crate::measure::Row;
+use std::time::Duration;
 
 /// The least ratios that are asked for: of an expansion with Boys orders and without, and of an evaluation.
 const WITH_BOYS: f64 = 10.0;
@@ -8,6 +10,8 @@ const WITHOUT_BOYS: f64 = 6.0;
 const EVALUATION: f64 = 15.0;
 /// The most times that a refusal may take of the largest request that is accepted.
 const REFUSAL: f64 = 3.0;
+/// The most times that the last component may take of the first.
+const COMPONENT: f64 = 2.0;
 
 /// A table whose rows end in a goal and in whether it is met, where there are goals.
 struct Table {
@@ -80,6 +84,15 @@ impl Table {
             self.row(&cells, REFUSAL, took / largest <= REFUSAL);
         }
     }
+
+    fn print_components(&self) {
+        let [first, last] = components::first_and_last(Duration::from_millis(100));
+        self.head("component of four shells of order 6 | ns a call | times the first");
+        for (number, took) in [(0, first), (COUNT - 1, last)] {
+            let cells = format!("{} | {:.1} | {:.2}", number, took, took / first);
+            self.row(&cells, COMPONENT, took / first <= COMPONENT);
+        }
+    }
 }
 
 fn heading(columns: &str) {
@@ -127,4 +140,5 @@ pub fn print(rows: &[Row], has_goals: bool) {
     let largest = accepted.iter().find(|row| row.terms == most);
     let time = largest.map_or(f64::NAN, |row| row.expansion[1]);
     table.print_refusals(&refused, time);
+    table.print_components();
 }
