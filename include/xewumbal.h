@@ -149,7 +149,9 @@ xew_value xew_evaluate(const uint8_t *roll, size_t roll_len, xew_centre a, xew_c
                        double aux, const double *boys, size_t boys_len);
 
 /* J and K of the integrals i and the density d, row by row: n from 1 to 16, i has n*n*n*n floats, d, j and k have n*n.
- * The answer is the refusal. Refusals: 12, 8, 11. */
+ * Every entry is summed on its own, from 0.0, l outer and s inner: J at (m, n) over i at (m, n, l, s) times d at (l, s),
+ * K at (m, n) over i at (m, l, n, s) times d at (l, s). d need not be symmetric, and nothing is mirrored: even where i and
+ * d are symmetric, K may differ in a last bit across its diagonal. The answer is the refusal. Refusals: 12, 8, 11. */
 uint8_t xew_jk(size_t n, const double *i, size_t i_len, const double *d, size_t d_len, double *j, size_t j_len,
                double *k, size_t k_len);
 

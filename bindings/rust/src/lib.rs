@@ -255,7 +255,8 @@ pub fn evaluate(roll: &[u8], a: Centre, b: Centre, c: Centre, d: Centre, aux: f6
 }
 
 /// Writes J and K of the integrals `i` and the density `d`, row by row: `n` is 1 to 16, `i` has n⁴ floats, `d`, `j` and `k`
-/// have n².
+/// have n². Every entry is summed on its own: J at (μ, ν) over `i` at (μ, ν, λ, σ) times `d` at (λ, σ), K at (μ, ν) over `i`
+/// at (μ, λ, ν, σ) times `d` at (λ, σ). `d` need not be symmetric, and nothing is mirrored.
 pub fn jk(n: usize, i: &[f64], d: &[f64], j: &mut [f64], k: &mut [f64]) -> Matrices {
     Refusal::of(raw::jk(n, i, d, j, k), 0).map_or(Matrices::Written, Matrices::Refused)
 }

@@ -106,7 +106,7 @@ fn lend(s: Sizes, floats: &mut [f64]) -> Told {
 
 fn summed(s: Sizes, floats: &mut [f64], j: &mut [f64], k: &mut [f64]) -> Told {
     let i = least(s.i, floats.len());
-    let answer = jk::JK_inmem(s.n, &floats[0..i], &floats[i..], j, k);
+    let answer = jk::jk_by_entry(s.n, &floats[0..i], &floats[i..], j, k);
     lay(floats, j, k);
     told(answer, j, k)
 }

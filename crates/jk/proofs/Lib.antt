@@ -1,5 +1,6 @@
 pub mod Sizes
 pub mod Sums
-pub mod Mirror
+pub mod Places
 pub mod Outcome
+pub mod Symmetry
 pub mod Only

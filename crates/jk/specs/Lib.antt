@@ -1,3 +1,4 @@
 pub mod Sums
 pub mod Outcome
+pub mod Symmetry
 pub mod inner

@@ -1,5 +1,5 @@
--- 01, "Numbers": J and K as JK_inmem of basis.rs sums them. Slices are row by row.
-use Prim.Native.Nat.{ℕ, zero, suc, _+_, _*_, _/_, _%_, min, max}
+-- 02, Q-3: J and K entry by entry, as JK_direct of basis.rs sums them. 01, "Numbers": slices are row by row.
+use Prim.Native.Nat.{ℕ, zero, suc, _+_, _*_, _/_, _%_}
 use mathlib.Core.List.{List, [], _∷_}
 use lib.Ieee.{Float, nan}
 use lib.ListN.{getD}
@@ -29,13 +29,9 @@ unfoldable pub overLambda : (ℕ → ℕ → Float) → ℕ → ℕ → ℕ → 
 overLambda f n zero lambda sum = sum
 overLambda f n (suc left) lambda sum = overLambda f n left (suc lambda) (overSigma (f lambda) n 0 sum)
 
--- one entry, from 0.0
+-- every entry at (mu, nu) is summed on its own, from 0.0
 unfoldable pub entryOf : Matrix → ℕ → List Float → List Float → ℕ → ℕ → Float
 entryOf m n i d mu nu = overLambda (product m n i d mu nu) n n 0 0·0
-
--- for nu ≤ mu, then mirrored
-unfoldable pub mirroredOf : Matrix → ℕ → List Float → List Float → ℕ → ℕ → Float
-mirroredOf m n i d mu nu = entryOf m n i d (max mu nu) (min mu nu)
 
 -- so many values of a function, from p on
 unfoldable pub listFrom : (ℕ → Float) → ℕ → ℕ → List Float
@@ -44,4 +40,4 @@ listFrom f (suc left) p = f p ∷ listFrom f left (suc p)
 
 -- a matrix row by row
 unfoldable pub matrixOf : Matrix → ℕ → List Float → List Float → List Float
-matrixOf m n i d = listFrom (λ (p : ℕ). mirroredOf m n i d (p / n) (p % n)) (n * n) 0
+matrixOf m n i d = listFrom (λ (p : ℕ). entryOf m n i d (p / n) (p % n)) (n * n) 0

@@ -1,13 +1,13 @@
-// J and K from the integrals I and the density D, as JK_inmem of basis.rs sums them.
-ghost use Prim.Native.Nat.{ℕ, _+_, _*_, _/_, _%_, _<_, _≤_};
+// J and K from the integrals I and the density D, entry by entry, as JK_direct of basis.rs sums them.
+ghost use Prim.Native.Nat.{ℕ, _+_, _*_, _<_, _≤_};
 ghost use mathlib.Core.Path.{_≡_};
 ghost use mathlib.Core.Bool.{_&&_};
 ghost use lib.Ieee.{nan};
 ghost use lib.ListN.{length, take, getD};
 ghost use Rattle.kind.specs.Limits.{mostSize};
 ghost use Rattle.geometry.specs.Floats.{_⊗_, allFinite};
-ghost use Rattle.jk.specs.Sums.{overSigma, entryOf, mirroredOf, matrixOf};
-ghost use Rattle.jk.specs.inner.Rows.{rowOf, mostRows, ShapedMay, FromOn};
+ghost use Rattle.jk.specs.Sums.{overSigma, entryOf, matrixOf};
+ghost use Rattle.jk.specs.inner.Rows.{rowOf, mostRows, ShapedMay};
 ghost use Rattle.jk.specs.Outcome.{outcome, longOf, sizedOf, summedOf, jkOf};
 use geometry::all_finite;
 use kind::Kind;
@@ -113,29 +113,16 @@ fn entry(m: Matrix, n: usize, i: &[f64], d: &[f64], mu: usize, nu: usize) -> f64
     sum
 }
 
-// An entry for nu ≤ mu; above the diagonal what stands mirrored, further on.
-fn value(m: Matrix, n: usize, i: &[f64], d: &[f64], done: &[f64], p: usize) -> f64
-    requires { ⌜ ShapedMay n (now i) (now d) × (p < n * n) × FromOn m n (now i) (now d) (now done) (p + 1) ⌝ }
-    ensures { λ r. ⌜ r ≡ mirroredOf m n (now (i .entry)) (now (d .entry)) (p / n) (p % n) ⌝ }
-{
-    let mu = p / n;
-    let nu = p % n;
-    if nu <= mu {
-        return entry(m, n, i, d, mu, nu);
-    }
-    done[place(n, nu, mu)]
-}
-
-// The whole matrix in the first places, from its end on, so that each sum is made once (D-28).
+// The whole matrix in the first places, each entry by its own sum (D-28).
 fn entries(m: Matrix, n: usize, i: &[f64], d: &[f64]) -> [f64; ROOM]
     requires { ⌜ ShapedMay n (now i) (now d) ⌝ }
     ensures { λ r. ⌜ take (n * n) r ≡ matrixOf m n (now (i .entry)) (now (d .entry)) ⌝ }
 {
     let mut all = [0.0; ROOM];
-    let mut p = n * n;
-    while 0 < p {
-        p -= 1;
-        all[p] = value(m, n, i, d, &all, p);
+    let mut p = 0;
+    while p < n * n {
+        all[p] = entry(m, n, i, d, p / n, p % n);
+        p += 1;
     }
     all
 }
@@ -168,7 +155,7 @@ fn write(n: usize, i: &[f64], d: &[f64], j: &mut [f64], k: &mut [f64]) -> Answer
 }
 
 // J and K of I and D, or 12, 8 or 11 with both as they were.
-pub fn JK_inmem(n: usize, i: &[f64], d: &[f64], j: &mut [f64], k: &mut [f64]) -> Answer
+pub fn jk_by_entry(n: usize, i: &[f64], d: &[f64], j: &mut [f64], k: &mut [f64]) -> Answer
     ensures { λ r. ⌜ outcome r (now (j .exit)) (now (k .exit)) ≡ jkOf n (now (i .entry)) (now (d .entry)) (now (j .entry)) (now (k .entry)) ⌝ }
 {
     if sized(n, i.len(), d.len(), j.len(), k.len()) {

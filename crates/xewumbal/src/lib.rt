@@ -181,5 +181,5 @@ pub extern "C" fn xew_evaluate(
 pub extern "C" fn xew_jk(n: usize, i: &[f64], d: &[f64], j: &mut [f64], k: &mut [f64]) -> u8
     ensures { λ r. ⌜ JkCallTold n (now (i .entry)) (now (d .entry)) (now (j .entry)) (now (k .entry)) r (now (j .exit)) (now (k .exit)) ⌝ }
 {
-    answers::matrices(jk::JK_inmem(n, i, d, j, k))
+    answers::matrices(jk::jk_by_entry(n, i, d, j, k))
 }

@@ -1,5 +1,5 @@
 -- `write` meets its contract: what stands in the first places is each matrix. Assumes nothing.
-use Rattle.jk.proofs.Mirror.{prefix-room, as-long, counted}
+use Rattle.jk.proofs.Places.{prefix-room, as-long, counted}
 use Rattle.jk.proofs.Outcome.{written, not-written}
 use borrow.Author.Needs.{needs}
 use Rattle.jk.proofs.write.Statement.{statement}

@@ -7,7 +7,7 @@ use lib.ListN.{length, getD}
 use Rattle.kind.specs.Limits.{mostSize}
 use Rattle.jk.specs.declared.Matrix.{Matrix}
 use Rattle.jk.specs.declared.Matrix.the-variants.{J, K}
-use Rattle.jk.specs.Sums.{mirroredOf}
+use Rattle.jk.specs.Sums.{entryOf}
 
 -- the row of I that an entry sums over sigma
 unfoldable pub rowOf : Matrix → ℕ → ℕ → ℕ → ℕ → ℕ
@@ -25,7 +25,7 @@ pub record ShapedMay (n : ℕ) (i d : List Float) : Type 0 where
   pub whole : length i ≡ n * n * n * n
   pub square : length d ≡ n * n
 
--- the matrix stands in the first places from p on
-pub record FromOn (m : Matrix) (n : ℕ) (i d done : List Float) (p : ℕ) : Type 0 where
+-- the first p entries of the matrix stand
+pub record UpTo (m : Matrix) (n : ℕ) (i d done : List Float) (p : ℕ) : Type 0 where
   pub room : length done ≡ mostSize * mostSize
-  pub stands : (q : ℕ) → p ≤ q → q < n * n → getD done q nan ≡ mirroredOf m n i d (q / n) (q % n)
+  pub stands : (q : ℕ) → q < p → getD done q nan ≡ entryOf m n i d (q / n) (q % n)

@@ -4,8 +4,8 @@ use borrow.Author.Needs.{needs}
 use Rattle.xewumbal.proofs.xew_jk.Statement.{statement}
 use Rattle.xewumbal.proofs.xew_jk.Tie as tie
 
-JK-inmem-requires : tie.Need-JK-inmem-requires
-JK-inmem-requires c κs = search needs
+jk-by-entry-requires : tie.Need-jk-by-entry-requires
+jk-by-entry-requires c κs = search needs
 
 matrices-requires : tie.Need-matrices-requires
 matrices-requires c κs = search needs
@@ -21,4 +21,4 @@ returns c = search jk-answered
 
 pub xew-jk-spec : {M : Type 1} → statement M
 xew-jk-spec =
-    tie.close (tie.spec JK-inmem-requires matrices-requires same-length same-length-2 returns)
+    tie.close (tie.spec jk-by-entry-requires matrices-requires same-length same-length-2 returns)

@@ -1,9 +1,9 @@
--- `JK_inmem` meets its contract: a law for each way out. Assumes nothing.
+-- `jk_by_entry` meets its contract: a law for each way out. Assumes nothing.
 use Rattle.jk.proofs.Outcome.{wrong-size, not-finite, goes-on}
 use Rattle.jk.proofs.Sizes.{sized-shape, sized-j, sized-k}
 use borrow.Author.Needs.{needs}
-use Rattle.jk.proofs.JK_inmem.Statement.{statement}
-use Rattle.jk.proofs.JK_inmem.Tie as tie
+use Rattle.jk.proofs.jk_by_entry.Statement.{statement}
+use Rattle.jk.proofs.jk_by_entry.Tie as tie
 
 sized-requires : tie.Need-sized-requires
 sized-requires c κs = search needs
@@ -29,8 +29,8 @@ returns-2 c = search not-finite
 returns-3 : tie.Need-returns-3
 returns-3 c = search wrong-size
 
-pub JK-inmem-spec : {M : Type 1} → statement M
-JK-inmem-spec =
+pub jk-by-entry-spec : {M : Type 1} → statement M
+jk-by-entry-spec =
     tie.close
     (tie.spec
     sized-requires
