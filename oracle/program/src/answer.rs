@@ -216,7 +216,7 @@ fn table_of(kind: u8, centres: &[Centre; 4]) -> Result<Vec<f64>, Refusal> {
 }
 
 /// The same bits, or no number on both sides.
-fn same(left: &[f64], right: &[f64]) -> bool {
+pub fn same(left: &[f64], right: &[f64]) -> bool {
     left.len() == right.len()
         && left
             .iter()
@@ -224,9 +224,18 @@ fn same(left: &[f64], right: &[f64]) -> bool {
             .all(|(x, y)| x.to_bits() == y.to_bits() || x.is_nan() && y.is_nan())
 }
 
+/// J and K of JK_direct's loops; the second reading must sum the same, as for a table.
 fn jk(out: &mut Vec<u8>, n: u64, lengths: &Lengths, i: &[f64], d: &[f64]) -> Result<(), Refusal> {
     second::check_matrices(n, lengths, i, d)?;
     let (j, k) = rust_side::j_and_k(n as usize, i, d);
+    let (j2, k2) = second::j_and_k(n as usize, i, d);
+    assert!(
+        same(&j, &j2) && same(&k, &k2),
+        "the Rust and the second reading differ: J or K of {}, {:?} {:?}",
+        n,
+        i,
+        d
+    );
     second::check_results(&[&j, &k])?;
     write(out, "J");
     write_floats(out, &j);

@@ -2,9 +2,9 @@
 
 use crate::parse::Centre;
 use crate::second::{self, Header, Term, NOW};
-use ndarray::Array;
+use ndarray::{Array, Ix2};
 use rchem::integrals::{given, os86};
-use rchem::{basis, shell};
+use rchem::{basis, direct, shell};
 use std::cell::RefCell;
 
 /// get_ijk_list as bytes, three to a triple.
@@ -163,12 +163,25 @@ pub fn geometry_and_table(kind: u8, centres: &[Centre; 4]) -> (Vec<f64>, Vec<f64
     given::kept()
 }
 
-/// J and K of JK_inmem, row by row.
-pub fn j_and_k(n: usize, i: &[f64], d: &[f64]) -> (Vec<f64>, Vec<f64>) {
+/// J and K, row by row.
+pub type Matrices = (Vec<f64>, Vec<f64>);
+
+/// Those of JK_direct's own loops, fed with I.
+pub fn j_and_k(n: usize, i: &[f64], d: &[f64]) -> Matrices {
+    let (j, k) = direct::j_and_k(i, &density(n, d));
+    (j.entries().to_vec(), k.entries().to_vec())
+}
+
+/// Those of JK_inmem, which no question asks for: docs/DIFFERENCES.md shows how they differ.
+pub fn j_and_k_in_memory(n: usize, i: &[f64], d: &[f64]) -> Matrices {
     let mut tensor = Array::zeros((n, n, n, n));
     tensor.entries_mut().copy_from_slice(i);
+    let (j, k) = basis::JK_inmem(&tensor, &density(n, d));
+    (j.entries().to_vec(), k.entries().to_vec())
+}
+
+fn density(n: usize, d: &[f64]) -> Array<f64, Ix2> {
     let mut density = Array::zeros((n, n));
     density.entries_mut().copy_from_slice(d);
-    let (j, k) = basis::JK_inmem(&tensor, &density);
-    (j.entries().to_vec(), k.entries().to_vec())
+    density
 }

@@ -2,14 +2,15 @@
 //!
 //! Everything that os86.rs, shell.rs and basis.rs do not know stands here: limits and
 //! refusals, the roll and its reader, the cursor, the listing, the capped count of histories
-//! and the checks of an evaluation. Nothing here calls the unchanged Rust. The step rules and
-//! the geometry are here too, so that the two can be held against each other.
+//! and the checks of an evaluation. Nothing here calls the unchanged Rust. The step rules, the
+//! geometry and the sums of J and K are here too, so that the two can be held against each other.
 
 mod census;
 mod checks;
 mod geometry;
 mod limits;
 mod listing;
+mod matrices;
 mod refusal;
 mod roll;
 mod steps;
@@ -20,6 +21,7 @@ pub use checks::{check_request, check_results, check_room, check_shell, check_ta
 pub use geometry::geometry_and_table;
 pub use limits::{orders_used, table_size, Limits, BEFORE, NOW};
 pub use listing::listing;
+pub use matrices::j_and_k;
 pub use refusal::{refusal, Refusal};
 pub use roll::{measure, read_number, write_number, write_roll, Header, Step, Unread};
 pub use steps::{count_histories, terms, Term};

@@ -1,5 +1,5 @@
 //! Stand-in: a dense array of f64, row by row, with what basis.rs uses of ndarray.
-//! It only keeps numbers; the arithmetic of JK_inmem is basis.rs's own.
+//! It only keeps numbers; the arithmetic of JK_direct and JK_inmem is basis.rs's own.
 
 use std::marker::PhantomData;
 use std::ops::{Index, IndexMut};
