@@ -10,6 +10,8 @@ pub enum Taste {
     Ordinary,
     /// Ordinary, with an extreme one here and there.
     Mixed,
+    /// Zeros of both signs, subnormals and what multiplies to such, among numbers of few bits.
+    Small,
     /// Finite values of any size.
     Extreme,
     /// Any bits at all, among them infinities and no numbers.
@@ -21,6 +23,17 @@ pub fn taste(random: &mut Random) -> Taste {
         0..=10 => Taste::Ordinary,
         11..=14 => Taste::Mixed,
         15..=17 => Taste::Extreme,
+        _ => Taste::Any,
+    }
+}
+
+/// For I and D: sums of extreme values are seldom finite, those of small ones are.
+pub fn matrix_taste(random: &mut Random) -> Taste {
+    match random.below(20) {
+        0..=5 => Taste::Ordinary,
+        6..=9 => Taste::Mixed,
+        10..=14 => Taste::Small,
+        15..=16 => Taste::Extreme,
         _ => Taste::Any,
     }
 }
@@ -45,9 +58,33 @@ const EXTREMES: [f64; 15] = [
 
 fn ordinary(random: &mut Random) -> f64 {
     match random.below(4) {
-        // Few bits: sums and products are often exact, and values are often equal.
-        0 => random.from_to(0, 16) as f64 / 4.0 - 2.0,
+        0 => few_bits(random),
         _ => 10.0 * random.fraction() - 5.0,
+    }
+}
+
+/// Sums and products are often exact, and values are often equal.
+fn few_bits(random: &mut Random) -> f64 {
+    random.from_to(0, 16) as f64 / 4.0 - 2.0
+}
+
+fn small(random: &mut Random) -> f64 {
+    let size = match random.below(8) {
+        0..=2 => 0.0,
+        3 => 5e-324,
+        4 => f64::from_bits(random.bits() >> 12),
+        5 => f64::MIN_POSITIVE * random.fraction() * 4.0,
+        6 => 1e-154 * random.fraction(),
+        _ => few_bits(random),
+    };
+    either_sign(random, size)
+}
+
+fn either_sign(random: &mut Random, size: f64) -> f64 {
+    if random.once_in(2) {
+        -size
+    } else {
+        size
     }
 }
 
@@ -57,11 +94,7 @@ fn extreme(random: &mut Random) -> f64 {
         1 => f64::from_bits(random.bits() % 0x7ff0_0000_0000_0000),
         _ => random.one_of(&EXTREMES),
     };
-    if random.once_in(2) {
-        -size
-    } else {
-        size
-    }
+    either_sign(random, size)
 }
 
 fn any(random: &mut Random) -> f64 {
@@ -80,9 +113,14 @@ pub fn float(random: &mut Random, taste: Taste) -> f64 {
         Taste::Ordinary => ordinary(random),
         Taste::Mixed if random.once_in(8) => extreme(random),
         Taste::Mixed => ordinary(random),
+        Taste::Small => small(random),
         Taste::Extreme => extreme(random),
         Taste::Any => any(random),
     }
+}
+
+pub fn many(random: &mut Random, taste: Taste, count: usize) -> Vec<f64> {
+    (0..count).map(|_| float(random, taste)).collect()
 }
 
 fn exponent(random: &mut Random, taste: Taste) -> f64 {

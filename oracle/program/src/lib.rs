@@ -5,6 +5,7 @@ pub mod answer;
 pub mod diff;
 pub mod floats;
 pub mod lines;
+pub mod matrices;
 pub mod odd_lines;
 pub mod parse;
 pub mod questions;

@@ -1,6 +1,5 @@
 //! The parts of a question's line: numbers, floats, rolls, centres, and the room for an output.
 
-use crate::floats::{self, Taste};
 use crate::parse::{self, Centre, LARGEST_BUFFER};
 use crate::random::Random;
 
@@ -81,16 +80,8 @@ pub fn append_room(random: &mut Random, line: &mut Vec<u8>, need: u64) {
     append(line, start);
 }
 
-pub fn append_floats(random: &mut Random, line: &mut Vec<u8>, taste: Taste, count: u64) {
-    // A taste of any bits would spoil every large matrix at once: one such float is enough.
-    let calm = match taste {
-        Taste::Any => Taste::Ordinary,
-        other => other,
-    };
-    let wild = random.below(count.max(1));
-    for at in 0..count {
-        let taste = if at == wild { taste } else { calm };
-        let float = floats::float(random, taste);
+pub fn append_floats(random: &mut Random, line: &mut Vec<u8>, floats: &[f64]) {
+    for &float in floats {
         append_float(random, line, float);
     }
 }

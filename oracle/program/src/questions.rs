@@ -6,7 +6,7 @@ use crate::lines::{numbers, with_roll};
 use crate::parse::{self, LONGEST_LINE, MOST_BOYS};
 use crate::random::Random;
 use crate::second::{self, BEFORE, NOW};
-use crate::{odd_lines, requests, rolls, runs, rust_side};
+use crate::{matrices, odd_lines, requests, rolls, runs, rust_side};
 use std::io::{self, Write};
 
 /// The kinds of question, as `oracle/ask-both` names them.
@@ -367,10 +367,10 @@ fn jk(random: &mut Random, at: u64) -> Vec<u8> {
         return format!("jk {}", wrong_size(random)).into_bytes();
     }
     let n = matrix_size(random, at);
-    let taste = floats::taste(random);
+    let (i, d) = matrices::any(random, n as usize);
     let mut line = format!("jk {}", n).into_bytes();
-    append_floats(random, &mut line, taste, n * n * n * n);
-    append_floats(random, &mut line, taste, n * n);
+    append_floats(random, &mut line, &i);
+    append_floats(random, &mut line, &d);
     line
 }
 
@@ -401,8 +401,11 @@ fn jkl(random: &mut Random, at: u64) -> Vec<u8> {
     for &length in &lengths {
         append(&mut line, length);
     }
-    let taste = floats::taste(random);
-    append_floats(random, &mut line, taste, lengths[0]);
-    append_floats(random, &mut line, taste, lengths[1]);
+    // Those of another length are cut or go on with 1.0.
+    let (mut i, mut d) = matrices::any(random, size.max(1) as usize);
+    i.resize(lengths[0] as usize, 1.0);
+    d.resize(lengths[1] as usize, 1.0);
+    append_floats(random, &mut line, &i);
+    append_floats(random, &mut line, &d);
     line
 }

@@ -2,7 +2,7 @@
 
 use oracle::answer::answer_all;
 use oracle::diff::class;
-use oracle::parse::write_roll;
+use oracle::parse::{self, write_roll, Line, Question};
 use oracle::questions::{write_all, KINDS};
 use oracle::rolls::{to_be_cut, tried_one_by_one};
 use oracle::runs;
@@ -78,6 +78,73 @@ fn every_kind_of_answer_comes_up() {
         let both = ["?", "the same line"];
         let expected = expected.iter().chain(&both).map(|word| word.to_string());
         assert_eq!(found, expected.collect(), "{}", kind);
+    }
+}
+
+/// What one float is.
+fn sort(float: &f64) -> &'static str {
+    match (float.is_nan(), float.is_infinite(), float.to_bits()) {
+        (true, ..) => "no number",
+        (_, true, _) => "infinite",
+        (.., 0) => "0.0",
+        (.., 0x8000_0000_0000_0000) => "-0.0",
+        _ if float.is_subnormal() => "subnormal",
+        _ => "normal",
+    }
+}
+
+/// Is I, or D, the same with two of its indices exchanged?
+fn symmetric(n: usize, entries: &[f64], places: [usize; 2]) -> bool {
+    let rank = if entries.len() == n * n { 2 } else { 4 };
+    let mirror = |number: usize| {
+        let mut at: Vec<usize> = (0..rank).rev().map(|p| number / n.pow(p) % n).collect();
+        at.swap(places[0], places[1]);
+        at.iter().fold(0, |number, at| number * n + at)
+    };
+    let bits = |at: usize| entries[at].to_bits();
+    (0..entries.len()).all(|at| bits(at) == bits(mirror(at)))
+}
+
+/// What there is to find in a question: its size, its symmetries and its sorts of float.
+fn sorts(n: usize, i: &[f64], d: &[f64]) -> BTreeSet<String> {
+    let floats = i.iter().chain(d).map(sort).map(String::from);
+    let mut found: BTreeSet<String> = floats.collect();
+    found.insert(format!("size {}", n));
+    if (2..17).contains(&n) && (i.len(), d.len()) == (n * n * n * n, n * n) {
+        let [left, right] = [[0, 1], [2, 3]].map(|pair| symmetric(n, i, pair));
+        found.insert(symmetries(symmetric(n, d, [0, 1]), left, right));
+    }
+    found
+}
+
+fn symmetries(d: bool, left: bool, right: bool) -> String {
+    format!("symmetric: D {}, I {} {}", d, left, right)
+}
+
+/// I and D come with every symmetry and without, of every size, and of every sort of float; each
+/// of these also where J and K are told.
+#[test]
+fn matrices_of_every_sort() {
+    for kind in ["jk", "jkl"] {
+        let asked = questions(kind, 5_000, 1);
+        let answered = answers(&asked);
+        let (mut all, mut told) = (BTreeSet::new(), BTreeSet::new());
+        for (question, answer) in lines(&asked).into_iter().zip(lines(&answered)) {
+            if let Line::Asks(Question::JK { n, i, d, .. }) = parse::line(question) {
+                let found = sorts(n as usize, &i, &d);
+                if answer.starts_with(b"J") {
+                    told.extend(found.iter().cloned());
+                }
+                all.extend(found);
+            }
+        }
+        let sizes = (1..17).map(|n| format!("size {}", n));
+        let with = (0..8).map(|at| symmetries(at & 4 > 0, at & 2 > 0, at & 1 > 0));
+        let finite = ["0.0", "-0.0", "subnormal", "normal"].map(String::from);
+        for expected in sizes.chain(with).chain(finite) {
+            assert!(told.contains(&expected), "{}: {}", kind, expected);
+        }
+        assert!(all.contains("infinite") && all.contains("no number"));
     }
 }
 
