@@ -4,6 +4,7 @@
 pub mod answer;
 pub mod diff;
 pub mod floats;
+pub mod last_bits;
 pub mod lines;
 pub mod matrices;
 pub mod odd_lines;

@@ -1,7 +1,7 @@
 //! The judge's program; README.md says how it is used.
 
 use oracle::second::NOW;
-use oracle::{answer, diff, questions, runs, second};
+use oracle::{answer, diff, last_bits, questions, runs, second};
 use std::env;
 use std::io::{self, BufWriter, Write};
 use std::process::exit;
@@ -11,6 +11,7 @@ const USAGE: &str = "usage: oracle answer < QUESTIONS
        oracle questions expand-all KIND [PART OF]
        oracle questions component-all
        oracle count KIND
+       oracle last-bits CASES SEED
        oracle diff KIND-OF-QUESTION QUESTIONS ANSWERS-OURS ANSWERS-RUST COUNT";
 
 fn main() {
@@ -48,6 +49,13 @@ fn run(words: &[&str]) -> io::Result<Option<bool>> {
             }
             _ => Ok(None),
         },
+        ["last-bits", cases, seed] => match (cases.parse(), seed.parse()) {
+            (Ok(cases), Ok(seed)) => {
+                last_bits(cases, seed, &mut out)?;
+                Ok(Some(true))
+            }
+            _ => Ok(None),
+        },
         ["diff", kind, asked, ours, rust, count] => match count.parse() {
             Ok(count) => diff::compare(kind, asked, ours, rust, count).map(Some),
             Err(_) => Ok(None),
@@ -77,6 +85,19 @@ fn questions(words: &[&str], out: &mut dyn Write) -> io::Result<Option<bool>> {
         _ => return Ok(None),
     }
     Ok(Some(true))
+}
+
+/// By n, in how many symmetric cases JK_direct and JK_inmem differ.
+fn last_bits(cases: u64, seed: u64, out: &mut dyn Write) -> io::Result<()> {
+    for n in 1..=6 {
+        let differ = last_bits::count(n, cases, seed);
+        writeln!(
+            out,
+            "n {}: of {} cases J differs in {}, K in {}",
+            n, cases, differ.j, differ.k
+        )?;
+    }
+    out.flush()
 }
 
 /// What a census of all requests of a kind shows.
