@@ -2,6 +2,7 @@
 //! its own, then the table or the picture from what was measured, on standard input.
 
 mod components;
+mod matrices;
 mod measure;
 mod numbers;
 mod one;
@@ -67,8 +68,8 @@ fn run(words: &[&str]) -> Result<(), String> {
             let request = Request::of_line(&request.join(" ")).ok_or("no request")?;
             return measure::print(&request, time);
         }
-        ["native"] => table::print(&rows()?, true),
-        ["emulated"] => table::print(&rows()?, false),
+        ["native"] => return table::print(&rows()?, true),
+        ["emulated"] => return table::print(&rows()?, false),
         ["picture"] => picture::print(&rows()?),
         ["one", name, call, count] => return one::run(name, call, count),
         _ => return Err("bench/run says how this is called".to_string()),

@@ -1,6 +1,7 @@
 //! The table: ratios of both sides, natively beside the goals.
 
 use crate::components::{self, COUNT};
+use crate::matrices::{self, SIZES};
 use crate::measure::Row;
 use std::time::Duration;
 
@@ -127,7 +128,26 @@ fn print_bytes(rows: &[&Row]) {
     }
 }
 
-pub fn print(rows: &[Row], has_goals: bool) {
+/// J and K together have 2n^2 entries.
+fn print_matrices() -> Result<(), String> {
+    heading("J and K | JK_direct, ns an entry | JK_inmem, ns an entry | ours, ns an entry | JK_direct through ours | JK_inmem through ours");
+    for &n in &SIZES {
+        let times = matrices::times(n, Duration::from_millis(100))?;
+        let [direct, in_memory, ours] = times.map(|took| took / (2 * n * n) as f64);
+        println!(
+            "| n = {} | {:.1} | {:.1} | {:.1} | {:.1} | {:.1} |",
+            n,
+            direct,
+            in_memory,
+            ours,
+            direct / ours,
+            in_memory / ours
+        );
+    }
+    Ok(())
+}
+
+pub fn print(rows: &[Row], has_goals: bool) -> Result<(), String> {
     let table = Table { has_goals };
     let (accepted, refused): (Vec<&Row>, Vec<&Row>) = rows.iter().partition(|row| row.terms > 0.0);
     table.print_expansion(&accepted);
@@ -141,4 +161,5 @@ pub fn print(rows: &[Row], has_goals: bool) {
     let time = largest.map_or(f64::NAN, |row| row.expansion[1]);
     table.print_refusals(&refused, time);
     table.print_components();
+    print_matrices()
 }

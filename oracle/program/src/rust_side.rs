@@ -168,7 +168,8 @@ pub type Matrices = (Vec<f64>, Vec<f64>);
 
 /// Those of JK_direct's own loops, fed with I.
 pub fn j_and_k(n: usize, i: &[f64], d: &[f64]) -> Matrices {
-    let (j, k) = direct::j_and_k(i, &density(n, d));
+    let (mut j, mut k) = (Array::zeros((n, n)), Array::zeros((n, n)));
+    direct::JK_direct(&mut j, &mut k, &direct::give(n, i), &density(n, d));
     (j.entries().to_vec(), k.entries().to_vec())
 }
 

@@ -51,22 +51,19 @@ pub mod direct {
         CGTO::from_pgtos(&vec![primitive], &vec![1.0])
     }
 
-    /// JK_direct with I for its integrals, row by row.
+    /// Gives I, row by row, for the integrals of the next calls of this module's JK_direct, and
+    /// the functions that it takes.
     ///
     /// The bits are those of the sums from 0.0 of I times D. One primitive a function makes one
     /// product: four times 1.0, then I, then D. 1.0 times I is I. The product is added to 0.0
     /// before it is added to J or K, which makes 0.0 of -0.0 and leaves any other as it is; and a
     /// sum that begins at 0.0 is never -0.0, so adding 0.0 or -0.0 to it is the same.
-    pub fn j_and_k(i: &[f64], d: &Array<f64, Ix2>) -> (Array<f64, Ix2>, Array<f64, Ix2>) {
-        let n = d.shape()[0];
+    pub fn give(n: usize, i: &[f64]) -> Basis {
         GIVEN.with(|entries| *entries.borrow_mut() = i.to_vec());
-        let basis_set = Basis {
+        Basis {
             name: String::new(),
             cgtos: (0..n).map(|number| numbered(number, n)).collect(),
-        };
-        let (mut J, mut K) = (Array::zeros((n, n)), Array::zeros((n, n)));
-        JK_direct(&mut J, &mut K, &basis_set, d);
-        (J, K)
+        }
     }
 }
 
