@@ -78,18 +78,9 @@ static void try_prefactors(void)
     }
 }
 
-static bool mirrored(const uint64_t *matrix, size_t n)
-{
-    for (size_t row = 0; row < n; row++)
-        for (size_t column = 0; column < row; column++)
-            if (matrix[row * n + column] != matrix[column * n + row])
-                return false;
-    return true;
-}
-
 static void try_jk(void)
 {
-    static double floats[65537], matrix[257], first_j[256], first_k[256];
+    static double floats[65537], matrix[257], sums_j[256], sums_k[256];
     static const size_t wrong[] = { 0, 17, 18, 255, 65536, (size_t)1 << 32, (size_t)3 << 32, (size_t)1 << 62,
                                     (size_t)1 << 63, SIZE_MAX };
     size_t size = once_in(2000) ? 16 : once_in(40) ? 5 + below(6) : 1 + below(4), n = size;
@@ -107,7 +98,7 @@ static void try_jk(void)
     struct slice i = lend_copy(&i_arena, "i", floats, lengths[0], 8);
     struct slice d = lend_copy(&d_arena, "d", matrix, lengths[1], 8);
     struct slice j = lend(&j_arena, "j", lengths[2], 8), k = lend(&k_arena, "k", lengths[3], 8);
-    uint8_t expected = expected_jk(n, floats, matrix, lengths), first = 0;
+    uint8_t expected = expected_jk(n, floats, matrix, lengths, sums_j, sums_k);
     maybe_null(&i, JK_I);
     maybe_null(&d, JK_D);
     maybe_null(&j, JK_J);
@@ -123,19 +114,13 @@ static void try_jk(void)
         with_slice(&k);
         uint8_t refusal = xew_jk(n, i.lent, lengths[0], d.lent, lengths[1], j.lent, lengths[2], k.lent, lengths[3]);
         count(JK, refusal, again);
-        hold(refusal == expected || (!expected && refusal == 11), "xew_jk: another refusal");
-        hold(!again || refusal == first, "xew_jk: two answers");
-        first = refusal;
+        hold(refusal == expected, "xew_jk: another refusal");
         hold(untouched(&j, byte, 0, refusal ? 0 : n * n) && untouched(&k, byte, 0, refusal ? 0 : n * n),
              "xew_jk: a float changed beside a refusal or the result");
         if (refusal)
             continue;
-        hold(all_finite(j.mine, n * n) && all_finite(k.mine, n * n), "xew_jk: a result that is not finite");
-        hold(mirrored(j.mine, n) && mirrored(k.mine, n), "xew_jk: a result that is not mirrored");
-        hold(!again || (!memcmp(first_j, j.mine, n * n * 8) && !memcmp(first_k, k.mine, n * n * 8)),
-             "xew_jk: two results");
-        memcpy(first_j, j.mine, n * n * 8);
-        memcpy(first_k, k.mine, n * n * 8);
+        hold(!memcmp(sums_j, j.mine, n * n * 8) && !memcmp(sums_k, k.mine, n * n * 8),
+             "xew_jk: another sum than document 02's");
     }
 }
 

@@ -1,5 +1,5 @@
 /* What a call must answer, by docs/01-scope.md and docs/02-change-requests.md alone: everything but the terms of an
- * expansion (histories.c has their number), the floats of a result and whether they are finite. */
+ * expansion (histories.c has their number), and the floats of a value or a table and whether they are finite. */
 #include "faults.h"
 #include <math.h>
 #include <string.h>
@@ -207,11 +207,28 @@ uint8_t expected_value(xew_opened checked, const xew_centre *centres, double aux
     return boys_length == (kind == 2 || kind == 4 ? checked.cursor.l + 1u : 0) ? 0 : 10;
 }
 
-uint8_t expected_jk(size_t n, const double *i, const double *d, const size_t lengths[4])
+/* A sum of J or K: I from a place on, so many further for each lambda, times D; lambda outer, from 0.0. */
+static double summed(size_t n, const double *i, size_t step, const double *d)
+{
+    double sum = 0;
+    for (size_t lambda = 0; lambda < n; lambda++)
+        for (size_t sigma = 0; sigma < n; sigma++)
+            sum += i[lambda * step + sigma] * d[lambda * n + sigma];
+    return sum;
+}
+
+uint8_t expected_jk(size_t n, const double *i, const double *d, const size_t lengths[4], double *j, double *k)
 {
     if (n < 1 || n > XEW_MOST_SIZE || lengths[0] != n * n * n * n)
         return 12;
     if (lengths[1] != n * n || lengths[2] != n * n || lengths[3] != n * n)
         return 12;
-    return all_finite(i, lengths[0]) && all_finite(d, lengths[1]) ? 0 : 8;
+    if (!all_finite(i, lengths[0]) || !all_finite(d, lengths[1]))
+        return 8;
+    for (size_t mu = 0; mu < n; mu++)
+        for (size_t nu = 0; nu < n; nu++) {
+            j[mu * n + nu] = summed(n, i + (mu * n + nu) * n * n, n, d);
+            k[mu * n + nu] = summed(n, i + mu * n * n * n + nu * n, n * n, d);
+        }
+    return all_finite(j, n * n) && all_finite(k, n * n) ? 0 : 11;
 }

@@ -86,7 +86,8 @@ xew_step expected_next(xew_cursor cursor, const uint8_t *roll, size_t length);
 uint8_t expected_table(uint8_t kind, const xew_centre *centres);                  /* 0: or 11 */
 uint8_t expected_value(xew_opened checked, const xew_centre *centres, double aux, /* 0: or 11 */
                        const double *boys, size_t boys_length);
-uint8_t expected_jk(size_t n, const double *i, const double *d, const size_t lengths[4]); /* 0: or 11 */
+/* 0: j and k, of 256 each, have the sums */
+uint8_t expected_jk(size_t n, const double *i, const double *d, const size_t lengths[4], double *j, double *k);
 bool all_finite(const double *floats, size_t count);
 
 #endif

@@ -118,7 +118,7 @@ uint8_t __wrap_xew_jk(size_t n, const double *i, size_t i_len, const double *d, 
     uint8_t refusal = __real_xew_jk(n, i, i_len, d, d_len, j, j_len, k, k_len);
     if (is("writes-j-beside-a-refusal") && refusal && j_len > 0)
         j[0] = -j[0];
-    if (is("does-not-mirror-k") && !refusal && n > 1)
-        k[1] += 1;
+    if (is("mirrors-k") && !refusal && n > 1)
+        k[1] = k[n];
     return refusal;
 }
