@@ -173,6 +173,17 @@ fn j_and_k_are_not_exchanged() {
     assert_eq!((j, k), ([2.0, 0.0, 0.0, 0.0], [0.0; 4]));
 }
 
+/// With a density that is not symmetric K is not either: K at (0, 1) is 1, at (1, 0) it is 0.
+#[test]
+fn k_is_not_mirrored() {
+    let mut i = [0.0; 16];
+    (i[0b0011], i[0b1100]) = (1.0, 1.0);
+    let d = [0.0, 1.0, 0.0, 0.0];
+    let (mut j, mut k) = ([9.0; 4], [9.0; 4]);
+    assert_eq!(jk(2, &i, &d, &mut j, &mut k), Matrices::Written);
+    assert_eq!((j, k), ([0.0; 4], [0.0, 1.0, 0.0, 0.0]));
+}
+
 macro_rules! refusal {
     ($answer:ident, $call:expr) => {
         match $call {
