@@ -1,0 +1,4 @@
+pub mod Branching
+pub mod Falling
+pub mod Growing
+pub mod Shown
