@@ -19,7 +19,7 @@ use Rattle.steps.specs.States.{start}
 use Rattle.histories.specs.History.{stage, depth}
 use Rattle.laws.proofs.Totals.{total-append, getD-le-total}
 use Rattle.histories.proofs.Bounds.{terms-kept, scale-limit}
-use Rattle.histories.proofs.Some.{Unused, some-term}
+use Rattle.histories.proofs.Some.{Unused, unused-zero, some-term}
 use Rattle.roll.specs.Reading.{got, rollAt, mostBoys}
 use Rattle.roll.specs.Fits.{CentresFit, Below, TermFits, TermsFit, RollFits}
 use Rattle.roll.proofs.Back.{roll-back}
@@ -99,15 +99,7 @@ module _ (k : Kind) (os : List ℕ) (within : RequestWithin k os) where
       let h = total-append (take (ordersOf k) os) (drop (ordersOf k) os) in let e = ap total (take-append-drop (ordersOf k) os) in let z = rest-zero in omega arith
 
   unused : Unused k os
-  unfolding Unused
-  unused i h =
-      let z = rest-zero in
-      let d : getD (drop (ordersOf k) os) (i - ordersOf k) 0 ≡ getD os i 0 = getD-drop (ordersOf k) os (i - ordersOf k) 0 ∙ ap (λ (j : ℕ). getD os j 0) back in
-      let l = getD-le-total (drop (ordersOf k) os) (i - ordersOf k) in
-      omega arith
-    where
-      back : ordersOf k + (i - ordersOf k) ≡ i
-      back = omega arith
+  unused = unused-zero k os rest-zero
 
   term-fits : (t : Term) → List·Memᴰ t (termsOf k os) → TermFits k (total (take (ordersOf k) os)) t
   unfolding depth

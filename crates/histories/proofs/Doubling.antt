@@ -1,6 +1,6 @@
 -- Nuclear and Coulomb have at least 2^L terms. Branches 0 and 1 of these kinds are always legal and lower one order each, so a state has
 -- at least twice the terms of a state with one order less.
-use Prim.Native.Nat.{ℕ, _+_, _*_, _-_, _^_, _≤_, _<_}
+use Prim.Native.Nat.{ℕ, _+_, _*_, _^_, _≤_, _<_}
 use mathlib.Core.Path.{_≡_, refl, sym, ap, subst, _∙_}
 use mathlib.Core.Bool.{true}
 use mathlib.Core.List.{List, _∷_, _++_, List·Memᴰ}
@@ -8,11 +8,10 @@ use mathlib.Core.List.List·Memᴰ.{List·Memᴰ·head, List·Memᴰ·tail}
 use native.Mathlib.Omega.{arith}
 use native.Mathlib.Nat.{pow-suc}
 use native.Mathlib.Numerals.{add-one}
-use lib.ListN.{length, getD, drop, length-append}
-use lib.Seq.{getD-drop}
+use lib.ListN.{length, drop, length-append}
 use Rattle.laws.proofs.Cases.{clash}
 use Rattle.laws.specs.Total.{total}
-use Rattle.laws.proofs.Totals.{getD-le-total, total-less}
+use Rattle.laws.proofs.Totals.{total-less}
 use Rattle.kind.specs.declared.Kind.{Kind}
 use Rattle.kind.specs.declared.Kind.the-variants.{Overlap, Kinetic, Nuclear, Moment, Coulomb}
 use Rattle.kind.specs.Kinds.{ordersOf, usesBoys}
@@ -31,7 +30,7 @@ use Rattle.histories.proofs.Orders.{axis-positive}
 use Rattle.histories.proofs.Nexts.{legal}
 use Rattle.histories.proofs.Walk.{expand-more}
 use Rattle.histories.proofs.Demand.{by-depth}
-use Rattle.histories.proofs.Some.{Unused, unused-kept, some-next, some-term}
+use Rattle.histories.proofs.Some.{Unused, unused-zero, unused-kept, some-next, some-term}
 
 -- branches 0 and 1: multiplier 1, the chosen order falls, the kind stays
 first-two : (k : Kind) (c : CentreName) (x : Axis) → usesBoys k ≡ true → (p q : ℕ) × (bs : List Branch) × (branches k c x ≡ (a adds p) ∷ (a adds-and-raises q) ∷ bs)
@@ -119,14 +118,4 @@ terms-double =
 
 -- of a request, whose L is the sum of all orders
 pub least-terms : (k : Kind) (orders : List ℕ) → usesBoys k ≡ true → total (drop (ordersOf k) orders) ≡ 0 → 2 ^ total orders ≤ length (expand (start k orders))
-unfolding Unused
-least-terms k orders boys none = terms-double (start k orders) boys unused
-  where
-    unused : Unused k orders
-    unused i h =
-        let d : getD (drop (ordersOf k) orders) (i - ordersOf k) 0 ≡ getD orders i 0 = getD-drop (ordersOf k) orders (i - ordersOf k) 0 ∙ ap (λ (j : ℕ). getD orders j 0) back in
-        let l = getD-le-total (drop (ordersOf k) orders) (i - ordersOf k) in
-        omega arith
-      where
-        back : ordersOf k + (i - ordersOf k) ≡ i
-        back = omega arith
+least-terms k orders boys none = terms-double (start k orders) boys (unused-zero k orders none)

@@ -8,8 +8,10 @@ use native.Mathlib.Omega.{arith}
 use native.Mathlib.Nat.{add-zero}
 use borrow.Author.Tests.{ltb-true, ltb-false}
 use lib.Dec.{ltb}
-use lib.ListN.{length, getD, set, length-append}
+use lib.ListN.{length, getD, set, drop, length-append}
+use lib.Seq.{getD-drop}
 use Rattle.laws.proofs.Cases.{clash}
+use Rattle.laws.proofs.Totals.{getD-le-total}
 use Rattle.kind.specs.declared.Kind.{Kind}
 use Rattle.kind.specs.declared.Kind.the-variants.{Overlap, Kinetic, Nuclear, Moment, Coulomb}
 use Rattle.kind.specs.Kinds.{ordersOf}
@@ -36,6 +38,17 @@ use Rattle.histories.proofs.Demand.{by-depth}
 -- the orders that a kind leaves unused are 0
 unfoldable pub Unused : Kind → List ℕ → Type 0
 Unused k left = (i : ℕ) → ordersOf k ≤ i → getD left i 0 ≡ 0
+
+-- they are 0 where they add up to 0
+pub unused-zero : (k : Kind) (left : List ℕ) → total (drop (ordersOf k) left) ≡ 0 → Unused k left
+unfolding Unused
+unused-zero k left none i h =
+    let d : getD (drop (ordersOf k) left) (i - ordersOf k) 0 ≡ getD left i 0 = getD-drop (ordersOf k) left (i - ordersOf k) 0 ∙ ap (λ (j : ℕ). getD left j 0) back in
+    let l = getD-le-total (drop (ordersOf k) left) (i - ordersOf k) in
+    omega arith
+  where
+    back : ordersOf k + (i - ordersOf k) ≡ i
+    back = omega arith
 
 some-is-some : (c : CentreName) → Lower c ≡ Nothing → ⊥
 some-is-some c e = none-is-none c (sym e)

@@ -1,19 +1,16 @@
 -- The theorem of Q-11, of any state on the way: the scales of its terms add up to its own scale times the product of its three numbers. By induction over the walk: the terms of a
 -- state are those of its next states, whose scales and products are what the branches add up to (Branching).
-use Prim.Native.Nat.{ℕ, zero, suc, _+_, _*_, _-_, _≤_, _<_}
-use mathlib.Core.Path.{_≡_, refl, sym, ap, ap₂, subst, _∙_}
+use Prim.Native.Nat.{ℕ, zero, suc, _+_, _*_}
+use mathlib.Core.Path.{_≡_, refl, ap, ap₂, _∙_}
 use mathlib.Core.Bool.{Bool, true, false, cond}
 use mathlib.Core.List.{List, [], _∷_, _++_, map, map-append, List·Memᴰ}
 use mathlib.Core.List.List·Memᴰ.{List·Memᴰ·head, List·Memᴰ·tail}
 use native.Mathlib.Omega.{arith}
-use lib.ListN.{getD, drop}
-use lib.Seq.{getD-drop}
 use Rattle.laws.specs.Total.{total}
 use Rattle.laws.proofs.Cases.{clash}
 use Rattle.laws.proofs.Totals.{total-append, getD-le-total}
 use Rattle.kind.specs.declared.Kind.{Kind}
 use Rattle.kind.specs.declared.Kind.the-variants.{Overlap, Kinetic, Nuclear, Moment, Coulomb}
-use Rattle.kind.specs.Kinds.{ordersOf}
 use Rattle.term.specs.Terms.{Term}
 use Rattle.steps.specs.declared.CentreName.{CentreName}
 use Rattle.steps.specs.declared.CentreName.the-variants.{A, B, C}
@@ -32,7 +29,7 @@ use Rattle.histories.proofs.Orders.{axis-positive}
 use Rattle.histories.proofs.Nexts.{legal}
 use Rattle.histories.proofs.Walk.{follows-itself, fair-step, expand-done, expand-more}
 use Rattle.histories.proofs.Demand.{by-depth}
-use Rattle.histories.proofs.Some.{Unused, unused-kept, some-next}
+use Rattle.histories.proofs.Some.{Unused, unused-zero, unused-kept, some-next}
 use Rattle.roll.specs.Before.{scales}
 use Rattle.totals.specs.Totals.{scaleSum, claimed, plainList, nuclearList, along, scaleTotal}
 use Rattle.totals.specs.ByHand.{TotalByHand}
@@ -127,14 +124,4 @@ state-total =
 
 -- of every request of a claimed kind
 pub total-by-hand : TotalByHand
-unfolding Unused
-total-by-hand k orders is none = state-total (start k orders) is unused ∙ omega arith
-  where
-    unused : Unused k orders
-    unused i h =
-        let d : getD (drop (ordersOf k) orders) (i - ordersOf k) 0 ≡ getD orders i 0 = getD-drop (ordersOf k) orders (i - ordersOf k) 0 ∙ ap (λ (j : ℕ). getD orders j 0) back in
-        let l = getD-le-total (drop (ordersOf k) orders) (i - ordersOf k) in
-        omega arith
-      where
-        back : ordersOf k + (i - ordersOf k) ≡ i
-        back = omega arith
+total-by-hand k orders is none = state-total (start k orders) is (unused-zero k orders none) ∙ omega arith
