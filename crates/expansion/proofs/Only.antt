@@ -5,8 +5,11 @@ use contract.Lifetimes.{Lfts}
 use Rattle.kind.specs.Kinds.{kindOf}
 use Rattle.laws.proofs.Contract.{Alone, alone, Lent, _then_, _▸_, end}
 use Rattle.expansion.specs.declared.Expanded.{Expanded}
-use Rattle.expansion.specs.Expanding.{namedTold, namedMeasured, namedOut}
+use Rattle.kind.specs.declared.Kind.{Kind}
+use Rattle.expansion.specs.Expanding.{tooHigh, unusedSet, namedTold, namedMeasured, namedOut}
 use Rattle.expansion.proofs.expand.Reads.{Post as Expand}
+use Rattle.expansion.proofs.request.too_high.Reads.{Post as TooHigh}
+use Rattle.expansion.proofs.request.unused_set.Reads.{Post as UnusedSet}
 use Rattle.expansion.proofs.size.roll_size.Reads.{Post as RollSize}
 
 pub expand-only : (κs : Lfts 1) (kind : ℕ) (orders : List ℕ) (out : Lent ℕ) (start : ℕ) →
@@ -17,3 +20,9 @@ expand-only κs kind orders out start = alone (λ x p i. (p .answer i, p .out i)
 
 pub roll-size-only : (kind : ℕ) (orders : List ℕ) → let g = kind ▸ orders ▸ end in Alone (λ r. RollSize tt g r g) (namedMeasured (kindOf kind) orders)
 roll-size-only kind orders = alone (λ r p. p)
+
+pub too-high-only : (k : Kind) (orders : List ℕ) → let g = k ▸ orders ▸ end in Alone (λ r. TooHigh tt g r g) (tooHigh k orders)
+too-high-only k orders = alone (λ r p. p)
+
+pub unused-set-only : (k : Kind) (orders : List ℕ) → let g = k ▸ orders ▸ end in Alone (λ r. UnusedSet tt g r g) (unusedSet k orders)
+unused-set-only k orders = alone (λ r p. p)

@@ -6,6 +6,8 @@ mod size;
 mod terms;
 mod walk;
 
+pub use request::too_high;
+pub use request::unused_set;
 pub use size::roll_size;
 ghost use Rattle.expansion.specs.Expanding.{ExpandTold};
 ghost use Rattle.expansion.specs.inner.Requests.{KnownTold, RequestMay, SizedMay};

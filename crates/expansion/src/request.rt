@@ -73,7 +73,7 @@ fn four_above(orders: [u8; Kind::ORDERS]) -> bool
 }
 
 // Refusal 2: an order sum that the kind uses is above the limit.
-pub(crate) fn too_high(kind: Kind, orders: [u8; Kind::ORDERS]) -> bool
+pub fn too_high(kind: Kind, orders: [u8; Kind::ORDERS]) -> bool
     ensures { λ r. ⌜ r ≡ tooHigh kind orders ⌝ }
 {
     match kind {
@@ -99,7 +99,7 @@ fn unused(kind: Kind, orders: [u8; Kind::ORDERS]) -> u64
 }
 
 // Refusal 3: an order that the kind leaves unused is not 0.
-pub(crate) fn unused_set(kind: Kind, orders: [u8; Kind::ORDERS]) -> bool
+pub fn unused_set(kind: Kind, orders: [u8; Kind::ORDERS]) -> bool
     ensures { λ r. ⌜ r ≡ unusedSet kind orders ⌝ }
 {
     0 < unused(kind, orders)
