@@ -8,6 +8,10 @@ pub record Grows (m : ℕ) (f : ℕ → ℕ) : Type 0 where
   pub first : f 0 ≡ 1
   pub next : (n : ℕ) → f (suc n) ≡ m * (f n + n * f (n - 1))
 
+-- the same from number 2 on
+pub next-two : (m : ℕ) (f : ℕ → ℕ) → Grows m f → (n : ℕ) → f (suc (suc n)) ≡ m * (f (suc n) + suc n * f n)
+next-two m f grows n = let back : suc n - 1 ≡ n = omega arith in rw back at (grows .next (suc n))
+
 plain-next : (n : ℕ) → plainList (suc (suc n)) ≡ plainList (suc n) + (suc (suc n) - 1) * plainList n
 unfolding plainList
 plain-next n = refl
