@@ -110,6 +110,21 @@ typedef struct {
     uint8_t boys, count, prefactors[XEW_PREFACTORS], found, refusal; /* found: 0 refused, 1 term, 2 end */
 } xew_step;
 
+/* What the scales of a request's terms add up to. claimed is 1 beside a total; it is 0 for kinetic and Coulomb, of which
+ * no such number is known, and beside a refusal. */
+typedef struct {
+    uint64_t total;
+    uint8_t claimed;
+    uint8_t refusal;
+} xew_total;
+
+/* What the scales of a roll's terms add up to. */
+typedef struct {
+    uint64_t total;
+    size_t place;
+    uint8_t refusal;
+} xew_scales;
+
 /* Writes the roll of a request into out from start on: every term of the integral, one for each complete lowering
  * history. orders points to twelve bytes, 0 where the kind uses none. XEW_MOST_ROLL bytes hold any roll.
  * Refusals: 1, 2, 3, 5, 4, 6. */
@@ -139,6 +154,13 @@ xew_opened xew_check(const uint8_t *roll, size_t roll_len);
 /* The term at a cursor of xew_open or xew_check, and the cursor for the next call. A cursor that was made up is
  * answered too: by what stands at its place, or by 7. Refusals: 7 or 14. */
 xew_step xew_next(xew_cursor cursor, const uint8_t *roll, size_t roll_len);
+
+/* What the scales of a request's terms add up to, worked out from the orders alone (docs/BY-HAND.md): for overlap, nuclear
+ * and moment xew_roll_total of the roll that xew_expand writes is the same number. Refusals: 1, 2, 3. */
+xew_total xew_scale_total(uint8_t kind, const uint8_t (*orders)[12]);
+
+/* The scales of a roll's terms added up; the roll is judged whole first. Refusals: 7 or 14. */
+xew_scales xew_roll_total(const uint8_t *roll, size_t roll_len);
 
 /* The prefactor table of a kind, as the sums use it. Refusals: 1, 8, 9, 11. */
 xew_table xew_prefactors(uint8_t kind, xew_centre a, xew_centre b, xew_centre c, xew_centre d);

@@ -131,6 +131,26 @@ pub enum Step {
     Refused(Refusal),
 }
 
+/// The answer of [`scale_total`].
+#[derive(Clone, Copy, Debug, PartialEq, Eq)]
+pub enum Total {
+    /// What the scales of the request's terms add up to.
+    Is(u64),
+    /// Kinetic and Coulomb: no such number is known.
+    NotClaimed,
+    /// By 1, 2 or 3.
+    Refused(Refusal),
+}
+
+/// The answer of [`roll_total`].
+#[derive(Clone, Copy, Debug, PartialEq, Eq)]
+pub enum Scales {
+    /// What the scales of the roll's terms add up to.
+    Are(u64),
+    /// By 7 or 14.
+    Refused(Refusal),
+}
+
 /// The answer of [`prefactors`].
 #[derive(Clone, Copy, Debug, PartialEq)]
 pub enum Table {
@@ -232,6 +252,26 @@ impl Cursor {
             None if found == 1 => Step::Term { term: Term { scale, boys, count, prefactors }, next },
             None => Step::End,
         }
+    }
+}
+
+/// What the scales of a request's terms add up to, worked out from the orders alone: for overlap, nuclear and moment
+/// [`roll_total`] of the roll that [`expand`] writes is the same number.
+pub fn scale_total(kind: u8, orders: &[u8; ORDERS]) -> Total {
+    let answer = raw::scale_total(kind, orders);
+    match Refusal::of(answer.refusal, 0) {
+        Some(refusal) => Total::Refused(refusal),
+        None if answer.claimed == 1 => Total::Is(answer.total),
+        None => Total::NotClaimed,
+    }
+}
+
+/// The scales of a roll's terms added up; the roll is judged whole first.
+pub fn roll_total(roll: &[u8]) -> Scales {
+    let answer = raw::roll_total(roll);
+    match Refusal::of(answer.refusal, answer.place) {
+        Some(refusal) => Scales::Refused(refusal),
+        None => Scales::Are(answer.total),
     }
 }
 

@@ -71,11 +71,26 @@ pub struct Step {
     pub refusal: u8,
 }
 
+#[repr(C)]
+pub struct Total {
+    pub total: u64,
+    pub claimed: u8,
+    pub refusal: u8,
+}
+
+#[repr(C)]
+pub struct Scales {
+    pub total: u64,
+    pub place: usize,
+    pub refusal: u8,
+}
+
 // The sizes that a C compiler gives the structs.
 const _: () = assert!(size_of::<Centre>() == 32 && size_of::<Cursor>() == 16);
 const _: () = assert!(size_of::<Written>() == 16 && size_of::<Value>() == 24);
 const _: () = assert!(size_of::<Component>() == 13 && size_of::<Table>() == 192);
 const _: () = assert!(size_of::<Opened>() == 40 && size_of::<Step>() == 56);
+const _: () = assert!(size_of::<Total>() == 16 && size_of::<Scales>() == 24);
 
 #[rustfmt::skip]
 extern "C" {
@@ -87,6 +102,8 @@ extern "C" {
     fn xew_open(roll: *const u8, roll_len: usize) -> Opened;
     fn xew_check(roll: *const u8, roll_len: usize) -> Opened;
     fn xew_next(cursor: Cursor, roll: *const u8, roll_len: usize) -> Step;
+    fn xew_scale_total(kind: u8, orders: *const [u8; ORDERS]) -> Total;
+    fn xew_roll_total(roll: *const u8, roll_len: usize) -> Scales;
     fn xew_prefactors(kind: u8, a: Centre, b: Centre, c: Centre, d: Centre) -> Table;
     fn xew_evaluate(roll: *const u8, roll_len: usize, a: Centre, b: Centre, c: Centre, d: Centre,
                     aux: f64, boys: *const f64, boys_len: usize) -> Value;
@@ -124,6 +141,14 @@ pub fn check(roll: &[u8]) -> Opened {
 
 pub fn next(cursor: Cursor, roll: &[u8]) -> Step {
     unsafe { xew_next(cursor, roll.as_ptr(), roll.len()) }
+}
+
+pub fn scale_total(kind: u8, orders: &[u8; ORDERS]) -> Total {
+    unsafe { xew_scale_total(kind, orders) }
+}
+
+pub fn roll_total(roll: &[u8]) -> Scales {
+    unsafe { xew_roll_total(roll.as_ptr(), roll.len()) }
 }
 
 pub fn prefactors(kind: u8, a: Centre, b: Centre, c: Centre, d: Centre) -> Table {

@@ -78,6 +78,23 @@ fn terms_of_the_printed_cases() {
     assert_eq!(terms(&expanded(COULOMB, one_at(&[0, 6]))), coulomb);
 }
 
+/// Document 02's examples, and that of a roll the scales add up to the same.
+#[test]
+fn totals_by_hand() {
+    let mut three = [0; ORDERS];
+    three[0] = 3;
+    let mut two = [0; ORDERS];
+    two[0] = 2;
+    assert_eq!(scale_total(OVERLAP, &three), Total::Is(4));
+    assert_eq!(roll_total(&expanded(OVERLAP, three)), Scales::Are(4));
+    assert_eq!(scale_total(NUCLEAR, &two), Total::Is(6));
+    assert_eq!(roll_total(&expanded(NUCLEAR, two)), Scales::Are(6));
+    assert_eq!(scale_total(KINETIC, &two), Total::NotClaimed);
+    assert_eq!(scale_total(COULOMB, &two), Total::NotClaimed);
+    assert_eq!(scale_total(MOMENT, &[0, 0, 0, 0, 0, 0, 0, 0, 0, 1, 0, 0]), Total::Refused(Refusal::UnusedOrder));
+    assert_eq!(roll_total(&[]), Scales::Refused(Refusal::CutRoll { place: 0 }));
+}
+
 #[test]
 fn open_and_check() {
     let cursor = Cursor { place: 8, left: 2, kind: 0, l: 2 };

@@ -41,7 +41,13 @@ pub(crate) const MATRICES: usize = 14;
 
 pub(crate) const MEASURED: usize = 15;
 
-pub(crate) const WAIT: usize = 16;
+pub(crate) const TOTAL: usize = 16;
+
+pub(crate) const NO_TOTAL: usize = 17;
+
+pub(crate) const SCALES: usize = 18;
+
+pub(crate) const WAIT: usize = 19;
 
 // The answer to what was heard: a line that is too long is no question. Where no line has come, what waits goes out, since
 // nothing says when more will come.

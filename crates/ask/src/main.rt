@@ -17,6 +17,7 @@ mod questions;
 mod rolls;
 mod shapes;
 mod shells;
+mod sums;
 mod turns;
 mod values;
 mod words;

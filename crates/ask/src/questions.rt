@@ -8,6 +8,7 @@ use crate::lists;
 use crate::matrices;
 use crate::rolls;
 use crate::shells;
+use crate::sums;
 use crate::values;
 use crate::words;
 use forms::Told;
@@ -37,6 +38,8 @@ enum Question {
     Jk,
     Jkl,
     Measure,
+    Total,
+    Scales,
     Unknown,
 }
 
@@ -65,6 +68,8 @@ fn of(shape: usize) -> Question {
         14 => Question::Jk,
         15 => Question::Jkl,
         16 => Question::Measure,
+        17 => Question::Total,
+        18 => Question::Scales,
         _ => Question::Unknown,
     }
 }
@@ -144,6 +149,8 @@ fn in_numbers(q: Question, n: [u64; NUMBERS], roll: &[u8], floats: &[f64]) -> To
         Question::Eval => values::value(roll, floats),
         Question::Table => values::table(n, floats),
         Question::Measure => expands::measured(n),
+        Question::Total => sums::total(n),
+        Question::Scales => sums::scales(roll),
         _ => answers::unknown(),
     }
 }

@@ -41,6 +41,8 @@ table B*
 jk P*
 jkl P P P P P*
 measure B B B B B B B B B B B B B
+total B B B B B B B B B B B B B
+scales R
 ",
         line,
         given,
@@ -115,6 +117,9 @@ value $
 table*
 J< K>
 measured # terms #
+total #
+total none
+scales #
 !",
         t,
         line,

@@ -89,10 +89,10 @@ unfoldable pub rollTotalOf : List ℕ → RollTotal
 rollTotalOf s = sumIn (rollAt s)
 
 -- the number and 01's refusal of each answer; 0 is none
-abbrev pub numberOf : Total → ℕ
-numberOf (total.Is n) = n
-numberOf total.NotClaimed = 0
-numberOf (total.Refused n) = 0
+abbrev pub totalIn : Total → ℕ
+totalIn (total.Is n) = n
+totalIn total.NotClaimed = 0
+totalIn (total.Refused n) = 0
 
 abbrev pub refusalOf : Total → ℕ
 refusalOf (total.Is n) = 0
@@ -100,13 +100,13 @@ refusalOf total.NotClaimed = 0
 refusalOf (total.Refused n) = n
 
 -- the sum, 01's refusal and its place of each answer of a roll
-abbrev pub rollSumOf : RollTotal → ℕ
-rollSumOf (rollTotal.Is n) = n
-rollSumOf (rollTotal.Refused n place) = 0
+abbrev pub scalesIn : RollTotal → ℕ
+scalesIn (rollTotal.Is n) = n
+scalesIn (rollTotal.Refused n place) = 0
 
-abbrev pub rollRefusalOf : RollTotal → ℕ
-rollRefusalOf (rollTotal.Is n) = 0
-rollRefusalOf (rollTotal.Refused n place) = n
+abbrev pub scalesRefusalOf : RollTotal → ℕ
+scalesRefusalOf (rollTotal.Is n) = 0
+scalesRefusalOf (rollTotal.Refused n place) = n
 
 abbrev pub placeOf : RollTotal → ℕ
 placeOf (rollTotal.Is n) = 0

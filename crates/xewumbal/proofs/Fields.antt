@@ -22,6 +22,11 @@ use Rattle.roll.specs.declared.header.Opening.the-variants as opening
 use Rattle.roll.specs.declared.header.Opened.{Opened}
 use Rattle.roll.specs.Header.{openOf, checkOf}
 use Rattle.roll.specs.Cursor.{stepOf}
+use Rattle.totals.specs.declared.Total.{Total}
+use Rattle.totals.specs.declared.Total.the-variants as total
+use Rattle.totals.specs.declared.RollTotal.{RollTotal}
+use Rattle.totals.specs.declared.RollTotal.the-variants as rollTotal
+use Rattle.totals.specs.Totals.{totalOf, rollTotalOf}
 use Rattle.geometry.specs.declared.Centre.{Centre}
 use Rattle.geometry.specs.declared.Tabled.the-variants as given
 use Rattle.geometry.specs.declared.Table.{Table}
@@ -40,8 +45,10 @@ use Rattle.xewumbal.specs.declared.xew_table.{«xew_table»}
 use Rattle.xewumbal.specs.declared.xew_cursor.{«xew_cursor»}
 use Rattle.xewumbal.specs.declared.xew_opened.{«xew_opened»}
 use Rattle.xewumbal.specs.declared.xew_step.{«xew_step»}
-use Rattle.xewumbal.specs.Answers.{ExpandCallTold, ListCallTold, JkCallTold, centreIn, cursorIn, hostExpanded, hostListed, hostComponent, hostCursor, hostOpened, foundStep, hostStep, hostTable, hostValue}
-use Rattle.xewumbal.specs.Answers.{measureAnswer, shell2Answer, shell4Answer, openAnswer, checkAnswer, nextAnswer, prefactorsAnswer, evaluateAnswer}
+use Rattle.xewumbal.specs.declared.xew_total.{«xew_total»}
+use Rattle.xewumbal.specs.declared.xew_scales.{«xew_scales»}
+use Rattle.xewumbal.specs.Answers.{ExpandCallTold, ListCallTold, JkCallTold, centreIn, cursorIn, hostExpanded, hostListed, hostComponent, hostCursor, hostOpened, foundStep, hostStep, hostTotal, hostScales, hostTable, hostValue}
+use Rattle.xewumbal.specs.Answers.{measureAnswer, shell2Answer, shell4Answer, openAnswer, checkAnswer, nextAnswer, scaleTotalAnswer, rollTotalAnswer, prefactorsAnswer, evaluateAnswer}
 
 -- ---- the cases in fields
 
@@ -87,6 +94,21 @@ step-term s x is answer = simp is answer
 pub step-end : (s : Step) (x : «xew_step») → s .found ≡ found.End → x ≡ foundStep s 2 0 0 → x ≡ hostStep s
 step-end s x is answer = simp is answer
 
+pub total-given : (t : Total) (n : ℕ) → t ≡ total.Is n → record { total = n; claimed = 1; refusal = 0 } ≡ hostTotal t
+total-given t n is = sym (ap hostTotal is)
+
+pub total-not-claimed : (t : Total) → t ≡ total.NotClaimed → record { total = 0; claimed = 0; refusal = 0 } ≡ hostTotal t
+total-not-claimed t is = sym (ap hostTotal is)
+
+pub total-refused : (t : Total) (n : ℕ) → t ≡ total.Refused n → record { total = 0; claimed = 0; refusal = n } ≡ hostTotal t
+total-refused t n is = sym (ap hostTotal is)
+
+pub scales-given : (t : RollTotal) (n : ℕ) → t ≡ rollTotal.Is n → record { total = n; place = 0; refusal = 0 } ≡ hostScales t
+scales-given t n is = sym (ap hostScales is)
+
+pub scales-refused : (t : RollTotal) (n place : ℕ) → t ≡ rollTotal.Refused n place → record { total = 0; place = place; refusal = n } ≡ hostScales t
+scales-refused t n place is = sym (ap hostScales is)
+
 pub value-given : (v : Value) (x : Float) → v ≡ value.Is x → record { value = x; place = 0; refusal = 0 } ≡ hostValue v
 value-given v x is = sym (ap hostValue is)
 
@@ -120,6 +142,14 @@ open-answered roll o x told is = is ∙ ap hostOpened told
 pub check-answered : (roll : List ℕ) (o : Opened) (x : «xew_opened») → o ≡ checkOf roll → x ≡ hostOpened o → x ≡ checkAnswer roll
 unfolding checkAnswer
 check-answered roll o x told is = is ∙ ap hostOpened told
+
+pub scale-total-answered : (kind : ℕ) (orders : List ℕ) (t : Total) (x : «xew_total») → t ≡ totalOf kind orders → x ≡ hostTotal t → x ≡ scaleTotalAnswer kind orders
+unfolding scaleTotalAnswer
+scale-total-answered kind orders t x below is = is ∙ ap hostTotal below
+
+pub roll-total-answered : (roll : List ℕ) (t : RollTotal) (x : «xew_scales») → t ≡ rollTotalOf roll → x ≡ hostScales t → x ≡ rollTotalAnswer roll
+unfolding rollTotalAnswer
+roll-total-answered roll t x below is = is ∙ ap hostScales below
 
 pub next-answered : (c : «xew_cursor») (roll : List ℕ) (below : Cursor) (s : Step) (x : «xew_step») → below ≡ cursorIn c → s ≡ stepOf below roll → x ≡ hostStep s → x ≡ nextAnswer c roll
 unfolding nextAnswer

@@ -11,7 +11,7 @@ use Rattle.laws.proofs.Contract.{Alone, alone, Lent, _then_, _▸_, end}
 use Rattle.xewumbal.specs.declared.xew_centre.{«xew_centre»}
 use Rattle.xewumbal.specs.declared.xew_written.{«xew_written»}
 use Rattle.xewumbal.specs.declared.xew_cursor.{«xew_cursor»}
-use Rattle.xewumbal.specs.Answers.{hostExpanded, hostListed, measureAnswer, shell2Answer, shell4Answer, openAnswer, checkAnswer, nextAnswer, prefactorsAnswer, evaluateAnswer}
+use Rattle.xewumbal.specs.Answers.{hostExpanded, hostListed, measureAnswer, shell2Answer, shell4Answer, openAnswer, checkAnswer, nextAnswer, scaleTotalAnswer, rollTotalAnswer, prefactorsAnswer, evaluateAnswer}
 use Rattle.xewumbal.proofs.xew_expand.Reads.{Post as Expand}
 use Rattle.xewumbal.proofs.xew_measure.Reads.{Post as Measure}
 use Rattle.xewumbal.proofs.xew_shell_list.Reads.{Post as ShellList}
@@ -20,6 +20,8 @@ use Rattle.xewumbal.proofs.xew_shell4.Reads.{Post as Shell4}
 use Rattle.xewumbal.proofs.xew_open.Reads.{Post as Open}
 use Rattle.xewumbal.proofs.xew_check.Reads.{Post as Check}
 use Rattle.xewumbal.proofs.xew_next.Reads.{Post as Next}
+use Rattle.xewumbal.proofs.xew_scale_total.Reads.{Post as ScaleTotal}
+use Rattle.xewumbal.proofs.xew_roll_total.Reads.{Post as RollTotal}
 use Rattle.xewumbal.proofs.xew_prefactors.Reads.{Post as Prefactors}
 use Rattle.xewumbal.proofs.xew_evaluate.Reads.{Post as Evaluate}
 use Rattle.xewumbal.proofs.xew_jk.Reads.{Post as Jk}
@@ -52,6 +54,12 @@ check-only κs roll = alone (λ r p. p)
 
 pub next-only : (κs : Lfts 1) (cursor : «xew_cursor») (roll : Lent ℕ) → let g = cursor ▸ roll ▸ end in Alone (λ r. Next κs g r g) (nextAnswer cursor (roll .now))
 next-only κs cursor roll = alone (λ r p. p)
+
+pub scale-total-only : (κs : Lfts 1) (kind : ℕ) (orders : Lent ℕ) → let g = kind ▸ orders ▸ end in Alone (λ r. ScaleTotal κs g r g) (scaleTotalAnswer kind (orders .now))
+scale-total-only κs kind orders = alone (λ r p. p)
+
+pub roll-total-only : (κs : Lfts 1) (roll : Lent ℕ) → let g = roll ▸ end in Alone (λ r. RollTotal κs g r g) (rollTotalAnswer (roll .now))
+roll-total-only κs roll = alone (λ r p. p)
 
 pub prefactors-only : (kind : ℕ) (a b c d : «xew_centre») → let g = kind ▸ a ▸ b ▸ c ▸ d ▸ end in Alone (λ r. Prefactors tt g r g) (prefactorsAnswer kind a b c d)
 prefactors-only kind a b c d = alone (λ r p. p)

@@ -17,6 +17,10 @@ use Rattle.roll.specs.declared.cursor.Step.{Step}
 use Rattle.roll.specs.declared.header.Opened.{Opened}
 use Rattle.roll.specs.Header.{openOf, checkOf, refusalOf as openedRefusal, placeOf as openedPlace}
 use Rattle.roll.specs.Cursor.{stepOf, refusalOf as foundRefusal, placeOf as foundPlace}
+use Rattle.totals.specs.declared.Total.{Total}
+use Rattle.totals.specs.declared.Total.the-variants as total
+use Rattle.totals.specs.declared.RollTotal.{RollTotal}
+use Rattle.totals.specs.Totals.{totalOf, rollTotalOf, totalIn, refusalOf as totalRefusal, scalesIn, scalesRefusalOf, placeOf as scalesPlace}
 use Rattle.geometry.specs.declared.Centre.{Centre}
 use Rattle.geometry.specs.declared.Table.{Table}
 use Rattle.geometry.specs.Checks.{prefactorTableOf, refusalOf as tableRefusal}
@@ -31,6 +35,8 @@ use Rattle.xewumbal.specs.declared.xew_table.{«xew_table»}
 use Rattle.xewumbal.specs.declared.xew_cursor.{«xew_cursor»}
 use Rattle.xewumbal.specs.declared.xew_opened.{«xew_opened»}
 use Rattle.xewumbal.specs.declared.xew_step.{«xew_step»}
+use Rattle.xewumbal.specs.declared.xew_total.{«xew_total»}
+use Rattle.xewumbal.specs.declared.xew_scales.{«xew_scales»}
 
 -- ---- what the host hands in
 
@@ -105,6 +111,28 @@ hostStep s = foundStep s (foundCode (s .found)) (foundPlace (s .found)) (foundRe
 
 unfoldable pub nextAnswer : «xew_cursor» → List ℕ → «xew_step»
 nextAnswer c roll = hostStep (stepOf (cursorIn c) roll)
+
+-- ---- xew_scale_total: the number, whether one is claimed, and the refusal
+
+-- 1 beside a number, else 0 (D-90)
+abbrev pub claimedCode : Total → ℕ
+claimedCode (total.Is n) = 1
+claimedCode total.NotClaimed = 0
+claimedCode (total.Refused n) = 0
+
+abbrev pub hostTotal : Total → «xew_total»
+hostTotal t = record { total = totalIn t; claimed = claimedCode t; refusal = totalRefusal t }
+
+unfoldable pub scaleTotalAnswer : ℕ → List ℕ → «xew_total»
+scaleTotalAnswer kind orders = hostTotal (totalOf kind orders)
+
+-- ---- xew_roll_total: the sum of a roll's scales, and a refusal with its place
+
+abbrev pub hostScales : RollTotal → «xew_scales»
+hostScales t = record { total = scalesIn t; place = scalesPlace t; refusal = scalesRefusalOf t }
+
+unfoldable pub rollTotalAnswer : List ℕ → «xew_scales»
+rollTotalAnswer roll = hostScales (rollTotalOf roll)
 
 -- ---- xew_prefactors: the table and the refusal
 

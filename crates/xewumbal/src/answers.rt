@@ -1,13 +1,15 @@
 // The structs of the exported functions from those of the crates below, and back.
 ghost use mathlib.Core.Path.{_≡_};
 ghost use Rattle.jk.specs.Outcome.{refusalOf};
-ghost use Rattle.xewumbal.specs.Answers.{centreIn, cursorIn, hostExpanded, hostListed, hostComponent, hostCursor, hostOpened, foundStep, hostStep, hostTable, hostValue};
+ghost use Rattle.xewumbal.specs.Answers.{centreIn, cursorIn, hostExpanded, hostListed, hostComponent, hostCursor, hostOpened, foundStep, hostStep, hostTotal, hostScales, hostTable, hostValue};
 use crate::xew_centre;
 use crate::xew_component;
 use crate::xew_cursor;
 use crate::xew_opened;
+use crate::xew_scales;
 use crate::xew_step;
 use crate::xew_table;
+use crate::xew_total;
 use crate::xew_value;
 use crate::xew_written;
 use expansion::Expanded;
@@ -21,6 +23,8 @@ use roll::Opening;
 use roll::Step;
 use shell::Component;
 use shell::Listed;
+use totals::RollTotal;
+use totals::Total;
 
 pub(crate) fn centre(c: xew_centre) -> Centre
     ensures { λ r. ⌜ r ≡ centreIn c ⌝ }
@@ -162,6 +166,45 @@ pub(crate) fn step(s: Step) -> xew_step
         roll::Found::Refused(refusal, place) => found_step(s, 0, place, refusal),
         roll::Found::Term => found_step(s, 1, 0, 0),
         roll::Found::End => found_step(s, 2, 0, 0),
+    }
+}
+
+pub(crate) fn total(answer: Total) -> xew_total
+    ensures { λ r. ⌜ r ≡ hostTotal answer ⌝ }
+{
+    match answer {
+        Total::Is(total) => xew_total {
+            total,
+            claimed: 1,
+            refusal: 0,
+        },
+        Total::NotClaimed => xew_total {
+            total: 0,
+            claimed: 0,
+            refusal: 0,
+        },
+        Total::Refused(refusal) => xew_total {
+            total: 0,
+            claimed: 0,
+            refusal,
+        },
+    }
+}
+
+pub(crate) fn scales(answer: RollTotal) -> xew_scales
+    ensures { λ r. ⌜ r ≡ hostScales answer ⌝ }
+{
+    match answer {
+        RollTotal::Is(total) => xew_scales {
+            total,
+            place: 0,
+            refusal: 0,
+        },
+        RollTotal::Refused(refusal, place) => xew_scales {
+            total: 0,
+            place,
+            refusal,
+        },
     }
 }
 

@@ -5,7 +5,7 @@ mod answers;
 ghost use mathlib.Core.Path.{_≡_};
 ghost use Rattle.xewumbal.specs.Answers.{ExpandCallTold, ListCallTold, JkCallTold};
 ghost use Rattle.xewumbal.specs.Answers.{measureAnswer, shell2Answer, shell4Answer, openAnswer, checkAnswer, nextAnswer};
-ghost use Rattle.xewumbal.specs.Answers.{prefactorsAnswer, evaluateAnswer};
+ghost use Rattle.xewumbal.specs.Answers.{scaleTotalAnswer, rollTotalAnswer, prefactorsAnswer, evaluateAnswer};
 use kind::Kind;
 
 // Raised when a struct, a meaning or an answer changes. The header and the binding have the same (D-85).
@@ -74,6 +74,21 @@ pub struct xew_step {
     pub refusal: u8,
 }
 
+// `claimed` is 1 beside a total, 0 for a kind of which none is claimed and beside a refusal (D-90).
+#[repr(C)]
+pub struct xew_total {
+    pub total: u64,
+    pub claimed: u8,
+    pub refusal: u8,
+}
+
+#[repr(C)]
+pub struct xew_scales {
+    pub total: u64,
+    pub place: usize,
+    pub refusal: u8,
+}
+
 #[no_mangle]
 pub extern "C" fn xew_expand(
     kind: u8,
@@ -133,6 +148,20 @@ pub extern "C" fn xew_next(cursor: xew_cursor, roll: &[u8]) -> xew_step
     ensures { λ r. ⌜ r ≡ nextAnswer cursor (now (roll .entry)) ⌝ }
 {
     answers::step(answers::cursor_in(cursor).next(roll))
+}
+
+#[no_mangle]
+pub extern "C" fn xew_scale_total(kind: u8, orders: &[u8; Kind::ORDERS]) -> xew_total
+    ensures { λ r. ⌜ r ≡ scaleTotalAnswer kind (now (orders .entry)) ⌝ }
+{
+    answers::total(totals::scale_total(kind, *orders))
+}
+
+#[no_mangle]
+pub extern "C" fn xew_roll_total(roll: &[u8]) -> xew_scales
+    ensures { λ r. ⌜ r ≡ rollTotalAnswer (now (roll .entry)) ⌝ }
+{
+    answers::scales(totals::roll_total(roll))
 }
 
 #[no_mangle]
