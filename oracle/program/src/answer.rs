@@ -62,11 +62,13 @@ fn answer(question: Question, out: &mut Vec<u8>) -> Result<(), Refusal> {
             start,
         } => expand(out, kind, &orders, buffer, start),
         Question::Measure { kind, orders } => measure(out, kind, &orders),
+        Question::Total { kind, orders } => total(out, kind, &orders),
         Question::Shell { m, buffer, start } => shell(out, m, buffer, start),
         Question::Component { shells, number } => component(out, &shells, number),
         Question::List(roll) => list(out, &roll),
         Question::Open(roll) => opened(out, &second::NOW.open(&roll)?),
         Question::Check(roll) => opened(out, &second::NOW.check(&roll)?.0),
+        Question::Scales(roll) => scales(out, &roll),
         Question::Next(cursor, roll) => next(out, cursor, &roll),
         Question::Eval(evaluation) => eval(out, &evaluation),
         Question::Table(kind, centres) => table(out, kind, &centres),
@@ -103,6 +105,32 @@ fn measure(out: &mut Vec<u8>, kind: u8, orders: &[u8; 12]) -> Result<(), Refusal
         second::measure(kind, orders)
     };
     write(out, &format!("measured {} terms {}", length, count));
+    Ok(())
+}
+
+/// Up to so many terms the Rust's own scales are added up, above that those of the second reading;
+/// the tests hold the two together.
+const LISTED_TO_ADD: u32 = 200_000;
+
+fn total(out: &mut Vec<u8>, kind: u8, orders: &[u8; 12]) -> Result<(), Refusal> {
+    second::check_total(kind, orders)?;
+    if !second::is_claimed(kind) {
+        write(out, "total none");
+        return Ok(());
+    }
+    let counted = second::count_histories(kind, orders, LISTED_TO_ADD);
+    let total = if counted <= LISTED_TO_ADD {
+        rust_side::total(kind, orders)
+    } else {
+        second::total(kind, orders)
+    };
+    write(out, &format!("total {}", total));
+    Ok(())
+}
+
+fn scales(out: &mut Vec<u8>, roll: &[u8]) -> Result<(), Refusal> {
+    let (_, terms) = second::NOW.check(roll)?;
+    write(out, &format!("scales {}", second::scales(&terms)));
     Ok(())
 }
 

@@ -108,7 +108,7 @@ fn way(question: &[u8]) -> Option<Way> {
     }
 }
 
-/// The first word; a refusal with its number.
+/// The first word; a refusal with its number, and a total apart from none.
 pub fn class(answer: &[u8]) -> String {
     if answer.is_empty() || answer[0] == b'#' {
         return "the same line".to_string();
@@ -117,6 +117,7 @@ pub fn class(answer: &[u8]) -> String {
     let first = words.next().unwrap_or_default().to_string();
     match (first.as_str(), words.next()) {
         ("refused", Some(number)) => format!("refused {:>2}", number),
+        ("total", Some(none)) if none == "none" => "total none".to_string(),
         _ => first,
     }
 }

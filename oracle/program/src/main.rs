@@ -9,6 +9,8 @@ use std::process::exit;
 const USAGE: &str = "usage: oracle answer < QUESTIONS
        oracle questions KIND-OF-QUESTION COUNT SEED
        oracle questions expand-all KIND [PART OF]
+       oracle questions total-all KIND [MOST]
+       oracle questions scales-all KIND [MOST]
        oracle questions component-all
        oracle count KIND
        oracle last-bits CASES SEED
@@ -64,6 +66,9 @@ fn run(words: &[&str]) -> io::Result<Option<bool>> {
     }
 }
 
+/// The order sum up to which every request is asked for its total, unless another is named.
+const USUAL_MOST: u8 = 4;
+
 fn questions(words: &[&str], out: &mut dyn Write) -> io::Result<Option<bool>> {
     let (word, numbers) = match words.split_first() {
         Some(words) => words,
@@ -75,6 +80,14 @@ fn questions(words: &[&str], out: &mut dyn Write) -> io::Result<Option<bool>> {
         ("expand-all", Ok([kind @ 0..=3])) => runs::every_request(*kind as u8, 0, 1, out)?,
         ("expand-all", Ok([kind @ 0..=3, part, of])) if part < of => {
             runs::every_request(*kind as u8, *part as usize, *of as usize, out)?
+        }
+        ("total-all", Ok([kind @ 0..=3])) => runs::every_total(*kind as u8, USUAL_MOST, out)?,
+        ("total-all", Ok([kind @ 0..=3, most])) if *most <= NOW.order_sum.into() => {
+            runs::every_total(*kind as u8, *most as u8, out)?
+        }
+        ("scales-all", Ok([kind @ 0..=3])) => runs::every_scales(*kind as u8, USUAL_MOST, out)?,
+        ("scales-all", Ok([kind @ 0..=3, most])) if *most <= NOW.order_sum.into() => {
+            runs::every_scales(*kind as u8, *most as u8, out)?
         }
         ("expand-within", Ok([count, seed])) => runs::within_the_cap(*count, *seed, out)?,
         ("measure-around", Ok([count, seed])) => runs::around_the_cap(*count, *seed, out)?,

@@ -82,7 +82,7 @@ fn random_line(random: &mut Random) -> Vec<u8> {
 /// A question of exactly this length, or a comment where none has it.
 pub fn longest(kind: &str, length: usize) -> Vec<u8> {
     let mut line = match kind {
-        "list" | "open" | "check" => format!("{} ", kind).into_bytes(),
+        "list" | "open" | "check" | "scales" => format!("{} ", kind).into_bytes(),
         "next" => b"next 0 0 0 0 ".to_vec(),
         _ => b"#".to_vec(),
     };

@@ -51,6 +51,10 @@ pub enum Question {
         kind: u8,
         orders: [u8; 12],
     },
+    Total {
+        kind: u8,
+        orders: [u8; 12],
+    },
     Shell {
         m: u8,
         buffer: usize,
@@ -63,6 +67,7 @@ pub enum Question {
     List(Vec<u8>),
     Open(Vec<u8>),
     Check(Vec<u8>),
+    Scales(Vec<u8>),
     Next(Cursor, Vec<u8>),
     Eval(Evaluation),
     Table(u8, [Centre; 4]),
@@ -184,6 +189,10 @@ fn question(bytes: &[u8]) -> Option<Question> {
             let (kind, orders) = words.request()?;
             Question::Measure { kind, orders }
         }
+        b"total" => {
+            let (kind, orders) = words.request()?;
+            Question::Total { kind, orders }
+        }
         b"shell" => {
             let m = words.byte()?;
             let (buffer, start) = words.room()?;
@@ -193,6 +202,7 @@ fn question(bytes: &[u8]) -> Option<Question> {
         b"list" => Question::List(words.roll()?),
         b"open" => Question::Open(words.roll()?),
         b"check" => Question::Check(words.roll()?),
+        b"scales" => Question::Scales(words.roll()?),
         b"next" => {
             let cursor = Cursor {
                 kind: words.byte()?,

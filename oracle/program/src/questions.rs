@@ -10,14 +10,16 @@ use crate::{matrices, odd_lines, requests, rolls, runs, rust_side};
 use std::io::{self, Write};
 
 /// The kinds of question, as `oracle/ask-both` names them.
-pub const KINDS: [&str; 12] = [
+pub const KINDS: [&str; 14] = [
     "shell",
     "component",
     "expand",
     "measure",
+    "total",
     "list",
     "open",
     "check",
+    "scales",
     "next",
     "eval",
     "table",
@@ -29,6 +31,9 @@ pub const KINDS: [&str; 12] = [
 /// questions are about these.
 const ALL_TRIED: u64 = 50_000;
 
+/// The bytes of the longest roll that fits into a line after `scales`.
+const ROLL_OF_A_LINE: usize = (LONGEST_LINE - "scales ".len()) / 2;
+
 /// Writes `count` questions of a kind; false where there is no such kind. `component` has all
 /// 50,625 components of four shells of order 4 on top.
 pub fn write_all(kind: &str, count: u64, seed: u64, out: &mut dyn Write) -> io::Result<bool> {
@@ -39,7 +44,7 @@ pub fn write_all(kind: &str, count: u64, seed: u64, out: &mut dyn Write) -> io::
         runs::every_component(4, out)?;
     }
     let one_by_one = match kind {
-        "list" | "open" | "check" | "next" | "eval" => rolls::tried_one_by_one(),
+        "list" | "open" | "check" | "scales" | "next" | "eval" => rolls::tried_one_by_one(),
         _ => Vec::new(),
     };
     let most_tried = if count < ALL_TRIED { count / 2 } else { count };
@@ -75,6 +80,7 @@ fn at_a_limit(kind: &str, from_end: u64) -> Option<Vec<u8>> {
         5 => Some(odd_lines::longest(kind, LONGEST_LINE)),
         4 => Some(odd_lines::longest(kind, LONGEST_LINE + 1)),
         3 if kind == "eval" => Some(odd_lines::with_boys(MOST_BOYS)),
+        3 if kind == "scales" => Some(with_roll(kind, &rolls::of_largest_scales(ROLL_OF_A_LINE))),
         2 if kind == "eval" => Some(odd_lines::with_boys(MOST_BOYS + 1)),
         _ => None,
     }
@@ -86,7 +92,8 @@ fn question(random: &mut Random, kind: &str, at: u64) -> Vec<u8> {
         "shell" => shell(random, at),
         "component" => component(random),
         "measure" => measure(random),
-        "list" | "open" | "check" | "next" => {
+        "total" => total(random),
+        "list" | "open" | "check" | "scales" | "next" => {
             let roll = rolls::any(random);
             about_roll(random, kind, &roll, Walk::Anywhere)
         }
@@ -170,6 +177,16 @@ fn expand(random: &mut Random, fixed_kind: Option<u8>) -> Vec<u8> {
 fn measure(random: &mut Random) -> Vec<u8> {
     let (kind, orders) = request(random, None);
     numbers("measure", kind, &orders)
+}
+
+/// Mostly of a kind whose total is claimed.
+fn total(random: &mut Random) -> Vec<u8> {
+    let fixed_kind = match random.below(10) {
+        0 => None,
+        _ => Some(random.one_of(&[0, 2, 3])),
+    };
+    let (kind, orders) = request(random, fixed_kind);
+    numbers("total", kind, &orders)
 }
 
 /// A request, mostly a small one, now and then a wrong one.

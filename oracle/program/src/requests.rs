@@ -5,17 +5,20 @@ use crate::rust_side;
 use crate::second::{self, NOW};
 use std::ops::RangeInclusive;
 
-/// The orders that a centre may have, as the shells list them.
-fn triples() -> Vec<[u8; 3]> {
-    let list: Vec<u8> = (0..=NOW.order_sum)
-        .flat_map(rust_side::shell_list)
-        .collect();
+/// The orders that a centre may have up to this sum, as the shells list them.
+fn triples(most: u8) -> Vec<[u8; 3]> {
+    let list: Vec<u8> = (0..=most).flat_map(rust_side::shell_list).collect();
     list.chunks(3).map(|t| [t[0], t[1], t[2]]).collect()
 }
 
 /// Every request of a kind that is within the limits, the first centre's orders fastest.
 pub fn every(kind: u8) -> Vec<[u8; 12]> {
-    let triples = triples();
+    every_within(kind, NOW.order_sum)
+}
+
+/// The same up to this order sum on a centre and on the operator.
+pub fn every_within(kind: u8, most: u8) -> Vec<[u8; 12]> {
+    let triples = triples(most);
     let mut requests = vec![[0; 12]];
     for centre in (0..second::orders_used(kind) / 3).rev() {
         let mut longer = Vec::new();
@@ -34,7 +37,7 @@ pub fn every(kind: u8) -> Vec<[u8; 12]> {
 /// A request within the limits, each as likely as any other. Of the Coulomb ones nine in ten
 /// are beyond the cap.
 pub fn any(random: &mut Random, kind: u8) -> [u8; 12] {
-    let triples = triples();
+    let triples = triples(NOW.order_sum);
     let mut orders = [0; 12];
     for centre in orders[..second::orders_used(kind)].chunks_mut(3) {
         centre.copy_from_slice(&random.one_of(&triples));

@@ -102,6 +102,20 @@ fn of_count(random: &mut Random, count: u64) -> Vec<u8> {
     second::write_roll(kind, &orders, &vec![term; count as usize])
 }
 
+/// A legal roll of at most this length with as many terms of the largest scale as fit, so that
+/// the sum of its scales is the largest.
+pub fn of_largest_scales(most: usize) -> Vec<u8> {
+    let term = Term {
+        scale: NOW.scale,
+        ..Term::default()
+    };
+    let of = |count: usize| second::write_roll(0, &[0; 12], &vec![term.clone(); count]);
+    let each = of(2).len() - of(1).len();
+    // The count of so many takes three bytes, that of one term a byte.
+    let header = of(1).len() - each + 2;
+    of((most - header) / each)
+}
+
 /// A legal roll with one number changed, mostly by little, or to a limit.
 fn one_number_changed(random: &mut Random) -> Vec<u8> {
     let mut list = numbers(random);

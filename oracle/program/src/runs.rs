@@ -1,7 +1,7 @@
-//! Runs of well-formed lines: every component, every request of a kind, and Coulomb requests
-//! within the cap and around it.
+//! Runs of well-formed lines: every component, every request of a kind, its total and its scales,
+//! and Coulomb requests within the cap and around it.
 
-use crate::lines::numbers;
+use crate::lines::{numbers, with_roll};
 use crate::random::Random;
 use crate::{requests, rust_side};
 use std::io::{self, Write};
@@ -19,6 +19,23 @@ pub fn every_component(m: u8, out: &mut dyn Write) -> io::Result<()> {
 pub fn every_request(kind: u8, part: usize, of: usize, out: &mut dyn Write) -> io::Result<()> {
     for orders in requests::every(kind).iter().skip(part).step_by(of) {
         ask("expand", kind, orders, out)?;
+    }
+    out.flush()
+}
+
+/// Every request of a kind with at most this order sum on a centre, asked for its total.
+pub fn every_total(kind: u8, most: u8, out: &mut dyn Write) -> io::Result<()> {
+    for orders in requests::every_within(kind, most) {
+        ask("total", kind, &orders, out)?;
+    }
+    out.flush()
+}
+
+/// The Rust's roll of each of these, whose scales are to be added.
+pub fn every_scales(kind: u8, most: u8, out: &mut dyn Write) -> io::Result<()> {
+    for orders in requests::every_within(kind, most) {
+        out.write_all(&with_roll("scales", &rust_side::roll(kind, &orders)))?;
+        out.write_all(b"\n")?;
     }
     out.flush()
 }

@@ -77,6 +77,11 @@ pub fn measure(kind: u8, orders: &[u8; 12]) -> (usize, usize) {
     (length, terms.len())
 }
 
+/// The scales of the Rust's own terms added up.
+pub fn total(kind: u8, orders: &[u8; 12]) -> u64 {
+    second::scales(&terms(kind, orders))
+}
+
 /// Is this list the one that the Rust expands from the header's kind and orders?
 pub fn is_own_list(header: &Header, list: &[Term]) -> bool {
     // The count is cheap; most lists that are not the Rust's own fail here.

@@ -18,7 +18,18 @@ fn agreed_terms(kind: u8, orders: &[u8; 12]) -> Vec<Term> {
     assert_eq!(terms.len(), counted as usize);
     let length = second::write_roll(kind, orders, &terms).len();
     assert_eq!(second::measure(kind, orders), (length, terms.len()));
+    agreed_total(kind, orders, &terms);
     terms
+}
+
+/// The Rust's scales add up to the second reading's total, and to 02's product where it claims one
+///
+fn agreed_total(kind: u8, orders: &[u8; 12], terms: &[Term]) {
+    let total = second::scales(terms);
+    assert_eq!(second::total(kind, orders), total);
+    if second::is_claimed(kind) {
+        assert_eq!(second::by_hand(kind, orders), total, "{:?}", orders);
+    }
 }
 
 /// A fresh roll reads.

@@ -48,6 +48,14 @@ fn every_kind_of_answer_comes_up() {
                 "refused  3",
                 "refused  4",
             ],
+            "total" => &[
+                "total",
+                "total none",
+                "refused  1",
+                "refused  2",
+                "refused  3",
+            ],
+            "scales" => &["scales", "refused  7", "refused 14"],
             "list" => &["listing", "refused  6", "refused  7", "refused 14"],
             "open" | "check" => &["opened", "refused  7", "refused 14"],
             "next" => &["term", "end", "refused  7", "refused 14"],
@@ -188,6 +196,26 @@ fn every_request_is_asked_once() {
             .collect();
         let parts: BTreeSet<&[u8]> = parts.iter().flat_map(|part| lines(part)).collect();
         assert!(parts == different);
+    }
+}
+
+#[test]
+fn every_total_is_asked_once() {
+    for (kind, most, count) in [(0, 4, 1_225), (3, 4, 42_875), (2, 6, 7_056)] {
+        let whole = run(|out| runs::every_total(kind, most, out));
+        let different: BTreeSet<&[u8]> = lines(&whole).into_iter().collect();
+        assert_eq!((different.len(), lines(&whole).len()), (count, count));
+    }
+    // The scales of the same requests' rolls, in the same order.
+    for kind in [0, 1, 2] {
+        let totals = answers(&run(|out| runs::every_total(kind, 3, out)));
+        let scales = answers(&run(|out| runs::every_scales(kind, 3, out)));
+        assert_eq!((lines(&totals).len(), lines(&scales).len()), (400, 400));
+        for (total, scales) in lines(&totals).into_iter().zip(lines(&scales)) {
+            let number = scales.strip_prefix(b"scales ").expect("a roll reads");
+            let told = total.strip_prefix(b"total ").expect("a total is told");
+            assert!(told == number || kind == 1 && told == b"none");
+        }
     }
 }
 

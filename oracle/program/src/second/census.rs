@@ -159,6 +159,15 @@ impl Census {
     }
 }
 
+/// Every request of kinds 0 to 3 and the total of its scales, which u32 holds.
+pub fn totals(kind: u8) -> Vec<([u8; 12], u64)> {
+    let census = Census::of(kind);
+    let total = |number: usize| u64::from(census.requests[number].scales);
+    (0..census.requests.len())
+        .map(|number| (census.orders(number), total(number)))
+        .collect()
+}
+
 /// A number, and the first request that has it.
 pub type Found = (u64, [u8; 12]);
 

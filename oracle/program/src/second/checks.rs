@@ -48,7 +48,7 @@ fn fits(length: usize, buffer: usize, start: u64) -> Result<(), Refusal> {
     Ok(())
 }
 
-// Expansion and measuring
+// Expansion, measuring and the total
 
 /// 1, 2, 3: the kind and the twelve orders.
 fn check_orders(kind: u8, orders: &[u8; 12]) -> Result<(), Refusal> {
@@ -93,6 +93,11 @@ pub fn check_request(
 pub fn check_measured(kind: u8, orders: &[u8; 12]) -> Result<(), Refusal> {
     check_orders(kind, orders)?;
     check_count(kind, orders)
+}
+
+/// The total: 1, 2, 3. There is no list, and so no 4.
+pub fn check_total(kind: u8, orders: &[u8; 12]) -> Result<(), Refusal> {
+    check_orders(kind, orders)
 }
 
 /// 6: the whole roll doesn't fit from the start place on.

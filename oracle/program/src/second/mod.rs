@@ -14,10 +14,11 @@ mod matrices;
 mod refusal;
 mod roll;
 mod steps;
+mod totals;
 
-pub use census::{facts, Facts};
+pub use census::{facts, totals, Facts};
 pub use checks::{check_component, check_evaluation, check_matrices, check_measured};
-pub use checks::{check_request, check_results, check_room, check_shell, check_table};
+pub use checks::{check_request, check_results, check_room, check_shell, check_table, check_total};
 pub use geometry::geometry_and_table;
 pub use limits::{orders_used, table_size, Limits, BEFORE, NOW};
 pub use listing::listing;
@@ -25,3 +26,4 @@ pub use matrices::j_and_k;
 pub use refusal::{refusal, Refusal};
 pub use roll::{measure, read_number, write_number, write_roll, Header, Step, Unread};
 pub use steps::{count_histories, terms, Term};
+pub use totals::{by_hand, is_claimed, scales, total};
