@@ -143,6 +143,7 @@ static void play_large(uint64_t number)
         xew_opened opened = try_open(roll), checked = try_check(roll);
         hold(same_opened(opened, checked), "xew_open and xew_check disagree");
         try_evaluate(roll, checked);
+        try_roll_total(roll, checked);
     }
 }
 
@@ -157,6 +158,7 @@ static void play(void)
     try_next(roll, cursor);
     for (int i = 0; i < 3; i++)
         try_next(roll, any_cursor(cursor, roll.length));
+    try_roll_total(roll, checked);
     try_evaluate(roll, checked);
     try_evaluate(roll, checked);
 

@@ -160,6 +160,41 @@ xew_opened expected_check(const uint8_t *roll, size_t length)
     return opened;
 }
 
+/* Number p of 02's list (Q-11): it starts 1, first, and goes on as first times the last plus first*(p-1) times the one
+ * before. */
+static uint64_t by_hand(uint64_t first, unsigned p)
+{
+    uint64_t before = 1, last = first;
+    for (unsigned i = 2; i <= p; i++) {
+        uint64_t next = first * last + first * (i - 1) * before;
+        before = last;
+        last = next;
+    }
+    return p ? last : before;
+}
+
+xew_total expected_total(uint8_t kind, const uint8_t *orders)
+{
+    xew_total total = { 0, 0, expected_request(kind, orders) };
+    if (total.refusal || kind == 1 || kind == 4)
+        return total;
+    total.total = total.claimed = 1;
+    for (int axis = 0; axis < 3; axis++)
+        total.total *= by_hand(kind == 2 ? 2 : 1, orders[axis] + orders[axis + 3] + orders[axis + 6]);
+    return total;
+}
+
+uint64_t expected_scales(xew_opened checked, const uint8_t *roll, size_t length)
+{
+    uint64_t sum = 0;
+    xew_step step = { .next = checked.cursor, .found = 1 };
+    while (step.found == 1) {
+        step = expected_next(step.next, roll, length);
+        sum += step.scale;
+    }
+    return sum;
+}
+
 bool all_finite(const double *floats, size_t count)
 {
     for (size_t i = 0; i < count; i++)

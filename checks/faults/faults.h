@@ -83,6 +83,8 @@ xew_component expected_component(const uint8_t *shells, int count, uint32_t numb
 xew_opened expected_open(const uint8_t *roll, size_t length);
 xew_opened expected_check(const uint8_t *roll, size_t length);
 xew_step expected_next(xew_cursor cursor, const uint8_t *roll, size_t length);
+xew_total expected_total(uint8_t kind, const uint8_t *orders);
+uint64_t expected_scales(xew_opened checked, const uint8_t *roll, size_t length); /* of a roll that reads */
 uint8_t expected_table(uint8_t kind, const xew_centre *centres);                  /* 0: or 11 */
 uint8_t expected_value(xew_opened checked, const xew_centre *centres, double aux, /* 0: or 11 */
                        const double *boys, size_t boys_length);

@@ -89,6 +89,21 @@ xew_cursor step_through(struct slice roll, xew_opened opened, xew_opened checked
     return on_the_way;
 }
 
+uint64_t try_roll_total(struct slice roll, xew_opened checked)
+{
+    uint64_t sum = checked.refusal ? 0 : expected_scales(checked, roll.mine, roll.length);
+    maybe_null(&roll, TOTAL_ROLL);
+    for (int again = 0; again < 2; again++) {
+        BEGIN(ROLL_TOTAL, "roll_len", roll.length);
+        with_slice(&roll);
+        xew_scales scales = xew_roll_total(roll.lent, roll.length);
+        count(ROLL_TOTAL, scales.refusal, again);
+        hold(scales.refusal == checked.refusal && scales.place == checked.place, "xew_roll_total: not check's refusal");
+        hold(scales.total == sum, "xew_roll_total: another sum than of the terms");
+    }
+    return sum;
+}
+
 void try_evaluate(struct slice roll, xew_opened checked)
 {
     struct {
@@ -146,6 +161,7 @@ void try_cuts(const uint8_t *bytes, size_t length)
         if (!opened.refusal)
             hold(step.refusal == 14 && step.place == checked.place, "a cut term that is not 14 where check says");
         try_evaluate(roll, checked);
+        try_roll_total(roll, checked);
     }
 }
 
@@ -178,6 +194,23 @@ static xew_written try_measure(const struct request *request)
     return first;
 }
 
+/* The number by hand. */
+static xew_total try_scale_total(const struct request *request)
+{
+    struct slice orders = lend_copy(&orders_arena, "orders", request->orders, XEW_ORDERS, 1);
+    uint8_t kind = request->kind;
+    xew_total expected = expected_total(kind, request->orders);
+    for (int again = 0; again < 2; again++) {
+        BEGIN(SCALE_TOTAL, "kind", kind);
+        with_slice(&orders);
+        xew_total total = xew_scale_total(kind, orders.lent);
+        count(SCALE_TOTAL, total.refusal, again);
+        hold(total.total == expected.total && total.claimed == expected.claimed && total.refusal == expected.refusal,
+             "xew_scale_total: another answer than document 02's");
+    }
+    return expected;
+}
+
 /* An expansion, after its measuring, which it is held to. Answers the roll, lent again for reading. */
 struct slice try_expand(const struct request *request, size_t length, size_t start)
 {
@@ -188,6 +221,7 @@ struct slice try_expand(const struct request *request, size_t length, size_t sta
     size_t room = start <= length ? length - start : 0;
     fill(&out, byte);
     xew_written expected = try_measure(request);
+    xew_total total = try_scale_total(request);
     hold(untouched(&out, byte, 0, 0), "xew_measure: a byte changed");
     if (!refusal && start > length)
         refusal = 5;
@@ -227,6 +261,8 @@ struct slice try_expand(const struct request *request, size_t length, size_t sta
     hold(!checked.refusal && checked.cursor.kind == kind && checked.cursor.left == expected.terms
              && !memcmp(checked.orders, request->orders, XEW_ORDERS), "xew_expand: its roll does not read back");
     step_through(roll, checked, checked);
+    uint64_t scales = try_roll_total(roll, checked);
+    hold(!total.claimed || scales == total.total, "the scales do not add up to the number by hand");
     return roll;
 }
 

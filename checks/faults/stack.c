@@ -162,6 +162,20 @@ CALLER void next(void)
         note(xew_next(opened[k].cursor, rolls[k], lengths[k]).refusal);
 }
 
+CALLER void scale_total(void)
+{
+    FROM_HERE;
+    for (uint8_t k = 0; k < XEW_KINDS; k++)
+        note(xew_scale_total(k, &most_terms[k]).refusal);
+}
+
+CALLER void roll_total(void)
+{
+    FROM_HERE;
+    for (int k = 0; k < XEW_KINDS; k++)
+        note(xew_roll_total(rolls[k], lengths[k]).refusal);
+}
+
 CALLER void prefactors(void)
 {
     FROM_HERE;
@@ -235,6 +249,8 @@ int main(int words, char **word)
     row("xew_open, the most terms of each kind", open_rolls);
     row("xew_check, the most terms of each kind", check);
     row("xew_next, the most terms of each kind", next);
+    row("xew_scale_total, each kind", scale_total);
+    row("xew_roll_total, the most terms of each kind", roll_total);
     row("xew_prefactors, each kind", prefactors);
     row("xew_evaluate, the most terms of each kind", evaluate);
     row("xew_jk, size 16", jk);

@@ -4,12 +4,15 @@
 
 #include "faults.h"
 
-enum function { EXPAND, MEASURE, SHELL_LIST, SHELL2, SHELL4, OPEN, CHECK, NEXT, PREFACTORS, EVALUATE, JK, FUNCTIONS };
+enum function {
+    EXPAND, MEASURE, SHELL_LIST, SHELL2, SHELL4, OPEN, CHECK, NEXT, SCALE_TOTAL, ROLL_TOTAL, PREFACTORS, EVALUATE, JK,
+    FUNCTIONS
+};
 
 /* Slices that may be of length 0 and null. */
 enum empty {
-    EXPAND_OUT, LIST_OUT, OPEN_ROLL, CHECK_ROLL, NEXT_ROLL, EVALUATE_ROLL, EVALUATE_BOYS, JK_I, JK_D, JK_J, JK_K,
-    EMPTIES
+    EXPAND_OUT, LIST_OUT, OPEN_ROLL, CHECK_ROLL, NEXT_ROLL, TOTAL_ROLL, EVALUATE_ROLL, EVALUATE_BOYS, JK_I, JK_D, JK_J,
+    JK_K, EMPTIES
 };
 
 extern struct arena roll_arena, orders_arena, out_arena, boys_arena, i_arena, d_arena, j_arena, k_arena;
@@ -36,6 +39,7 @@ xew_opened try_open(struct slice roll);
 xew_opened try_check(struct slice roll);
 void try_next(struct slice roll, xew_cursor cursor);
 xew_cursor step_through(struct slice roll, xew_opened opened, xew_opened checked);
+uint64_t try_roll_total(struct slice roll, xew_opened checked); /* the sum */
 void try_evaluate(struct slice roll, xew_opened checked);
 void try_cuts(const uint8_t *bytes, size_t length); /* of a roll that reads */
 struct slice try_expand(const struct request *request, size_t length, size_t start);

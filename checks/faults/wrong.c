@@ -110,6 +110,30 @@ xew_value __wrap_xew_evaluate(const uint8_t *roll, size_t roll_len, xew_centre a
     return value;
 }
 
+xew_total __real_xew_scale_total(uint8_t kind, const uint8_t (*orders)[12]);
+xew_total __wrap_xew_scale_total(uint8_t kind, const uint8_t (*orders)[12])
+{
+    uint8_t without[12];
+    memcpy(without, *orders, 12);
+    if (is("leaves-the-operator-out") && kind == 3)
+        memset(without + 6, 0, 3);
+    xew_total total = __real_xew_scale_total(kind, (const uint8_t (*)[12])&without);
+    if (is("totals-a-kinetic-request") && kind == 1 && !total.refusal)
+        total.claimed = 1;
+    return total;
+}
+
+xew_scales __real_xew_roll_total(const uint8_t *roll, size_t roll_len);
+xew_scales __wrap_xew_roll_total(const uint8_t *roll, size_t roll_len)
+{
+    xew_scales scales = __real_xew_roll_total(roll, roll_len);
+    if (is("adds-in-32-bits"))
+        scales.total = (uint32_t)scales.total;
+    if (is("adds-up-a-cut-roll") && scales.refusal == 14)
+        scales = (xew_scales){ 1, 0, 0 };
+    return scales;
+}
+
 uint8_t __real_xew_jk(size_t n, const double *i, size_t i_len, const double *d, size_t d_len, double *j, size_t j_len,
                       double *k, size_t k_len);
 uint8_t __wrap_xew_jk(size_t n, const double *i, size_t i_len, const double *d, size_t d_len, double *j, size_t j_len,
