@@ -244,6 +244,17 @@ roll-is : (k : Kind) (orders : List ℕ) → rollOf k orders ≡ rollWith k orde
 unfolding rollOf
 roll-is k orders = refl
 
+-- the bytes that a call has written are the request's roll
+pub written-is : (kind : ℕ) (orders before : List ℕ) (begin long count : ℕ) (after : List ℕ) (of : Known kind orders before begin (Roll long count) after) → writtenAt after begin long ≡ rollOf (of .k) orders
+written-is kind orders before begin long count after of =
+    let a = answered (of .k) orders before begin long count (of .answer) in cut before begin long after (rollOf (of .k) orders) (ltb-false (length before) begin (a .five)) (a .long-is) (of .out)
+  where
+    cut : (out : List ℕ) (at long : ℕ) (after bytes : List ℕ) → at ≤ length out → long ≡ length bytes → after ≡ placed out at bytes → writtenAt after at long ≡ bytes
+    cut out at long after bytes h l e =
+        ap (λ (x : List ℕ). take long (drop at x)) e
+        ∙ ap (take long) (drop-at (take at out) (bytes ++ drop (at + length bytes) out) at (length-take at out ∙ omega arith))
+        ∙ take-at bytes (drop (at + length bytes) out) long (sym l)
+
 module _ (kind : ℕ) (orders before : List ℕ) (begin : ℕ) (in-full : length orders ≡ requestOrders) where
   read-again : (long count : ℕ) (after : List ℕ) → Known kind orders before begin (Roll long count) after → ReadsBack kind orders before begin long count after
   read-again long count after of =
@@ -252,8 +263,7 @@ module _ (kind : ℕ) (orders before : List ℕ) (begin : ℕ) (in-full : length
       let within : RequestWithin k orders = record { low-sums = a .two; none-unused = a .three; in-full = in-full } in
       let few : length (termsOf k orders) ≤ mostTerms = ltb-false mostTerms (length (termsOf k orders)) (a .four) in
       let s = writtenAt after begin long in
-      let is : writtenAt after begin long ≡ rollOf k orders =
-      cut before begin long after (rollOf k orders) (ltb-false (length before) begin (a .five)) (a .long-is) (of .out) in
+      let is = written-is kind orders before begin long count after of in
       let j = the-judged k orders within few s is in
       record {
         k = k;
@@ -269,12 +279,6 @@ module _ (kind : ℕ) (orders before : List ℕ) (begin : ℕ) (in-full : length
         judged-l = judged-l (checkOf s) s j ∙ used-total k orders within;
         judged-left = judged-left (checkOf s) s j ∙ sym (a .count-is);
       }
-    where
-      cut : (out : List ℕ) (at long : ℕ) (after bytes : List ℕ) → at ≤ length out → long ≡ length bytes → after ≡ placed out at bytes → writtenAt after at long ≡ bytes
-      cut out at long after bytes h l e =
-          ap (λ (x : List ℕ). take long (drop at x)) e
-          ∙ ap (take long) (drop-at (take at out) (bytes ++ drop (at + length bytes) out) at (length-take at out ∙ omega arith))
-          ∙ take-at bytes (drop (at + length bytes) out) long (sym l)
 
   pub demand-2 : (r : Expanded) (after : List ℕ) → ExpandTold kind orders before begin r after → Demand2 kind orders before begin r after
   demand-2 r after told =
