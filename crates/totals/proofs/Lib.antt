@@ -1,7 +1,10 @@
 pub mod AnswerLaws
 pub mod Branching
+pub mod Examples
 pub mod Falling
 pub mod Growing
+pub mod Only
 pub mod RunLaws
 pub mod Shown
 pub mod SumLaws
+pub mod Written

@@ -1,20 +1,28 @@
 -- The sum of a roll's scales: a judged roll's terms read again are its own, and a scale below 2^32 for each of fewer than 2^32 terms fits a word.
 use Prim.Native.Nat.{ℕ, suc, _+_, _*_, _-_, _^_, _≤_, _<_}
 use mathlib.Core.Path.{_≡_, refl, ap, _∙_}
-use mathlib.Core.List.{List, _∷_}
+use mathlib.Core.List.{List, [], _∷_}
 use native.Mathlib.Omega.{arith}
+use native.Mathlib.Nat.{mul-le-mul-right}
 use mir.Syntax.{w64}
 use mir.Val.{Fits}
 use Rattle.laws.specs.Total.{total}
+use lib.ListN.{length}
+use Rattle.kind.specs.declared.Kind.{Kind}
+use Rattle.kind.specs.Limits.{mostTerms, mostScale}
+use Rattle.term.specs.Terms.{Term}
 use Rattle.number.specs.Numbers.{Bytes}
 use Rattle.roll.specs.declared.again.Head.{Head}
 use Rattle.roll.specs.declared.header.Opened.{Opened}
 use Rattle.roll.specs.declared.header.Opening.the-variants as opening
 use Rattle.roll.specs.Header.{checkOf}
+use Rattle.roll.specs.Fits.{TermsFit}
+use Rattle.roll.specs.Reading.{Roll, got, rollAt}
 use Rattle.roll.specs.inner.Again.{headAt, headTerm, termsAgain}
 use Rattle.roll.specs.inner.Judged.{Judged}
 use Rattle.roll.proofs.Checked.{checked-judged, checked-refused}
 use Rattle.roll.proofs.AgainLaws.{judged-again}
+use Rattle.roll.proofs.Written.{roll-read}
 use Rattle.totals.specs.declared.RollTotal.the-variants as rollTotal
 use Rattle.totals.specs.Totals.{scaleSum, rollTotalOf}
 
@@ -44,3 +52,20 @@ module _ (s : List ℕ) (o : Opened) where
   pub sum-refused : (r place : ℕ) → o ≡ checkOf s → o .found ≡ opening.Refused r place → rollTotal.Refused r place ≡ rollTotalOf s
   unfolding rollTotalOf
   sum-refused r place e f = rw (checked-refused s o r place e f)
+
+-- ---- how large the sum of a roll can be, by the limits alone
+
+terms-most : (k : Kind) (l : ℕ) (ts : List Term) → TermsFit k l ts → scaleSum ts ≤ length ts * mostScale
+unfolding total
+terms-most k l [] fit = omega arith
+terms-most k l (t ∷ ts) fit = let h = terms-most k l ts (fit .1) in let s = fit .0 .scale in let e : length (t ∷ ts) * mostScale ≡ mostScale + length ts * mostScale = omega arith in omega arith
+
+pub roll-sum-most : (s : List ℕ) (r : Roll) (end : ℕ) → Bytes s → rollAt s ≡ got r end → scaleSum (r .terms) ≤ mostTerms * mostScale
+roll-sum-most s r end bytes reads =
+    let fits = roll-read s r end bytes reads .1 in
+    let h = terms-most (r .kind) (total (r .orders)) (r .terms) (fits .terms) in
+    let l : length (r .terms) * mostScale ≤ mostTerms * mostScale = mul-le-mul-right mostScale (fits .most) in
+    omega arith
+
+pub most-fits : mostTerms * mostScale < 2 ^ 64
+most-fits = omega arith
