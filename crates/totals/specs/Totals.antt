@@ -27,7 +27,7 @@ scaleSum ts = total (scales ts)
 
 -- ---- the number by hand
 
--- "For overlap and moment .. For nuclear": of kinetic and Coulomb nothing is claimed
+-- "For overlap and moment .. For nuclear": of kinetic and Coulomb nothing is claimed (D-90, D-91)
 abbrev pub claimed : Kind → Bool
 claimed Overlap = true
 claimed Kinetic = false

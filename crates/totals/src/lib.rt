@@ -140,7 +140,7 @@ fn sum_from(roll: &[u8], start: usize, terms: u32) -> u64
     sum
 }
 
-// The scales of all terms of a roll, added up.
+// The scales of all terms of a roll, added up (D-92).
 pub fn roll_total(roll: &[u8]) -> RollTotal
     ensures { λ r. ⌜ r ≡ rollTotalOf (now (roll .entry)) ⌝ }
 {
