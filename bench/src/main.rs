@@ -18,6 +18,7 @@ mod rust_side;
 mod same;
 mod table;
 mod timing;
+mod totals;
 
 use measure::Row;
 use requests::Request;

@@ -3,6 +3,7 @@
 use crate::components::{self, COUNT};
 use crate::matrices::{self, SIZES};
 use crate::measure::Row;
+use crate::totals;
 use std::time::Duration;
 
 /// The least ratios that are asked for: of an expansion with Boys orders and without, and of an evaluation.
@@ -147,6 +148,23 @@ fn print_matrices() -> Result<(), String> {
     Ok(())
 }
 
+/// A total over a roll reads each term's head once more after the roll is judged.
+fn print_totals() -> Result<(), String> {
+    heading("totals | xew_scale_total, ns a call | xew_roll_total, ns a call | xew_check, ns a call | roll_total through check");
+    for request in totals::requests() {
+        let [by_hand, over_roll, judged] = totals::times(&request, Duration::from_millis(100))?;
+        println!(
+            "| {} | {:.1} | {:.0} | {:.0} | {:.2} |",
+            request.title(),
+            by_hand,
+            over_roll,
+            judged,
+            over_roll / judged
+        );
+    }
+    Ok(())
+}
+
 pub fn print(rows: &[Row], has_goals: bool) -> Result<(), String> {
     let table = Table { has_goals };
     let (accepted, refused): (Vec<&Row>, Vec<&Row>) = rows.iter().partition(|row| row.terms > 0.0);
@@ -161,5 +179,6 @@ pub fn print(rows: &[Row], has_goals: bool) -> Result<(), String> {
     let time = largest.map_or(f64::NAN, |row| row.expansion[1]);
     table.print_refusals(&refused, time);
     table.print_components();
-    print_matrices()
+    print_matrices()?;
+    print_totals()
 }
