@@ -14,7 +14,7 @@ use Rattle.expansion.specs.inner.Requests.{RequestWithin}
 use Rattle.totals.specs.declared.Total.{Total}
 use Rattle.totals.specs.declared.Total.the-variants as total
 use Rattle.totals.specs.Totals.{claimed, scaleTotal, kindTotal, totalOf}
-use Rattle.totals.specs.inner.Running.{ProductMay, claimedTotal}
+use Rattle.totals.specs.inner.Running.{claimedTotal}
 
 pub claimed-is : (k j : Kind) (orders : List ℕ) (v : ℕ) → v ≡ scaleTotal k orders → k ≡ j → claimed j ≡ true → total.Is v ≡ claimedTotal k orders
 claimed-is k j orders v e same is = rw (e, ap claimed same ∙ is)

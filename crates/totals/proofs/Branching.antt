@@ -1,7 +1,7 @@
 -- What the branches of a claimed kind add up to, where a state stands: one lowers the sum along the axis by one, for nuclear two do, the others lower it by two, with
 -- multipliers that add up to one less than the sum, for nuclear each twice. So each multiplier times the product after its fall, added up, is the product before.
-use Prim.Native.Nat.{ℕ, zero, suc, _+_, _*_, _-_, _<_}
-use mathlib.Core.Path.{_≡_, refl, sym, ap, subst, _∙_}
+use Prim.Native.Nat.{ℕ, suc, _+_, _*_, _-_, _<_}
+use mathlib.Core.Path.{_≡_, refl, sym, _∙_}
 use mathlib.Core.Bool.{true}
 use mathlib.Core.List.{List, [], _∷_, List·Memᴰ}
 use mathlib.Core.List.List·Memᴰ.{List·Memᴰ·head, List·Memᴰ·tail}
@@ -15,7 +15,7 @@ use Rattle.steps.specs.declared.CentreName.the-variants.{A, B, C, D}
 use Rattle.steps.specs.declared.Axis.{Axis}
 use Rattle.steps.specs.declared.Axis.the-variants.{X, Y, Z}
 use Rattle.steps.specs.declared.Fun.{Fun}
-use Rattle.steps.specs.declared.Fun.the-variants.{Lower, Nothing}
+use Rattle.steps.specs.declared.Fun.the-variants.{Lower}
 use Rattle.steps.specs.Choice.{orderPlace, orderOf, sumOf, chosen}
 use Rattle.steps.specs.Chosen.{RightCentre, a-centre, the-operator, no-centre, Exhausted}
 use Rattle.steps.specs.Steps.{Branch, branches, times, less, lowered, partner}

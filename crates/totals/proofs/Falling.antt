@@ -1,5 +1,5 @@
 -- What a fall does to the product of three numbers: along the axis the sum falls, the other two sums stay.
-use Prim.Native.Nat.{ℕ, zero, suc, _+_, _*_, _-_, _<_}
+use Prim.Native.Nat.{ℕ, zero, suc, _*_, _-_, _<_}
 use mathlib.Core.Path.{_≡_, refl, ap, ap₂, _∙_}
 use mathlib.Core.Logic.{_≢_}
 use mathlib.Core.Bool.{true}
@@ -13,7 +13,7 @@ use Rattle.steps.specs.declared.CentreName.{CentreName}
 use Rattle.steps.specs.declared.CentreName.the-variants.{A, B, C, D}
 use Rattle.steps.specs.declared.Axis.{Axis}
 use Rattle.steps.specs.declared.Axis.the-variants.{X, Y, Z}
-use Rattle.steps.specs.Choice.{axisNumber, orderPlace, orderOf}
+use Rattle.steps.specs.Choice.{orderPlace, orderOf}
 use Rattle.steps.specs.Steps.{less}
 use Rattle.histories.specs.inner.OnTheWay.{own}
 use Rattle.totals.specs.Totals.{along}

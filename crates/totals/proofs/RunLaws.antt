@@ -5,7 +5,6 @@ use mathlib.Core.Bool.{true}
 use mathlib.Core.List.{List}
 use native.Mathlib.Omega.{arith}
 use native.Mathlib.Nat.{mul-le-mul, mul-le-mul-left}
-use native.Mathlib.Numerals.{add-one}
 use mir.Syntax.{w64}
 use mir.Val.{Fits}
 use Rattle.laws.proofs.Cases.{clash}
@@ -14,7 +13,7 @@ use Rattle.kind.specs.declared.Kind.the-variants.{Overlap, Kinetic, Nuclear, Mo
 use Rattle.steps.specs.declared.Axis.{Axis}
 use Rattle.steps.specs.declared.Axis.the-variants.{X, Y, Z}
 use Rattle.expansion.specs.inner.Requests.{RequestWithin}
-use Rattle.expansion.proofs.HeaderLaws.{Sums, all-sums}
+use Rattle.expansion.proofs.HeaderLaws.{all-sums}
 use Rattle.totals.specs.Totals.{claimed, plainList, nuclearList, listed, along, scaleTotal}
 use Rattle.totals.specs.inner.Running.{oftenOf, running, RunMay, mostSum, ListedMay, ProductMay}
 use Rattle.totals.proofs.Growing.{Grows, next-two, plain-grows, nuclear-grows}

@@ -3,7 +3,7 @@
 use Prim.Native.Nat.{ℕ, zero, suc, _+_, _*_}
 use mathlib.Core.Path.{_≡_, refl, ap, ap₂, _∙_}
 use mathlib.Core.Bool.{Bool, true, false, cond}
-use mathlib.Core.List.{List, [], _∷_, _++_, map, map-append, List·Memᴰ}
+use mathlib.Core.List.{List, [], _∷_, map, map-append, List·Memᴰ}
 use mathlib.Core.List.List·Memᴰ.{List·Memᴰ·head, List·Memᴰ·tail}
 use native.Mathlib.Omega.{arith}
 use Rattle.laws.specs.Total.{total}
@@ -20,7 +20,7 @@ use Rattle.steps.specs.declared.Fun.{Fun}
 use Rattle.steps.specs.declared.Fun.the-variants.{Lower}
 use Rattle.steps.specs.declared.AxisChoice.{AxisChoice}
 use Rattle.steps.specs.declared.AxisChoice.the-variants.{Along}
-use Rattle.steps.specs.Choice.{orderPlace, orderOf, chosen, firstAxis}
+use Rattle.steps.specs.Choice.{orderPlace, chosen, firstAxis}
 use Rattle.steps.specs.Steps.{Branch, branches, times, lowered}
 use Rattle.steps.specs.States.{State, Next, start, step, ifLegal, turns, onAxis, onFun, nexts}
 use Rattle.histories.specs.History.{inTurn, expand}
@@ -31,7 +31,7 @@ use Rattle.histories.proofs.Walk.{follows-itself, fair-step, expand-done, expan
 use Rattle.histories.proofs.Demand.{by-depth}
 use Rattle.histories.proofs.Some.{Unused, unused-zero, unused-kept, some-next}
 use Rattle.roll.specs.Before.{scales}
-use Rattle.totals.specs.Totals.{scaleSum, claimed, plainList, nuclearList, along, scaleTotal}
+use Rattle.totals.specs.Totals.{scaleSum, claimed, along, scaleTotal}
 use Rattle.totals.specs.ByHand.{TotalByHand}
 use Rattle.totals.proofs.Growing.{plain-grows, nuclear-grows}
 use Rattle.totals.proofs.Branching.{branchSum, branches-add-up}

@@ -1,6 +1,6 @@
 -- The sum of a roll's scales: a judged roll's terms read again are its own, and a scale below 2^32 for each of fewer than 2^32 terms fits a word.
 use Prim.Native.Nat.{ℕ, suc, _+_, _*_, _-_, _^_, _≤_, _<_}
-use mathlib.Core.Path.{_≡_, refl, ap, _∙_}
+use mathlib.Core.Path.{_≡_, ap, _∙_}
 use mathlib.Core.List.{List, [], _∷_}
 use native.Mathlib.Omega.{arith}
 use native.Mathlib.Nat.{mul-le-mul-right}
@@ -19,7 +19,6 @@ use Rattle.roll.specs.Header.{checkOf}
 use Rattle.roll.specs.Fits.{TermsFit}
 use Rattle.roll.specs.Reading.{Roll, got, rollAt}
 use Rattle.roll.specs.inner.Again.{headAt, headTerm, termsAgain}
-use Rattle.roll.specs.inner.Judged.{Judged}
 use Rattle.roll.proofs.Checked.{checked-judged, checked-refused}
 use Rattle.roll.proofs.AgainLaws.{judged-again}
 use Rattle.roll.proofs.Written.{roll-read}
