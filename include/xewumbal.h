@@ -110,8 +110,8 @@ typedef struct {
     uint8_t boys, count, prefactors[XEW_PREFACTORS], found, refusal; /* found: 0 refused, 1 term, 2 end */
 } xew_step;
 
-/* What the scales of a request's terms add up to. claimed is 1 beside a total; it is 0 for kinetic and Coulomb, of which
- * no such number is known, and beside a refusal. */
+/* What the scales of a request's terms add up to. claimed is 1 beside a total; it is 0 for kinetic and Coulomb, whose
+ * totals do not go by the summed orders, and beside a refusal. */
 typedef struct {
     uint64_t total;
     uint8_t claimed;
@@ -171,9 +171,10 @@ xew_value xew_evaluate(const uint8_t *roll, size_t roll_len, xew_centre a, xew_c
                        double aux, const double *boys, size_t boys_len);
 
 /* J and K of the integrals i and the density d, row by row: n from 1 to 16, i has n*n*n*n floats, d, j and k have n*n.
- * Every entry is summed on its own, from 0.0, l outer and s inner: J at (m, n) over i at (m, n, l, s) times d at (l, s),
- * K at (m, n) over i at (m, l, n, s) times d at (l, s). d need not be symmetric, and nothing is mirrored: even where i and
- * d are symmetric, K may differ in a last bit across its diagonal. The answer is the refusal. Refusals: 12, 8, 11. */
+ * Every entry is summed on its own, from 0.0, lambda outer and sigma inner: J at (mu, nu) over i at (mu, nu, lambda,
+ * sigma), K at (mu, nu) over i at (mu, lambda, nu, sigma), each times d at (lambda, sigma). d need not be symmetric, and
+ * nothing is mirrored: even where i and d are symmetric, K may differ in a last bit across its diagonal. The answer is
+ * the refusal. Refusals: 12, 8, 11. */
 uint8_t xew_jk(size_t n, const double *i, size_t i_len, const double *d, size_t d_len, double *j, size_t j_len,
                double *k, size_t k_len);
 

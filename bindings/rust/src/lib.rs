@@ -136,7 +136,7 @@ pub enum Step {
 pub enum Total {
     /// What the scales of the request's terms add up to.
     Is(u64),
-    /// Kinetic and Coulomb: no such number is known.
+    /// Kinetic and Coulomb: their totals do not go by the summed orders.
     NotClaimed,
     /// By 1, 2 or 3.
     Refused(Refusal),

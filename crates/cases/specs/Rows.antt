@@ -1,11 +1,12 @@
 -- 01, "Cases": the rows marked *, as the paper prints them.
 use Prim.Native.Nat.{ℕ}
 use mathlib.Core.Path.{_≡_}
-use mathlib.Core.List.{List, [], _∷_, _++_}
+use mathlib.Core.List.{List, [], _∷_}
 use Rattle.kind.specs.declared.Kind.{Kind}
 use Rattle.kind.specs.declared.Kind.the-variants.{Overlap, Kinetic, Nuclear, Moment, Coulomb}
 use Rattle.term.specs.Terms.{Term}
 use Rattle.steps.specs.States.{start}
+use Rattle.histories.specs.Centres.{s, x1, x2, x3, at}
 use Rattle.histories.specs.History.{expand}
 use Rattle.roll.specs.Bytes.{rollBytes}
 use Rattle.shell.specs.Shells.{triples}
@@ -29,22 +30,6 @@ pub data Printed : Type 0 where
 pub data Row : Type 0 where
   request : Kind → List ℕ → List Term → Printed → Row
   get-ijk-list : ℕ → List (List ℕ) → Row
-
--- the orders of one centre, x y z
-abbrev pub s : List ℕ
-s = 0 ∷ 0 ∷ 0 ∷ []
-
-abbrev pub x1 : List ℕ
-x1 = 1 ∷ 0 ∷ 0 ∷ []
-
-abbrev pub x2 : List ℕ
-x2 = 2 ∷ 0 ∷ 0 ∷ []
-
-abbrev pub x3 : List ℕ
-x3 = 3 ∷ 0 ∷ 0 ∷ []
-
-abbrev pub at : List ℕ → List ℕ → List ℕ → List ℕ → List ℕ
-at a b c d = a ++ b ++ c ++ d
 
 abbrev pub rows : List Row
 rows =

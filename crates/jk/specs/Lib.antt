@@ -1,4 +1,5 @@
 pub mod Sums
 pub mod Outcome
 pub mod Symmetry
+pub mod Examples
 pub mod inner

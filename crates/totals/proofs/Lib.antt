@@ -4,6 +4,7 @@ pub mod Examples
 pub mod Falling
 pub mod Growing
 pub mod Only
+pub mod RefusedAs
 pub mod RunLaws
 pub mod Shown
 pub mod SumLaws

@@ -1,19 +1,20 @@
--- 02, Q-11: what is shown of the number by hand. proofs/Shown.antt proves `TotalByHand`; proofs/Written.antt `SameWritten`; proofs/Examples.antt the examples.
+-- 02, Q-11: what is shown of the number by hand. proofs/Shown.antt proves `TotalByHand`; proofs/Written.antt `SameWritten`; proofs/Examples.antt the examples; proofs/RefusedAs.antt `RefusedAlike`.
 use Prim.Native.Nat.{ℕ}
 use mathlib.Core.Path.{_≡_}
 use mathlib.Core.Bool.{true}
-use mathlib.Core.List.{List, [], _∷_, _++_}
+use mathlib.Core.List.{List, [], _∷_}
 use lib.ListN.{length, drop}
 use Rattle.laws.specs.Total.{total}
 use Rattle.kind.specs.declared.Kind.{Kind}
 use Rattle.kind.specs.declared.Kind.the-variants.{Overlap, Kinetic, Nuclear, Moment, Coulomb}
 use Rattle.kind.specs.declared.Named.the-variants as named
-use Rattle.kind.specs.Kinds.{kindOf, ordersOf}
+use Rattle.kind.specs.Kinds.{kindOf, numberOf, ordersOf}
 use Rattle.kind.specs.Limits.{requestOrders}
 use Rattle.steps.specs.States.{start}
+use Rattle.histories.specs.Centres.{s, x1, x2, x3, at}
 use Rattle.histories.specs.History.{expand}
-use Rattle.expansion.specs.declared.Expanded.the-variants.{Roll}
-use Rattle.expansion.specs.Expanding.{ExpandTold}
+use Rattle.expansion.specs.declared.Expanded.the-variants.{Roll, Refused}
+use Rattle.expansion.specs.Expanding.{ExpandTold, namedMeasured}
 use Rattle.expansion.specs.Demands.{writtenAt}
 use Rattle.totals.specs.declared.Total.the-variants as answer
 use Rattle.totals.specs.declared.RollTotal.the-variants as rollAnswer
@@ -47,35 +48,29 @@ pub record Example : Type 0 where
 
 -- a request, its orders x y z by centre, and what its scales add up to
 abbrev pub gives : Kind → List ℕ → List ℕ → List ℕ → List ℕ → ℕ → Example
-gives k a b c d n = record { kind = k; orders = a ++ b ++ c ++ d; sum = n }
-
-abbrev pub s : List ℕ
-s = 0 ∷ 0 ∷ 0 ∷ []
-
-abbrev pub x1 : List ℕ
-x1 = 1 ∷ 0 ∷ 0 ∷ []
-
-abbrev pub x2 : List ℕ
-x2 = 2 ∷ 0 ∷ 0 ∷ []
-
-abbrev pub x3 : List ℕ
-x3 = 3 ∷ 0 ∷ 0 ∷ []
+gives k a b c d n = record { kind = k; orders = at a b c d; sum = n }
 
 -- "overlap Ax3 gives 4; nuclear Ax2 gives 6", and a moment with its operator
 abbrev pub examples : List Example
 examples = gives Overlap x3 s s s 4 ∷ gives Nuclear x2 s s s 6 ∷ gives Moment x1 s x1 s 2 ∷ []
 
--- the scales of the terms that the definitions give, and the number by hand
+-- the scales of the terms that the definitions give, the number by hand, and the answer
 abbrev pub Holds : Example → Type 0
-Holds e = (scaleSum (expand (start (e .kind) (e .orders))) ≡ e .sum) × (scaleTotal (e .kind) (e .orders) ≡ e .sum)
+Holds e = (scaleSum (expand (start (e .kind) (e .orders))) ≡ e .sum) × (scaleTotal (e .kind) (e .orders) ≡ e .sum) × (totalOf (numberOf (e .kind)) (e .orders) ≡ answer.Is (e .sum))
 
 -- Of kinetic and Coulomb nothing is claimed: two requests with the same sums along x, y and z, whose scales add up to different numbers.
 abbrev pub notClaimed : List Example
 notClaimed = gives Kinetic x2 s s s 6 ∷ gives Kinetic x1 x1 s s 5 ∷ gives Coulomb x2 s s s 6 ∷ gives Coulomb x1 s x1 s 5 ∷ []
 
 abbrev pub AddsUp : Example → Type 0
-AddsUp e = scaleSum (expand (start (e .kind) (e .orders))) ≡ e .sum
+AddsUp e = (scaleSum (expand (start (e .kind) (e .orders))) ≡ e .sum) × (totalOf (numberOf (e .kind)) (e .orders) ≡ answer.NotClaimed)
 
 abbrev pub Each : (Example → Type 0) → List Example → Type 0
 Each p [] = Unit {0}
 Each p (e ∷ es) = p e × Each p es
+
+-- ---- refusals
+
+-- 1, 2 and 3 are a request's: what is refused here is refused alike where the request is measured
+abbrev pub RefusedAlike : Type 0
+RefusedAlike = (kind : ℕ) (orders : List ℕ) (n : ℕ) → totalOf kind orders ≡ answer.Refused n → namedMeasured (kindOf kind) orders ≡ Refused n
