@@ -10,6 +10,7 @@ use Rattle.kind.specs.Kinds.{kindOf, numberOf, ordersOf, tableOf, mostL, mostPr
 use Rattle.kind.specs.declared.Kind.{Kind}
 use Rattle.kind.specs.declared.Kind.the-variants.{Overlap, Kinetic, Nuclear, Moment, Coulomb}
 use Rattle.kind.specs.declared.Named.{Named}
+use Rattle.kind.specs.declared.Named.the-variants as named
 use Rattle.kind.proofs.KindNumber.{kind-number}
 use Rattle.kind.proofs.Within.{number-within, l-within, table-within}
 use Rattle.laws.proofs.Lists.{drop-after}
@@ -39,7 +40,7 @@ field-back s rest at low high n is small above below = (
 
 -- ---- a term
 
-prefactors-back : (ps : List ℕ) (table : ℕ) (s rest : List ℕ) (at : ℕ) → table ≤ tablePlaces → Below table ps → drop at s ≡ numbersBytes ps ++ rest → (next : ℕ) × (prefactorsAt s at (length ps) table ≡ got ps next) × (drop next s ≡ rest)
+pub prefactors-back : (ps : List ℕ) (table : ℕ) (s rest : List ℕ) (at : ℕ) → table ≤ tablePlaces → Below table ps → drop at s ≡ numbersBytes ps ++ rest → (next : ℕ) × (prefactorsAt s at (length ps) table ≡ got ps next) × (drop next s ≡ rest)
 unfolding prefactorsAt numbersBytes
 prefactors-back [] table s rest at places below is = (at, refl, is)
 prefactors-back (p ∷ ps) table s rest at places below is =
@@ -111,19 +112,29 @@ orders-back (o ∷ os) i sum s rest at small keeps is =
     let r = orders-back os (i + 1) (sumAfter i sum o) s rest (f .0) (sum-small i sum o small within) (keeps .1) (f .2) in
     (r .0, rw (f .1, r .1), r .2)
 
-header-back : (k : Kind) (os : List ℕ) (terms : ℕ) (s rest : List ℕ) → length os ≡ ordersOf k → CentresFit os → 1 ≤ terms → terms ≤ mostTerms → s ≡ bytesOf (numberOf k) ++ (numbersBytes os ++ (bytesOf terms ++ rest)) → (next : ℕ) × (headerAt s ≡ got (record { kind = k; orders = os; terms = terms }) next) × (drop next s ≡ rest)
-unfolding headerAt countedAt
-header-back k os terms s rest places fit some most is =
-    let f = field-back s (numbersBytes os ++ (bytesOf terms ++ rest)) 0 0 (numberOf Coulomb) (numberOf k) is (omega (arith, number-within k)) (omega arith) (number-within k) in
-    let o = orders-back os 0 0 s (bytesOf terms ++ rest) (f .0) (omega arith) (fit-keeps 0 os refl fit) (f .2) in
+-- from the orders on
+pub kind-back : (k : Kind) (os : List ℕ) (terms : ℕ) (s rest : List ℕ) (at : ℕ) → length os ≡ ordersOf k → CentresFit os → 1 ≤ terms → terms ≤ mostTerms → drop at s ≡ numbersBytes os ++ (bytesOf terms ++ rest) → (next : ℕ) × (ofKind s at (named.Is k) ≡ got (record { kind = k; orders = os; terms = terms }) next) × (drop next s ≡ rest)
+unfolding countedAt
+kind-back k os terms s rest at places fit some most is =
+    let o = orders-back os 0 0 s (bytesOf terms ++ rest) at (omega arith) (fit-keeps 0 os refl fit) is in
     let c = field-back s rest (o .0) 1 mostTerms terms (o .2) (omega arith) some most in
-    let orders : ordersAt s (f .0) (ordersOf k) 0 0 ≡ got os (o .0) = ap (λ (n : ℕ). ordersAt s (f .0) n 0 0) (sym places) ∙ o .1 in (
+    let orders : ordersAt s at (ordersOf k) 0 0 ≡ got os (o .0) = ap (λ (n : ℕ). ordersAt s at n 0 0) (sym places) ∙ o .1 in (
       c .0,
-      ap (λ (x : Field). onward x (λ n next. ofKind s next (kindOf n))) (f .1)
-          ∙ ap (λ (m : Named). ofKind s (f .0) m) (kind-number k)
-          ∙ ap (λ (x : Reading (List ℕ)). andThen x (λ orders next. countedAt s next k orders)) orders
+      ap (λ (x : Reading (List ℕ)). andThen x (λ orders next. countedAt s next k orders)) orders
           ∙ ap (λ (x : Field). onward x (λ count next. got (record { kind = k; orders = os; terms = count }) next)) (c .1),
       c .2,
+    )
+
+header-back : (k : Kind) (os : List ℕ) (terms : ℕ) (s rest : List ℕ) → length os ≡ ordersOf k → CentresFit os → 1 ≤ terms → terms ≤ mostTerms → s ≡ bytesOf (numberOf k) ++ (numbersBytes os ++ (bytesOf terms ++ rest)) → (next : ℕ) × (headerAt s ≡ got (record { kind = k; orders = os; terms = terms }) next) × (drop next s ≡ rest)
+unfolding headerAt
+header-back k os terms s rest places fit some most is =
+    let f = field-back s (numbersBytes os ++ (bytesOf terms ++ rest)) 0 0 (numberOf Coulomb) (numberOf k) is (omega (arith, number-within k)) (omega arith) (number-within k) in
+    let r = kind-back k os terms s rest (f .0) places fit some most (f .2) in (
+      r .0,
+      ap (λ (x : Field). onward x (λ n next. ofKind s next (kindOf n))) (f .1)
+          ∙ ap (λ (m : Named). ofKind s (f .0) m) (kind-number k)
+          ∙ r .1,
+      r .2,
     )
 
 -- ---- the roll

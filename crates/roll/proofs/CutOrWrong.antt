@@ -23,7 +23,7 @@ use Rattle.roll.specs.Header.{refusedOpened, heldHeader, openOf, judged,
 use Rattle.roll.proofs.Checked.{checked-reads, checked-refused}
 use Rattle.roll.proofs.Filling.{andThen-is}
 use Rattle.roll.proofs.Inside.{term-inside}
-use Rattle.roll.proofs.Mending.{Alike, leads-le, leads-inside, Broken, Cut, Long, made-got}
+use Rattle.roll.proofs.Mending.{Alike, leads-inside, Kept, Broken, Cut, Long, made-got}
 use Rattle.roll.proofs.Places.{term-kept, header-kept, header-broken, roll-end, place-inside}
 
 -- ---- bytes after bytes
@@ -32,7 +32,7 @@ module _ (s t : List ℕ) (p : ℕ) (inside : p ≤ length s) where
   parted : s ++ t ≡ take p s ++ (drop p s ++ t)
   parted = ap (λ (l : List ℕ). l ++ t) (sym (take-append-drop p s)) ∙ append-assoc (take p s) (drop p s) t
 
-  begins-alike : Alike p s (s ++ t)
+  pub begins-alike : Alike p s (s ++ t)
   begins-alike = ap (take p) parted ∙ take-at (take p s) (drop p s ++ t) p (length-take-le p s inside)
 
   drop-more : drop p (s ++ t) ≡ drop p s ++ t
@@ -41,25 +41,28 @@ module _ (s t : List ℕ) (p : ℕ) (inside : p ≤ length s) where
 -- ---- wrong stays wrong
 
 -- what is refused for another reason than its end has a number there, which stays whatever follows
-header-stays : (s t : List ℕ) (r p : ℕ) → (r ≡ refusalOf number.Ended → ⊥) → headerAt s ≡ refused r p → headerAt (s ++ t) ≡ refused r p
-header-stays s t r p other e =
-    let b = header-broken s r p e in
+pub broken-stays : {A : Type 0} (X : List ℕ → Reading A) (s t : List ℕ) (r p : ℕ) → (r ≡ refusalOf number.Ended → ⊥) → Broken X s 0 r p → X (s ++ t) ≡ refused r p
+broken-stays X s t r p other b =
     let inside : p ≤ length s = leads-inside zero-le (b .leads) in
+    let is : X s ≡ refused r p = b .same s refl refl in
     b .same (s ++ t) (begins-alike s t p inside)
     (read-stays s t p (drop-more s t p inside) (λ ended. other (let m = b .missing s refl ended in cc)))
 
+pub ends-stay : {A : Type 0} (X : List ℕ → Reading A) (s t : List ℕ) (r p : ℕ) → (r ≡ refusalOf number.Ended → ⊥) → X s ≡ refused r p → Cut X s 0 r p ⊎ Long X s 0 r p → X (s ++ t) ≡ refused r p
+ends-stay X s t r p other is (inl b) =
+    let inside : p ≤ length s = leads-inside zero-le (b .leads) in
+    b .same (s ++ t) (begins-alike s t p inside)
+    (read-stays s t p (drop-more s t p inside) (λ ended. other (let m = b .missing s refl ended in cc)))
+ends-stay X s t r p other is (inr b) =
+    let inside : p ≤ length s = leads-inside zero-le (b .leads) in
+    let follow = b .follow in
+    b .more (s ++ t) (begins-alike s t p inside) (λ end. follow (omega (arith, inside, length-append s t)))
+
+header-stays : (s t : List ℕ) (r p : ℕ) → (r ≡ refusalOf number.Ended → ⊥) → headerAt s ≡ refused r p → headerAt (s ++ t) ≡ refused r p
+header-stays s t r p other e = broken-stays headerAt s t r p other (header-broken s r p e)
+
 roll-stays : (s t : List ℕ) (r p : ℕ) → (r ≡ refusalOf number.Ended → ⊥) → rollAt s ≡ refused r p → rollAt (s ++ t) ≡ refused r p
-roll-stays s t r p other e = by (roll-end s r p e)
-  where
-    by : Cut rollAt s 0 r p ⊎ Long rollAt s 0 r p → rollAt (s ++ t) ≡ refused r p
-    by (inl b) =
-        let inside : p ≤ length s = leads-inside zero-le (b .leads) in
-        b .same (s ++ t) (begins-alike s t p inside)
-        (read-stays s t p (drop-more s t p inside) (λ ended. other (let m = b .missing s refl ended in cc)))
-    by (inr b) =
-        let inside : p ≤ length s = leads-inside zero-le (b .leads) in
-        let follow = b .follow in
-        b .more (s ++ t) (begins-alike s t p inside) (λ end. follow (omega (arith, inside, length-append s t)))
+roll-stays s t r p other e = ends-stay rollAt s t r p other e (roll-end s r p e)
 
 -- ---- a roll begins no other
 
@@ -108,50 +111,53 @@ begins-no-other s [] r q end last e f = refl
 begins-no-other s (b ∷ t) r q end last e f = let wrong = roll-longer s (b ∷ t) r end (omega arith) e in absurd (clash (cc))
 
 -- refused 14 at a place that is at most so far
-abbrev Ends : ℕ → {A : Type 0} → Reading A → Type 0
+abbrev pub Ends : ℕ → {A : Type 0} → Reading A → Type 0
 Ends n x = (p : ℕ) × (x ≡ refused 14 p) × (p ≤ n)
+
+-- what reads, reads no beginning of it, and is not refused for good there, is cut
+pub cut-ends : {A : Type 0} (X : List ℕ → Reading A) (s : List ℕ) (a : A) (end n : ℕ) → X s ≡ got a end
+    → ((b : A) (last : ℕ) → X (take n s) ≡ got b last → ⊥)
+    → ((r p : ℕ) → (r ≡ 14 → ⊥) → X (take n s) ≡ refused r p → X (take n s ++ drop n s) ≡ refused r p)
+    → ((r p : ℕ) → X (take n s) ≡ refused r p → p ≤ length (take n s))
+    → Ends n (X (take n s))
+cut-ends {A = A} X s a end n e no-got stays inside = by (X (take n s)) refl
+  where
+    by : (x : Reading A) → X (take n s) ≡ x → Ends n (X (take n s))
+    by (got q last) is = absurd (no-got q last is)
+    by (refused q p) is = tested (eqb q 14) on off
+      where
+        on : eqb q 14 ≡ true → Ends n (X (take n s))
+        on t = let same : q ≡ 14 = eqb-true q 14 t in (p, rw same at is, omega (arith, inside q p is, length-take n s))
+
+        off : eqb q 14 ≡ false → Ends n (X (take n s))
+        off f = let wrong = rw (take-append-drop n s) at (stays q p (eqb-false q 14 f) is) in absurd (clash (cc))
+
+-- a beginning of what begins no other is shorter
+pub begins-shorter : (s : List ℕ) (n : ℕ) → n < length s → drop n s ≡ [] → ⊥
+begins-shorter s n less nothing = omega (arith, less, ap length (take-append-drop n s), length-append (take n s) (drop n s), ap length nothing, length-take n s)
 
 -- 1: cut is always 14
 pub roll-cut : (s : List ℕ) (r : Roll) (end n : ℕ) → rollAt s ≡ got r end → n < length s → Ends n (rollAt (take n s))
-roll-cut s r end n e less = by (rollAt (take n s)) refl
-  where
-    whole : take n s ++ drop n s ≡ s
-    whole = take-append-drop n s
+roll-cut s r end n e less =
+    cut-ends rollAt s r end n e
+    (λ q last is. begins-shorter s n less (begins-no-other (take n s) (drop n s) q r last end is (rw (take-append-drop n s) e)))
+    (λ q p other is. roll-stays (take n s) (drop n s) q p other is)
+    (λ q p is. place-inside (take n s) q p is)
 
-    by : (x : Reading Roll) → rollAt (take n s) ≡ x → Ends n (rollAt (take n s))
-    by (got q last) is =
-        let nothing = begins-no-other (take n s) (drop n s) q r last end is (rw whole e) in
-        absurd (omega (arith, less, ap length whole, length-append (take n s) (drop n s), ap length nothing, length-take n s))
-    by (refused q p) is = tested (eqb q 14) on off
-      where
-        on : eqb q 14 ≡ true → Ends n (rollAt (take n s))
-        on t = let same : q ≡ 14 = eqb-true q 14 t in (p, rw same at is, omega (arith, place-inside (take n s) q p is, length-take n s))
-
-        off : eqb q 14 ≡ false → Ends n (rollAt (take n s))
-        off f = let wrong = rw whole at (roll-stays (take n s) (drop n s) q p (eqb-false q 14 f) is) in absurd (clash (cc))
+-- a reading that is settled by its bytes does not end in a shorter beginning
+pub kept-ends : {A : Type 0} (X : List ℕ → Reading A) (s : List ℕ) (a : A) (next n : ℕ) → X s ≡ got a next → n < next → (b : A) (m : ℕ) → X (take n s) ≡ got b m → Kept X (take n s) 0 m → ⊥
+kept-ends X s a next n e less b m is kept =
+    let inside : m ≤ length (take n s) = leads-inside zero-le (kept .leads) in
+    let again : X s ≡ got b m = rw (take-append-drop n s) at (kept .same (take n s ++ drop n s) (begins-alike (take n s) (drop n s) m inside) ∙ is) in
+    let same : m ≡ next = cc in
+    omega (arith, less, inside, same, length-take n s)
 
 header-cut : (s : List ℕ) (h : Header) (next n : ℕ) → headerAt s ≡ got h next → n < next → Ends n (headerAt (take n s))
-header-cut s h next n e less = by (headerAt (take n s)) refl
-  where
-    whole : take n s ++ drop n s ≡ s
-    whole = take-append-drop n s
-
-    by : (x : Reading Header) → headerAt (take n s) ≡ x → Ends n (headerAt (take n s))
-    by (got g m) is =
-        let kept = header-kept (take n s) g m is in
-        let inside : m ≤ length (take n s) = leads-inside zero-le (kept .leads) in
-        let again : headerAt s ≡ got g m = rw whole at (kept .same (take n s ++ drop n s) (begins-alike (take n s) (drop n s) m inside) ∙ is) in
-        let same : m ≡ next = cc in
-        absurd (omega (arith, less, inside, same, length-take n s))
-    by (refused q p) is = tested (eqb q 14) on off
-      where
-        on : eqb q 14 ≡ true → Ends n (headerAt (take n s))
-        on t =
-            let same : q ≡ 14 = eqb-true q 14 t in
-            (p, rw same at is, omega (arith, leads-inside {at = 0} zero-le (header-broken (take n s) q p is .leads), length-take n s))
-
-        off : eqb q 14 ≡ false → Ends n (headerAt (take n s))
-        off f = let wrong = rw whole at (header-stays (take n s) (drop n s) q p (eqb-false q 14 f) is) in absurd (clash (cc))
+header-cut s h next n e less =
+    cut-ends headerAt s h next n e
+    (λ g m is. kept-ends headerAt s h next n e less g m is (header-kept (take n s) g m is))
+    (λ q p other is. header-stays (take n s) (drop n s) q p other is)
+    (λ q p is. leads-inside {at = 0} zero-le (header-broken (take n s) q p is .leads))
 
 -- ---- as `open` and `check` tell it
 

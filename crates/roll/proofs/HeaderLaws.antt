@@ -26,7 +26,7 @@ use Rattle.roll.specs.declared.cursor.Cursor.{Cursor}
 use Rattle.laws.specs.Total.{total}
 use Rattle.roll.specs.Reading.{Reading, got, refused, onward, andThen, before, withinAt, sumAfter, ordersAt, countedAt, ofKind, headerAt}
 use Rattle.roll.specs.Cursor.{noCursor}
-use Rattle.roll.specs.Header.{refusedOpened, heldHeader, openOf}
+use Rattle.roll.specs.Header.{refusedOpened, heldHeader, openKindOf, openOf}
 use Rattle.roll.specs.inner.Held.{heldOrders, countedFrom, openCounted, FewOrders}
 use Rattle.roll.proofs.FieldLaws.{taken-below}
 use Rattle.roll.proofs.Filling.{Filled, filled-none, filled-more, taken-more, before-none, before-more, before-is, onward-is}
@@ -137,11 +137,16 @@ unfolding countedAt
 open-counted k s (got os next) = counted-is k os (withinAt s next 1 mostTerms)
 open-counted k s (refused r place) = refl
 
-pub open-kind : (s : List ℕ) (most : ℕ) (x : Field) (n next : ℕ) (m : Named) (k : Kind) (count : ℕ) (read : ReadOrders) (y : Opened) → most ≡ numberOf Coulomb → x ≡ withinAt s 0 0 most → x ≡ field.Is n next → m ≡ kindOf n → m ≡ named.Is k → count ≡ ordersOf k → read ≡ heldOrders (ordersAt s next count 0 0) → y ≡ openCounted k read s → y ≡ openOf s
-unfolding openOf headerAt
-open-kind s most x n next m k count read y limit is e kind e′ counted held answer =
-    answer ∙ ap (λ (r : ReadOrders). openCounted k r s) (held ∙ ap (λ (c : ℕ). heldOrders (ordersAt s next c 0 0)) counted)
-    ∙ open-counted k s (ordersAt s next (ordersOf k) 0 0)
+pub kind-opened : (k : Kind) (s : List ℕ) (at count : ℕ) (read : ReadOrders) (y : Opened) → count ≡ ordersOf k → read ≡ heldOrders (ordersAt s at count 0 0) → y ≡ openCounted k read s → y ≡ openKindOf s at k
+unfolding openKindOf
+kind-opened k s at count read y counted held answer =
+    answer ∙ ap (λ (r : ReadOrders). openCounted k r s) (held ∙ ap (λ (c : ℕ). heldOrders (ordersAt s at c 0 0)) counted)
+    ∙ open-counted k s (ordersAt s at (ordersOf k) 0 0)
+
+pub open-kind : (s : List ℕ) (most : ℕ) (x : Field) (n next : ℕ) (m : Named) (k : Kind) (y : Opened) → most ≡ numberOf Coulomb → x ≡ withinAt s 0 0 most → x ≡ field.Is n next → m ≡ kindOf n → m ≡ named.Is k → y ≡ openKindOf s next k → y ≡ openOf s
+unfolding openOf openKindOf headerAt
+open-kind s most x n next m k y limit is e kind e′ answer =
+    answer
     ∙ sym (ap (λ (m : Named). heldHeader (ofKind s next m)) (sym kind ∙ e′))
     ∙ sym (ap (λ (f : Field). heldHeader (onward f (λ n next. ofKind s next (kindOf n)))) (ap (withinAt s 0 0) (sym limit) ∙ sym is ∙ e))
 

@@ -21,7 +21,7 @@ use Rattle.roll.proofs.FieldLaws.{Taken, taken}
 use Rattle.roll.proofs.Filling.{before-is, onward-is, andThen-is}
 use Rattle.roll.proofs.TermsLaws.{prefactors-length}
 
-taken-inside : (s : List ℕ) (at low high n next : ℕ) → Taken s at low high n next → (at < next) × (next ≤ length s)
+pub taken-inside : (s : List ℕ) (at low high n next : ℕ) → Taken s at low high n next → (at < next) × (next ≤ length s)
 taken-inside s at low high n next t = read-inside s at n next (t .read)
 
 -- ---- a term
@@ -58,7 +58,7 @@ term-read k l s at t next e =
       prefactors = cc (long, w .2, ps, end);
     }
 
-prefactors-inside : (count table : ℕ) (s : List ℕ) (at : ℕ) (ps : List ℕ) (next : ℕ) → at ≤ length s → prefactorsAt s at count table ≡ got ps next → next ≤ length s
+pub prefactors-inside : (count table : ℕ) (s : List ℕ) (at : ℕ) (ps : List ℕ) (next : ℕ) → at ≤ length s → prefactorsAt s at count table ≡ got ps next → next ≤ length s
 unfolding prefactorsAt
 prefactors-inside zero table s at ps next inside e = let same : at ≡ next = cc in omega arith
 prefactors-inside (suc count) table s at ps next inside e =
@@ -92,7 +92,8 @@ counted-read k orders s at h next e =
       rw (ap (λ (h : Header). h .terms) made, end) at (taken s at 1 mostTerms (withinAt s at 1 mostTerms) (x .0) (x .1) refl (x .2)),
     )
 
-kind-read : (m : Named) (n : ℕ) (s : List ℕ) (at : ℕ) (h : Header) (next : ℕ) → kindOf n ≡ m → ofKind s at m ≡ got h next → (n ≡ numberOf (h .kind)) × ((b : ℕ) × (ordersAt s at (ordersOf (h .kind)) 0 0 ≡ got (h .orders) b) × Taken s b 1 mostTerms (h .terms) next)
+-- a header from its orders on
+pub kind-read : (m : Named) (n : ℕ) (s : List ℕ) (at : ℕ) (h : Header) (next : ℕ) → kindOf n ≡ m → ofKind s at m ≡ got h next → (n ≡ numberOf (h .kind)) × ((b : ℕ) × (ordersAt s at (ordersOf (h .kind)) 0 0 ≡ got (h .orders) b) × Taken s b 1 mostTerms (h .terms) next)
 kind-read (named.Is k) n s at h next is e =
     let x = andThen-is (ordersAt s at (ordersOf k) 0 0) (λ orders m. countedAt s m k orders) h next e in
     let c = counted-read k (x .0) s (x .1) h next (x .3) in

@@ -130,22 +130,26 @@ opened-place number.Ended at low high r p e = cc
 opened-place number.NotShortest at low high r p e = cc
 opened-place number.TooLarge at low high r p e = cc
 
-pub some-field : {A : Type 0} (f : ℕ → ℕ → List ℕ → Reading A) (low high : ℕ) → low < 2 ^ 32 → low ≤ high → Some (f low) → Some (λ at t. onward (withinAt t at low high) (λ n m. f n m t))
-some-field f low high small fits c =
+-- any number within the limits does, where what follows it reads
+pub some-number : {A : Type 0} (f : ℕ → ℕ → List ℕ → Reading A) (low high n : ℕ) → n < 2 ^ 32 → low ≤ n → n ≤ high → Some (f n) → Some (λ at t. onward (withinAt t at low high) (λ n m. f n m t))
+some-number f low high n small above fits c =
     record {
-      bytes = bytesOf low ++ c .bytes;
+      bytes = bytesOf n ++ c .bytes;
       value = c .value;
       reads = λ t rest at is.
-          let n = field-back t (c .bytes ++ rest) at low high low (is ∙ append-assoc (bytesOf low) (c .bytes) rest) small (omega arith) fits in
-          let m = c .reads t rest (n .0) (n .2) in
-          (m .0, ap (λ (x : Field). onward x (λ n m. f n m t)) (n .1) ∙ m .1, m .2);
+          let r = field-back t (c .bytes ++ rest) at low high n (is ∙ append-assoc (bytesOf n) (c .bytes) rest) small above fits in
+          let m = c .reads t rest (r .0) (r .2) in
+          (m .0, ap (λ (x : Field). onward x (λ n m. f n m t)) (r .1) ∙ m .1, m .2);
     }
 
-pub broken-field : {A : Type 0} (f : ℕ → ℕ → List ℕ → Reading A) (s : List ℕ) (at low high r p : ℕ) → withinAt s at low high ≡ field.Refused r p → low < 2 ^ 32 → low ≤ high → Some (f low) → Broken (λ t. onward (withinAt t at low high) (λ n m. f n m t)) s at r p
+pub some-field : {A : Type 0} (f : ℕ → ℕ → List ℕ → Reading A) (low high : ℕ) → low < 2 ^ 32 → low ≤ high → Some (f low) → Some (λ at t. onward (withinAt t at low high) (λ n m. f n m t))
+some-field f low high small fits c = some-number f low high low small (omega arith) fits c
+
+-- a number that is refused, where some bytes read from there on
+pub broken-number : {A : Type 0} (f : ℕ → ℕ → List ℕ → Reading A) (s : List ℕ) (at low high r p : ℕ) → withinAt s at low high ≡ field.Refused r p → Some (λ at t. onward (withinAt t at low high) (λ n m. f n m t)) → Broken (λ t. onward (withinAt t at low high) (λ n m. f n m t)) s at r p
 unfolding withinAt
-broken-field f s at low high r p e small fits c =
+broken-number f s at low high r p e there =
     let place : at ≡ p = opened-place (readAt s at) at low high r p e in
-    let there = some-field f low high small fits c in
     rw (← place)
     (record {
       leads = here;
@@ -155,6 +159,9 @@ broken-field f s at low high r p e small fits c =
       value = there .value;
       mended = λ t rest alike is. there .reads t rest at is;
     })
+
+pub broken-field : {A : Type 0} (f : ℕ → ℕ → List ℕ → Reading A) (s : List ℕ) (at low high r p : ℕ) → withinAt s at low high ≡ field.Refused r p → low < 2 ^ 32 → low ≤ high → Some (f low) → Broken (λ t. onward (withinAt t at low high) (λ n m. f n m t)) s at r p
+broken-field f s at low high r p e small fits c = broken-number f s at low high r p e (some-field f low high small fits c)
 
 pub kept-onward : {A : Type 0} (f : ℕ → ℕ → List ℕ → Reading A) (s : List ℕ) (at low high end : ℕ) (a : A) → ((n next : ℕ) → withinAt s at low high ≡ field.Is n next → f n next s ≡ got a end → Kept (f n next) s next end)
     → onward (withinAt s at low high) (λ n m. f n m s) ≡ got a end → Kept (λ t. onward (withinAt t at low high) (λ n m. f n m t)) s at end

@@ -34,7 +34,7 @@ use Rattle.roll.proofs.Mending.{Alike, leads-le, leads-inside, Kept, Br
 
 -- ---- a term
 
-prefactors-kept : (count table : ℕ) (s : List ℕ) (at : ℕ) (ps : List ℕ) (end : ℕ) → prefactorsAt s at count table ≡ got ps end → Kept (λ t. prefactorsAt t at count table) s at end
+pub prefactors-kept : (count table : ℕ) (s : List ℕ) (at : ℕ) (ps : List ℕ) (end : ℕ) → prefactorsAt s at count table ≡ got ps end → Kept (λ t. prefactorsAt t at count table) s at end
 unfolding prefactorsAt
 prefactors-kept zero table s at ps end e = kept-got [] ps s at end e
 prefactors-kept (suc count) table s at ps end e =
@@ -42,14 +42,14 @@ prefactors-kept (suc count) table s at ps end e =
     (λ p next is e. kept-made (λ qs. (p ∷ []) ++ qs) (λ t. prefactorsAt t next count table) s next end
     (let m = made-got (λ qs. (p ∷ []) ++ qs) (prefactorsAt s next count table) ps end e in prefactors-kept count table s next (m .0) end (m .1))) e
 
-prefactors-some : (count table : ℕ) → Some (λ at t. prefactorsAt t at count table)
+pub prefactors-some : (count table : ℕ) → Some (λ at t. prefactorsAt t at count table)
 unfolding prefactorsAt
 prefactors-some zero table = some-got []
 prefactors-some (suc count) table =
     some-field (λ p next t. before (p ∷ []) (prefactorsAt t next count table)) 0 (table - 1) (omega arith) zero-le
     (some-made (λ qs. (0 ∷ []) ++ qs) (λ at t. prefactorsAt t at count table) (prefactors-some count table))
 
-prefactors-broken : (count table : ℕ) (s : List ℕ) (at r p : ℕ) → prefactorsAt s at count table ≡ refused r p → Broken (λ t. prefactorsAt t at count table) s at r p
+pub prefactors-broken : (count table : ℕ) (s : List ℕ) (at r p : ℕ) → prefactorsAt s at count table ≡ refused r p → Broken (λ t. prefactorsAt t at count table) s at r p
 unfolding prefactorsAt
 prefactors-broken zero table s at r p e = absurd (clash (cc))
 prefactors-broken (suc count) table s at r p e =
@@ -145,14 +145,14 @@ counted-broken k os s at r p e =
     broken-onward (λ count next t. got (record { kind = k; orders = os; terms = count }) next) s at 1 mostTerms r p (omega arith) (omega arith) (some-got (record { kind = k; orders = os; terms = 1 }))
     (λ count next is e. absurd (clash (cc))) e
 
-kind-kept : (m : Named) (s : List ℕ) (at : ℕ) (h : Header) (end : ℕ) → ofKind s at m ≡ got h end → Kept (λ t. ofKind t at m) s at end
+pub kind-kept : (m : Named) (s : List ℕ) (at : ℕ) (h : Header) (end : ℕ) → ofKind s at m ≡ got h end → Kept (λ t. ofKind t at m) s at end
 kind-kept (named.Is k) s at h end e =
     let x = andThen-is (ordersAt s at (ordersOf k) 0 0) (λ orders next. countedAt s next k orders) h end e in
     kept-second (λ t. ordersAt t at (ordersOf k) 0 0) (λ os next t. countedAt t next k os) s at (x .1) end (x .0) (x .2)
     (orders-kept (ordersOf k) 0 0 s at (x .0) (x .1) (x .2)) (counted-kept k (x .0) s (x .1) h end (x .3))
 kind-kept named.Unknown s at h end e = absurd (clash (cc))
 
-kind-some : (k : Kind) → Some (λ at t. ofKind t at (named.Is k))
+pub kind-some : (k : Kind) → Some (λ at t. ofKind t at (named.Is k))
 kind-some k =
     let os = orders-some (ordersOf k) 0 0 in
     let c = counted-some k (os .value) in
@@ -165,7 +165,7 @@ kind-some k =
           (n .0, ap (λ (x : Reading (List ℕ)). andThen x (λ orders next. countedAt t next k orders)) (o .1) ∙ n .1, n .2);
     }
 
-kind-broken : (m : Named) (s : List ℕ) (at r p : ℕ) → (m ≡ named.Unknown → ⊥) → ofKind s at m ≡ refused r p → Broken (λ t. ofKind t at m) s at r p
+pub kind-broken : (m : Named) (s : List ℕ) (at r p : ℕ) → (m ≡ named.Unknown → ⊥) → ofKind s at m ≡ refused r p → Broken (λ t. ofKind t at m) s at r p
 kind-broken (named.Is k) s at r p known e = by (ordersAt s at (ordersOf k) 0 0) refl e
   where
     by : (x : Reading (List ℕ)) → ordersAt s at (ordersOf k) 0 0 ≡ x → andThen x (λ orders next. countedAt s next k orders) ≡ refused r p → Broken (λ t. ofKind t at (named.Is k)) s at r p
@@ -178,7 +178,7 @@ kind-broken (named.Is k) s at r p known e = by (ordersAt s at (ordersOf k) 0 0) 
 kind-broken named.Unknown s at r p known e = absurd (known refl)
 
 -- every number up to the last kind's is a kind
-known : (n : ℕ) → n ≤ numberOf Coulomb → kindOf n ≡ named.Unknown → ⊥
+pub known : (n : ℕ) → n ≤ numberOf Coulomb → kindOf n ≡ named.Unknown → ⊥
 known zero most e = clash (cc)
 known (suc zero) most e = clash (cc)
 known (suc (suc zero)) most e = clash (cc)

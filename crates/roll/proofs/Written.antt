@@ -20,16 +20,16 @@ use Rattle.number.proofs.Laws.{reads-only}
 use Rattle.term.specs.Terms.{Term}
 use Rattle.roll.specs.Bytes.{numbersBytes, termBytes, termsBytes, rollBytes}
 use Rattle.laws.specs.Total.{total}
-use Rattle.roll.specs.Reading.{got, refused, onward, andThen, before, withinAt, prefactorsAt, mostBoys, termAt, termsAt, sumAfter, ordersAt, headerAt, Roll, rollAt}
+use Rattle.roll.specs.Reading.{got, refused, onward, andThen, before, withinAt, prefactorsAt, mostBoys, termAt, termsAt, sumAfter, ordersAt, Header, headerAt, Roll, rollAt}
 use Rattle.roll.specs.Fits.{CentresFit, Below, TermFits, TermsFit, RollFits}
 use Rattle.roll.proofs.FieldLaws.{Taken, taken}
 use Rattle.roll.proofs.Filling.{before-is, onward-is, andThen-is}
 use Rattle.roll.proofs.Inside.{term-read, header-read, Centre, centre}
 
-taken-bytes : (s : List ℕ) (at low high n next : ℕ) → Bytes s → Taken s at low high n next → drop at s ≡ bytesOf n ++ drop next s
+pub taken-bytes : (s : List ℕ) (at low high n next : ℕ) → Bytes s → Taken s at low high n next → drop at s ≡ bytesOf n ++ drop next s
 taken-bytes s at low high n next bytes t = reads-only s at n next bytes (t .read) .bytes
 
-prefactors-bytes : (count table : ℕ) (s : List ℕ) (at : ℕ) (ps : List ℕ) (next : ℕ) → Bytes s → 1 ≤ table → prefactorsAt s at count table ≡ got ps next → (drop at s ≡ numbersBytes ps ++ drop next s) × Below table ps
+pub prefactors-bytes : (count table : ℕ) (s : List ℕ) (at : ℕ) (ps : List ℕ) (next : ℕ) → Bytes s → 1 ≤ table → prefactorsAt s at count table ≡ got ps next → (drop at s ≡ numbersBytes ps ++ drop next s) × Below table ps
 unfolding prefactorsAt numbersBytes
 prefactors-bytes zero table s at ps next bytes some e =
     let none : [] ≡ ps = cc in
@@ -133,6 +133,22 @@ orders-fit Coulomb s at os next e =
     let d = centre 0 9 s (c .place) (c .rest) next refl (c .onward) in
     centre-fit 9 0 s os next a (centre-fit 6 3 s (a .rest) next b (centre-fit 3 6 s (b .rest) next c (centre-fit 0 9 s (c .rest) next d (none-fit 12 s (d .place) (d .rest) next (d .onward)))))
 
+-- ---- a header from its orders on
+
+pub record HeadBytes (s : List ℕ) (at : ℕ) (h : Header) (next : ℕ) : Type 0 where
+  pub bytes : drop at s ≡ numbersBytes (h .orders) ++ (bytesOf (h .terms) ++ drop next s)
+  pub places : length (h .orders) ≡ ordersOf (h .kind)
+  pub sums : CentresFit (h .orders)
+
+pub head-bytes : (s : List ℕ) (at b : ℕ) (h : Header) (next : ℕ) → Bytes s → ordersAt s at (ordersOf (h .kind)) 0 0 ≡ got (h .orders) b → Taken s b 1 mostTerms (h .terms) next → HeadBytes s at h next
+head-bytes s at b h next bytes orders terms =
+    let os = orders-bytes (ordersOf (h .kind)) 0 0 s at (h .orders) b bytes orders in
+    record {
+      bytes = os .0 ∙ ap (λ (l : List ℕ). numbersBytes (h .orders) ++ l) (taken-bytes s b 1 mostTerms (h .terms) next bytes terms);
+      places = os .1;
+      sums = orders-fit (h .kind) s at (h .orders) b orders;
+    }
+
 -- ---- the roll
 
 -- a roll that reads is the writing of what it says, and keeps the limits
@@ -144,20 +160,20 @@ roll-read s r end bytes e =
     let y = andThen-is (termsAt s (x .1) (h .terms) (h .kind) (total (h .orders))) (λ ts end. got (record { kind = h .kind; orders = h .orders; terms = ts }) end) r end (x .3) in
     let made : record { kind = h .kind; orders = h .orders; terms = y .0 } ≡ r = cc (y .3) in
     let hr = header-read s h (x .1) (x .2) in
-    let os = orders-bytes (ordersOf (h .kind)) 0 0 s (hr .a) (h .orders) (hr .b) bytes (hr .orders) in
+    let hb = head-bytes s (hr .a) (hr .b) h (x .1) bytes (hr .orders) (hr .terms) in
     let tr = terms-read (h .terms) (h .kind) (total (h .orders)) s (x .1) (y .0) (y .1) bytes (y .2) in
     let count : bytesOf (h .terms) ≡ bytesOf (length (y .0)) = ap bytesOf (sym (tr .count)) in
-    let after : drop (hr .b) s ≡ bytesOf (length (y .0)) ++ termsBytes (y .0) = taken-bytes s (hr .b) 1 mostTerms (h .terms) (x .1) bytes (hr .terms) ∙ cc (count, tr .bytes) in
+    let after : bytesOf (h .terms) ++ drop (x .1) s ≡ bytesOf (length (y .0)) ++ termsBytes (y .0) = cc (count, tr .bytes) in
     let all : s ≡ bytesOf (numberOf (h .kind)) ++ (numbersBytes (h .orders) ++ (bytesOf (length (y .0)) ++ termsBytes (y .0))) =
     taken-bytes s 0 0 (numberOf Coulomb) (numberOf (h .kind)) (hr .a) bytes (hr .kind)
-    ∙ ap (λ (l : List ℕ). bytesOf (numberOf (h .kind)) ++ l) (os .0 ∙ ap (λ (l : List ℕ). numbersBytes (h .orders) ++ l) after) in
+    ∙ ap (λ (l : List ℕ). bytesOf (numberOf (h .kind)) ++ l) (hb .bytes ∙ ap (λ (l : List ℕ). numbersBytes (h .orders) ++ l) after) in
     let some = hr .terms .above in
     let most = hr .terms .below in
     rw (← made) (
       all,
       record {
-        places = os .1;
-        sums = orders-fit (h .kind) s (hr .a) (h .orders) (hr .b) (hr .orders);
+        places = hb .places;
+        sums = hb .sums;
         terms-least = omega (arith, tr .count);
         most = omega (arith, tr .count);
         terms = tr .fit;

@@ -1,6 +1,6 @@
 -- 01, "The roll": a step of the cursor, with zeros beside the end and beside a refusal (D-6).
 use Prim.Native.Nat.{ℕ, zero, suc, _-_}
-use mathlib.Core.Bool.{cond, _||_}
+use mathlib.Core.Bool.{Bool, cond, _||_}
 use mathlib.Core.List.{List, [], _∷_, map}
 use lib.Dec.{ltb, eqb}
 use lib.ListN.{length}
@@ -37,9 +37,13 @@ endOr s place = cond (eqb place (length s)) endStep (refusedStep 7 place)
 abbrev pub stepWith : Kind → Cursor → List ℕ → Step
 stepWith k c s = cond (eqb (c .left) 0) (endOr s (c .place)) (stepped c (termAt s (c .place) k (c .l)))
 
+-- L beyond the kind's, or a place past the end
+abbrev pub forged : Kind → Cursor → List ℕ → Bool
+forged k c s = ltb (mostL k) (c .l) || ltb (length s) (c .place)
+
 -- a forged cursor with a kind above 4, L beyond the kind's or a place past the end is 7 at that place (D-11)
 abbrev pub stepAs : Named → Cursor → List ℕ → Step
-stepAs (named.Is k) c s = cond (ltb (mostL k) (c .l) || ltb (length s) (c .place)) (refusedStep 7 (c .place)) (stepWith k c s)
+stepAs (named.Is k) c s = cond (forged k c s) (refusedStep 7 (c .place)) (stepWith k c s)
 stepAs named.Unknown c s = refusedStep 7 (c .place)
 
 unfoldable pub stepOf : Cursor → List ℕ → Step

@@ -4,13 +4,15 @@ use mathlib.Core.List.{List, _++_}
 use lib.ListN.{length, replicate}
 use Rattle.kind.specs.Limits.{requestOrders}
 use Rattle.kind.specs.Kinds.{numberOf}
+use Rattle.kind.specs.declared.Kind.{Kind}
+use Rattle.kind.specs.declared.Named.the-variants as named
 use Rattle.term.specs.Terms.{Term}
 use Rattle.roll.specs.declared.cursor.Cursor.{Cursor}
 use Rattle.roll.specs.declared.header.Opening.{Opening}
 use Rattle.roll.specs.declared.header.Opening.the-variants as opening
 use Rattle.roll.specs.declared.header.Opened.{Opened}
 use Rattle.laws.specs.Total.{total}
-use Rattle.roll.specs.Reading.{Reading, got, refused, headerAt, termsAt, Header}
+use Rattle.roll.specs.Reading.{Reading, got, refused, ofKind, headerAt, termsAt, Header}
 use Rattle.roll.specs.Cursor.{noCursor}
 
 abbrev pub refusedOpened : ℕ → ℕ → Opened
@@ -23,6 +25,10 @@ cursorAt h next = record { place = next; left = h .terms; kind = numberOf (h .ki
 abbrev pub heldHeader : Reading Header → Opened
 heldHeader (got h next) = record { found = opening.Roll; cursor = cursorAt h next; orders = h .orders ++ replicate (requestOrders - length (h .orders)) 0 }
 heldHeader (refused r place) = refusedOpened r place
+
+-- from the orders on, of a kind that has a name
+unfoldable pub openKindOf : List ℕ → ℕ → Kind → Opened
+openKindOf s at k = heldHeader (ofKind s at (named.Is k))
 
 unfoldable pub openOf : List ℕ → Opened
 openOf s = heldHeader (headerAt s)

@@ -33,7 +33,7 @@ pub struct Step {
 }
 
 // What stands beside a refusal and beside the end.
-pub(crate) fn no_cursor() -> Cursor
+pub fn no_cursor() -> Cursor
     ensures { λ r. ⌜ r ≡ noCursor ⌝ }
 {
     Cursor {

@@ -4,13 +4,13 @@ ghost use Rattle.roll.specs.Reading.{withinAt};
 use number::Number;
 
 // What was read and the place after it, or the refusal and its place.
-pub(crate) enum Field {
+pub enum Field {
     Is(u32, usize),
     Refused(u8, usize),
 }
 
 // The number at a place, from `low` to `high` (D-69).
-pub(crate) fn within(roll: &[u8], at: usize, low: u32, high: u32) -> Field
+pub fn within(roll: &[u8], at: usize, low: u32, high: u32) -> Field
     ensures { λ r. ⌜ r ≡ withinAt (now (roll .entry)) at low high ⌝ }
 {
     let read = number::read(roll, at);

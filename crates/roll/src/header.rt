@@ -3,7 +3,7 @@ ghost use mathlib.Core.Path.{_≡_};
 ghost use Prim.Native.Nat.{_+_, _≤_};
 ghost use Rattle.kind.specs.Limits.{mostOrder, requestOrders};
 ghost use Rattle.roll.specs.Reading.{refused, sumAfter, ordersAt};
-ghost use Rattle.roll.specs.Header.{refusedOpened, openOf};
+ghost use Rattle.roll.specs.Header.{refusedOpened, openKindOf, openOf};
 ghost use Rattle.roll.specs.inner.Held.{heldOrders, FewOrders, openCounted};
 use crate::cursor::Cursor;
 use crate::cursor::no_cursor;
@@ -81,7 +81,7 @@ fn orders(roll: &[u8], at: usize, n: usize) -> ReadOrders
 }
 
 // A refusal, with zeros beside it.
-pub(crate) fn refused_roll(refusal: u8, place: usize) -> Opened
+pub fn refused_roll(refusal: u8, place: usize) -> Opened
     ensures { λ r. ⌜ r ≡ refusedOpened refusal place ⌝ }
 {
     let cursor = no_cursor();
@@ -117,13 +117,20 @@ fn open_count(roll: &[u8], kind: Kind, read: ReadOrders) -> Opened
     }
 }
 
+// A header from its orders on, of a kind that has a name: what both forms of a roll have.
+pub fn open_kind(roll: &[u8], at: usize, kind: Kind) -> Opened
+    ensures { λ r. ⌜ r ≡ openKindOf (now (roll .entry)) at kind ⌝ }
+{
+    open_count(roll, kind, orders(roll, at, kind.orders()))
+}
+
 // A roll's kind, orders and term count; the terms are not looked at (D-12).
 pub fn open(roll: &[u8]) -> Opened
     ensures { λ r. ⌜ r ≡ openOf (now (roll .entry)) ⌝ }
 {
     match within(roll, 0, 0, Kind::Coulomb.number() as u32) {
         Field::Is(number, next) => match Kind::of(number as u8) {
-            Named::Is(kind) => open_count(roll, kind, orders(roll, next, kind.orders())),
+            Named::Is(kind) => open_kind(roll, next, kind),
             Named::Unknown => refused_roll(7, 0),
         },
         Field::Refused(refusal, place) => refused_roll(refusal, place),

@@ -104,7 +104,7 @@ fn term_count(roll: &[u8], at: usize, kind: Kind, l: u8, scale: u32, boys: u8) -
 }
 
 // The Boys order of a kind that has none is 0.
-pub(crate) fn most_boys(kind: Kind, l: u8) -> u8
+pub fn most_boys(kind: Kind, l: u8) -> u8
     ensures { λ r. ⌜ r ≡ mostBoys kind l ⌝ }
 {
     if kind.uses_boys() {

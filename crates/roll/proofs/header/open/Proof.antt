@@ -1,7 +1,7 @@
 -- `open` meets its contract: the kind, then its orders and count. Assumes nothing.
 use native.Mathlib.Omega.{arith}
 use Rattle.roll.proofs.FieldLaws.{taken-below}
-use Rattle.roll.proofs.HeaderLaws.{orders-places, few-orders, open-kind, open-unknown, open-unread}
+use Rattle.roll.proofs.HeaderLaws.{open-kind, open-unknown, open-unread}
 use borrow.Author.Needs.{needs}
 use Rattle.roll.proofs.header.open.Statement.{statement}
 use Rattle.roll.proofs.header.open.Tie as tie
@@ -27,14 +27,8 @@ of-requires c κs = search needs
 enum-known-kind : tie.Need-enum-known-kind
 enum-known-kind c = search needs
 
-orders-requires : tie.Need-orders-requires
-orders-requires c κs = search needs
-
-orders-requires-2 : tie.Need-orders-requires-2
-orders-requires-2 c κs = search orders-places
-
-open-count-requires : tie.Need-open-count-requires
-open-count-requires c κs = few-orders _ _ _ _ (search orders-places) (c .orders2 .ensures)
+open-kind-requires : tie.Need-open-kind-requires
+open-kind-requires c κs = search needs
 
 enum-told : tie.Need-enum-told
 enum-told c = search needs
@@ -68,9 +62,7 @@ open-spec =
     cast-of
     of-requires
     enum-known-kind
-    orders-requires
-    orders-requires-2
-    open-count-requires
+    open-kind-requires
     enum-told
     refused-roll-requires
     enum-known-refusal
