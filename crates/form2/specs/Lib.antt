@@ -1,0 +1,5 @@
+pub mod Bytes
+pub mod Cursor
+pub mod Header
+pub mod Moves
+pub mod Reading
