@@ -1,3 +1,5 @@
-pub mod Sharing
+pub mod Back
+pub mod Forms
 pub mod Inside
+pub mod Sharing
 pub mod Written
