@@ -8,7 +8,6 @@ use borrow.Author.Tests.{lt-ltb, le-ltb, leb-true, leb-false}
 use borrow.Rule.Slice.PartMut.{putMid}
 use lib.Dec.{leb}
 use lib.ListN.{length, take, drop, length-drop}
-use lib.Seq.{sets}
 use Rattle.laws.proofs.Cases.{clash}
 use Rattle.kind.specs.declared.Kind.{Kind}
 use Rattle.kind.specs.declared.Named.{Named}
@@ -26,31 +25,33 @@ use Rattle.expansion.specs.declared.Measured.{Measured}
 use Rattle.expansion.specs.declared.Measured.the-variants.{Fits, Over}
 use Rattle.expansion.specs.declared.Expanded.{Expanded}
 use Rattle.expansion.specs.declared.Expanded.the-variants.{Roll, Refused}
-use Rattle.expansion.specs.inner.View.{pathTerm, fiveBits, pathPrefactors}
+use Rattle.expansion.specs.inner.View.{pathTerm, fiveBits, pathPrefactors, Emitted}
+use Rattle.expansion.specs.inner.Sinks.{size2}
 use Rattle.expansion.specs.inner.Measuring.{measured, Measures, MeasureMay, termsIn, bytesIn}
-use Rattle.expansion.specs.Expanding.{tooHigh, unusedSet, termsOf, rollOf, kindTold, kindMeasured, whereRoom, namedTold, namedMeasured, namedOut, ExpandTold}
-use Rattle.expansion.specs.inner.Requests.{KnownTold, PackMay, Packed, emptyTerm, RequestWithin, RollMay, RequestMay, WordMay, SizedMay}
+use Rattle.expansion.specs.Expanding.{tooHigh, unusedSet, termsOf, rollOf, kindIn, kindMeasured, namedIn, namedMeasured, outIn, FormTold}
+use Rattle.expansion.specs.inner.Requests.{rollIn, KnownTold, PackMay, Packed, emptyTerm, RequestWithin, RollMay, RequestMay, WordMay, LongMay, SizedMay}
 use Rattle.expansion.specs.inner.Walking.{Good}
-use Rattle.expansion.proofs.Sizes.{measured-tells, SizeIs, measured-size}
+use Rattle.expansion.proofs.Sizes.{roomTold, afterSize, measured-in, SizeIs, measured-size}
 use Rattle.expansion.proofs.HeaderLaws.{within-nibbles, first-good, first-terms, roll-length}
 
 -- an answer that refuses leaves every byte as it was
-refused-with : (k : Kind) (os out : List ℕ) (begin n : ℕ) → kindTold k os out begin ≡ Refused n → KnownTold k os out begin (Refused n) out
-refused-with k os out begin n e = record { answer = sym e; out = ap (λ (r : Expanded). namedOut r (Is k) os out begin) (sym e) }
+refused-with : (doing : ℕ) (k : Kind) (os out : List ℕ) (begin n : ℕ) → kindIn (rollIn doing) k os out begin ≡ Refused n → KnownTold doing k os out begin (Refused n) out
+refused-with doing k os out begin n e = record { answer = sym e; out = ap (λ (r : Expanded). outIn (rollIn doing) r (Is k) os out begin) (sym e) }
+
+module _ (doing : ℕ) (k : Kind) (os out : List ℕ) (begin : ℕ) where
+  pub told-high : (b : Bool) → b ≡ tooHigh k os → b ≡ true → KnownTold doing k os out begin (Refused 2) out
+  unfolding kindIn
+  told-high b e t = refused-with doing k os out begin 2 (simp (sym e ∙ t))
+
+  pub told-unused : (a b : Bool) → a ≡ tooHigh k os → a ≡ false → b ≡ unusedSet k os → b ≡ true → KnownTold doing k os out begin (Refused 3) out
+  unfolding kindIn
+  told-unused a b e f g t = refused-with doing k os out begin 3 (simp (sym e ∙ f, sym g ∙ t))
+
+  pub told-beyond : (a b : Bool) → a ≡ tooHigh k os → a ≡ false → b ≡ unusedSet k os → b ≡ false → length out < begin → KnownTold doing k os out begin (Refused 5) out
+  unfolding kindIn
+  told-beyond a b e f g h l = refused-with doing k os out begin 5 (simp (sym e ∙ f, sym g ∙ h, lt-ltb (length out) begin l))
 
 module _ (k : Kind) (os out : List ℕ) (begin : ℕ) where
-  pub told-high : (b : Bool) → b ≡ tooHigh k os → b ≡ true → KnownTold k os out begin (Refused 2) out
-  unfolding kindTold
-  told-high b e t = refused-with k os out begin 2 (simp (sym e ∙ t))
-
-  pub told-unused : (a b : Bool) → a ≡ tooHigh k os → a ≡ false → b ≡ unusedSet k os → b ≡ true → KnownTold k os out begin (Refused 3) out
-  unfolding kindTold
-  told-unused a b e f g t = refused-with k os out begin 3 (simp (sym e ∙ f, sym g ∙ t))
-
-  pub told-beyond : (a b : Bool) → a ≡ tooHigh k os → a ≡ false → b ≡ unusedSet k os → b ≡ false → length out < begin → KnownTold k os out begin (Refused 5) out
-  unfolding kindTold
-  told-beyond a b e f g h l = refused-with k os out begin 5 (simp (sym e ∙ f, sym g ∙ h, lt-ltb (length out) begin l))
-
   pub request-may : (a b : Bool) → a ≡ tooHigh k os → a ≡ false → b ≡ unusedSet k os → b ≡ false → length os ≡ requestOrders → begin ≤ length out → RequestMay k os begin out
   request-may a b e f g h t l = record { within = record { low-sums = sym e ∙ f; none-unused = sym g ∙ h; in-full = t }; begins = l }
 
@@ -128,17 +129,14 @@ module _ (k : Kind) (os : List ℕ) (left : ℕ) (may : WordMay k os left) where
       pub count-cast : terms < 2 ^ 32
       count-cast = let h = terms-few in omega arith
 
-      module _ (n l : ℕ) (orders-is : n ≡ ordersOf k) (length-is : l ≡ lengthOf terms) where
-        pub header-fits : 1 + n + l < 2 ^ 64
-        header-fits = let h = orders-within k in let g = length-few terms in omega arith
+      module _ (h : ℕ) (head-is : h ≡ 1 + ordersOf k + lengthOf terms) where
+        pub roll-fits : h + bytes < 2 ^ 64
+        roll-fits = let o = orders-within k in let g = length-few terms in let b = bytes-few in let t = terms-few in omega arith
 
-        pub roll-fits : 1 + n + l + bytes < 2 ^ 64
-        roll-fits = let h = orders-within k in let g = length-few terms in let b = bytes-few in let t = terms-few in omega arith
-
-        long-is : 1 + n + l + bytes ≡ length (rollOf k os)
+        long-is : h + bytes ≡ length (rollOf k os)
         long-is = let r = roll-length k os (may .within) in let a = ap lengthOf (fits-is .0) in let b = fits-is .1 in omega arith
 
-        pub sized-roll : Roll (1 + n + l + bytes) terms ≡ kindMeasured k os
+        pub sized-roll : Roll (h + bytes) terms ≡ kindMeasured k os
         unfolding kindMeasured
         sized-roll = ap₂ Roll long-is (fits-is .0) ∙ sym (simp (may .within .low-sums, may .within .none-unused, le-ltb mostTerms (length (termsOf k os)) (fits-is .2)))
 
@@ -151,64 +149,79 @@ module _ (k : Kind) (os out : List ℕ) (begin : ℕ) (may : RequestMay k os beg
   pub may-word : (left : ℕ) → Packed os 0 left → WordMay k os left
   may-word left word = record { within = may .within; word = word }
 
-  module _ (size : Expanded) (is : size ≡ kindMeasured k os) where
-    told-is : kindTold k os out begin ≡ whereRoom size out begin
-    told-is = measured-tells k os out begin (may .begins) ∙ ap (λ (r : Expanded). whereRoom r out begin) (sym is)
+  module _ (doing : ℕ) (size : Expanded) (is : size ≡ kindMeasured k os) where
+    told-is : kindIn (rollIn doing) k os out begin ≡ afterSize size (roomTold (rollIn doing) k os out begin)
+    told-is = measured-in (rollIn doing) k os out begin (may .begins) ∙ ap (λ (r : Expanded). afterSize r (roomTold (rollIn doing) k os out begin)) (sym is)
 
-    pub told-measured : (n : ℕ) → size ≡ Refused n → KnownTold k os out begin (Refused n) out
-    told-measured n e = refused-with k os out begin n (told-is ∙ ap (λ (r : Expanded). whereRoom r out begin) e)
+    pub told-measured : (n : ℕ) → size ≡ Refused n → KnownTold doing k os out begin (Refused n) out
+    told-measured n e = refused-with doing k os out begin n (told-is ∙ ap (λ (r : Expanded). afterSize r (roomTold (rollIn doing) k os out begin)) e)
 
-    pub sized-may : (left : ℕ) → Packed os 0 left → (long count : ℕ) → size ≡ Roll long count → SizedMay k os left long count begin out
-    sized-may left word long count e = record { request = may; word = word; size = sym e ∙ is }
+    pub sized-may : doing < size2 → (left : ℕ) → Packed os 0 left → (long count : ℕ) → size ≡ Roll long count → SizedMay doing k os left long count begin out
+    sized-may writes left word long count e = record { writes = writes; request = may; word = word; size = sym e ∙ is }
 
-module _ (k : Kind) (os : List ℕ) (left long count begin : ℕ) (out : List ℕ) (may : SizedMay k os left long count begin out) where
+module _ (doing : ℕ) (k : Kind) (os : List ℕ) (left long count begin : ℕ) (out : List ℕ) (may : SizedMay doing k os left long count begin out) where
   is : SizeIs k os long count
   is = measured-size k os long count (may .size)
 
-  told : kindTold k os out begin ≡ whereRoom (Roll long count) out begin
-  told = measured-tells k os out begin (may .request .begins) ∙ ap (λ (r : Expanded). whereRoom r out begin) (sym (may .size))
+  told : kindIn (rollIn doing) k os out begin ≡ roomTold (rollIn doing) k os out begin
+  told =
+      measured-in (rollIn doing) k os out begin (may .request .begins)
+      ∙ ap (λ (r : Expanded). afterSize r (roomTold (rollIn doing) k os out begin)) (sym (may .size))
 
-  pub told-full : length out - begin < long → KnownTold k os out begin (Refused 6) out
-  told-full h = refused-with k os out begin 6 (told ∙ simp (lt-ltb (length out) (begin + long) (let b = may .request .begins in omega arith)))
+  pub long-may : LongMay k os left long count
+  long-may = record { within = may .request .within; word = may .word; size = may .size }
 
-  module _ (fits : long ≤ length out - begin) where
-    pub roll-may : RollMay k os left count (take (length out - begin) (drop begin out))
-    roll-may =
-        record {
-          within = may .request .within;
-          word = may .word;
-          count = is .count-is;
-          few = let c = is .count-is in let f = is .few in omega arith;
-          room = rw (part-all out begin) (let r = is .long-is in let d = length-drop begin out in omega arith);
-        }
+  module _ (b : Bool) (fits : b ≡ leb (length (rollIn doing k os)) (length out - begin)) where
+    pub told-full : b ≡ false → KnownTold doing k os out begin (Refused 6) out
+    told-full e =
+        refused-with doing k os out begin 6
+        (told ∙ simp (lt-ltb (length out) (begin + length (rollIn doing k os)) (let h = leb-false (length (rollIn doing k os)) (length out - begin) (sym fits ∙ e) in let g = may .request .begins in omega arith)))
 
-    pub told-roll : (part : List ℕ) → part ≡ sets (take (length out - begin) (drop begin out)) 0 (rollOf k os) → KnownTold k os out begin (Roll long count) (putMid begin (length out - begin) out part)
-    told-roll part put =
-        record {
-          answer = sym fitted;
-          out = part-put out part (rollOf k os) begin room put ∙ ap (λ (r : Expanded). namedOut r (Is k) os out begin) (sym fitted);
-        }
-      where
-        room : begin + length (rollOf k os) ≤ length out
-        room = let r = is .long-is in let b = may .request .begins in omega arith
+    module _ (e : b ≡ true) where
+      room : length (rollIn doing k os) ≤ length out - begin
+      room = leb-true (length (rollIn doing k os)) (length out - begin) (sym fits ∙ e)
 
-        fitted : kindTold k os out begin ≡ Roll long count
-        fitted = told ∙ simp (le-ltb (length out) (begin + long) (let b = may .request .begins in omega arith))
+      pub roll-may : RollMay doing k os left count (take (length out - begin) (drop begin out))
+      roll-may =
+          record {
+            writes = may .writes;
+            within = may .request .within;
+            word = may .word;
+            count = is .count-is;
+            few = let c = is .count-is in let f = is .few in omega arith;
+            room = rw (part-all out begin) (let r = room in let d = length-drop begin out in omega arith);
+          }
+
+      pub told-roll : (end : ℕ) (part : List ℕ) → Emitted (rollIn doing k os) 0 (take (length out - begin) (drop begin out)) end part → KnownTold doing k os out begin (Roll end count) (putMid begin (length out - begin) out part)
+      told-roll end part put =
+          record {
+            answer = sym fitted;
+            out = part-put out part (rollIn doing k os) begin inside (put .out) ∙ ap (λ (r : Expanded). outIn (rollIn doing) r (Is k) os out begin) (sym fitted);
+          }
+        where
+          inside : begin + length (rollIn doing k os) ≤ length out
+          inside = let r = room in let g = may .request .begins in omega arith
+
+          end-is : length (rollIn doing k os) ≡ end
+          end-is = let n = put .next in omega arith
+
+          fitted : kindIn (rollIn doing) k os out begin ≡ Roll end count
+          fitted = told ∙ (simp (le-ltb (length out) (begin + length (rollIn doing k os)) inside)) ∙ ap₂ Roll end-is (sym (is .count-is))
 
 -- a kind above 4, and a known one
-module _ (kind : ℕ) (os before : List ℕ) (begin : ℕ) (named : Named) (is : named ≡ kindOf kind) where
-  pub told-unknown : named ≡ Unknown → ExpandTold kind os before begin (Refused 1) before
+module _ (doing kind : ℕ) (os before : List ℕ) (begin : ℕ) (named : Named) (is : named ≡ kindOf kind) where
+  pub told-unknown : named ≡ Unknown → FormTold (rollIn doing) kind os before begin (Refused 1) before
   told-unknown e =
       record {
-        answer = ap (λ (n : Named). namedTold n os before begin) (sym e ∙ is);
-        out = ap (λ (n : Named). namedOut (namedTold n os before begin) n os before begin) (sym e ∙ is);
+        answer = ap (λ (n : Named). namedIn (rollIn doing) n os before begin) (sym e ∙ is);
+        out = ap (λ (n : Named). outIn (rollIn doing) (namedIn (rollIn doing) n os before begin) n os before begin) (sym e ∙ is);
       }
 
-  pub told-known : (k : Kind) (r : Expanded) (after : List ℕ) → named ≡ Is k → KnownTold k os before begin r after → ExpandTold kind os before begin r after
+  pub told-known : (k : Kind) (r : Expanded) (after : List ℕ) → named ≡ Is k → KnownTold doing k os before begin r after → FormTold (rollIn doing) kind os before begin r after
   told-known k r after e a =
       record {
-        answer = a .answer ∙ ap (λ (n : Named). namedTold n os before begin) (sym e ∙ is);
-        out = a .out ∙ ap (λ (n : Named). namedOut (namedTold n os before begin) n os before begin) (sym e ∙ is);
+        answer = a .answer ∙ ap (λ (n : Named). namedIn (rollIn doing) n os before begin) (sym e ∙ is);
+        out = a .out ∙ ap (λ (n : Named). outIn (rollIn doing) (namedIn (rollIn doing) n os before begin) n os before begin) (sym e ∙ is);
       }
 
 -- the same of a request that is measured

@@ -34,7 +34,7 @@ use Rattle.roll.proofs.Written.{roll-only}
 use Rattle.roll.proofs.Checked.{reads-checked, judged-kind, judged-orders, judged-l, judged-left}
 use Rattle.expansion.specs.declared.Expanded.{Expanded}
 use Rattle.expansion.specs.declared.Expanded.the-variants.{Roll, Refused}
-use Rattle.expansion.specs.Expanding.{_exceeds_, tooHigh, unusedSet, termsOf, rollOf, kindTold, namedTold, namedOut, ExpandTold, refusalOf}
+use Rattle.expansion.specs.Expanding.{_exceeds_, tooHigh, unusedSet, termsOf, rollOf, kindIn, kindTold, namedTold, namedOut, ExpandTold, refusalOf}
 use Rattle.expansion.specs.Demands.{HistoriesOf, replayed, rollWith, WholeList, Passed, TooMany, Demand3, writtenAt, ReadsBack, Demand2}
 use Rattle.expansion.specs.inner.Requests.{RequestWithin}
 use Rattle.expansion.proofs.HeaderLaws.{all-small, orders-long}
@@ -96,7 +96,7 @@ four-met false false false false true l n is = let h : _≡_ {A = ℕ} 6 4 = ap 
 four-met false false false false false l n is = let h : _≡_ {A = ℕ} 0 4 = ap refusalOf is in absurd (omega arith)
 
 pub answered : (k : Kind) (orders before : List ℕ) (begin long count : ℕ) → kindTold k orders before begin ≡ Roll long count → Answered k orders before begin long count
-unfolding kindTold
+unfolding kindIn
 answered k orders before begin long count e =
     let m =
     none-met (tooHigh k orders) (unusedSet k orders) (begin exceeds length before) (length (termsOf k orders) exceeds mostTerms)
@@ -105,19 +105,19 @@ answered k orders before begin long count e =
 
 answered-four : (k : Kind) (orders before : List ℕ) (begin : ℕ) → kindTold k orders before begin ≡ Refused 4
     → (tooHigh k orders ≡ false) × (unusedSet k orders ≡ false) × ((begin exceeds length before) ≡ false) × ((length (termsOf k orders) exceeds mostTerms) ≡ true)
-unfolding kindTold
+unfolding kindIn
 answered-four k orders before begin e =
     four-met (tooHigh k orders) (unusedSet k orders) (begin exceeds length before) (length (termsOf k orders) exceeds mostTerms)
     (begin + length (rollOf k orders) exceeds length before) (length (rollOf k orders)) (length (termsOf k orders)) e
 
 told-four : (k : Kind) (orders before : List ℕ) (begin : ℕ) → tooHigh k orders ≡ false → unusedSet k orders ≡ false → (begin exceeds length before) ≡ false
     → (length (termsOf k orders) exceeds mostTerms) ≡ true → kindTold k orders before begin ≡ Refused 4
-unfolding kindTold
+unfolding kindIn
 told-four k orders before begin a b c d = simp (a, b, c, d)
 
 told-roll : (k : Kind) (orders before : List ℕ) (begin : ℕ) → tooHigh k orders ≡ false → unusedSet k orders ≡ false → (begin exceeds length before) ≡ false
     → length (termsOf k orders) ≤ mostTerms → begin + length (rollOf k orders) ≤ length before → kindTold k orders before begin ≡ Roll (length (rollOf k orders)) (length (termsOf k orders))
-unfolding kindTold
+unfolding kindIn
 told-roll k orders before begin a b c few room =
     simp (a, b, c, le-ltb mostTerms (length (termsOf k orders)) few, le-ltb (length before) (begin + length (rollOf k orders)) room)
 

@@ -1,12 +1,12 @@
 -- A request within the limits, and the roll that is written of it.
 use Prim.Native.Nat.{ℕ, zero, suc, _+_, _^_, _≤_, _<_}
 use mathlib.Core.Path.{_≡_, refl, sym, ap, ap₂, subst, _∙_}
-use mathlib.Core.Bool.{false, _||_}
+use mathlib.Core.Bool.{Bool, true, false, cond, _||_}
 use mathlib.Core.List.{List, [], _∷_, _++_, append-assoc}
 use native.Mathlib.Omega.{arith}
 use native.Mathlib.Numerals.{add-one}
-use borrow.Author.Tests.{ltb-false}
-use lib.Dec.{ltb}
+use borrow.Author.Tests.{ltb-false, eq-eqb, ne-eqb}
+use lib.Dec.{ltb, eqb}
 use lib.ListN.{length, getD, set, take, drop, length-append, length-take, length-set, List·getD-eq-default}
 use lib.Seq.{sets, length-sets, take-suc}
 use Rattle.kind.specs.declared.Kind.{Kind}
@@ -18,7 +18,7 @@ use Rattle.laws.proofs.Cases.{or-false-both}
 use Rattle.kind.proofs.Within.{orders-within, number-within}
 use Rattle.term.specs.Terms.{Term}
 use Rattle.number.specs.Numbers.{bytesOf, lengthOf}
-use Rattle.number.proofs.Writing.{bytes-last}
+use Rattle.number.proofs.Writing.{bytes-last, length-few}
 use Rattle.steps.specs.declared.CentreName.the-variants.{A, B, C, D}
 use Rattle.steps.specs.Choice.{sumOf}
 use Rattle.laws.specs.Total.{total}
@@ -27,13 +27,16 @@ use Rattle.histories.specs.History.{stage, depth, expand}
 use Rattle.histories.specs.inner.OnTheWay.{SmallOrders, Reached}
 use Rattle.histories.proofs.Bounds.{started}
 use Rattle.roll.specs.Bytes.{termsBytes, numbersBytes, rollBytes}
+use Rattle.form2.specs.Bytes.{formTwo, termsBytes2, rollBytes2}
 use Rattle.expansion.specs.declared.Path.{Path}
-use Rattle.expansion.specs.inner.View.{pathTerm, Emitted, NumberMay}
+use Rattle.expansion.specs.inner.View.{fiveBits, pathPrefactors, pathTerm, Emitted, NumberMay}
+use Rattle.expansion.specs.inner.Sinks.{inForm1, inForm2, size2, Sink, sinkOf, formsBytes, storedIn, withTerms, endOf, Took}
 use Rattle.expansion.specs.inner.Walking.{viewOf, Good, termsBelow, NodeMay}
-use Rattle.expansion.specs.Expanding.{_exceeds_, tooHigh, unusedSet, termsOf, rollOf}
-use Rattle.expansion.specs.inner.Requests.{PackMay, Packed, emptyTerm, RequestWithin, headOf, HeadMay, RollMay}
+use Rattle.expansion.specs.Expanding.{_exceeds_, tooHigh, unusedSet, termsOf, rollOf, rollOf2}
+use Rattle.expansion.specs.inner.Requests.{rollIn, PackMay, Packed, emptyTerm, RequestWithin, formOf, headOf, HeadMay, RollMay}
 use Rattle.laws.proofs.Totals.{total-three}
 use Rattle.expansion.proofs.RequestLaws.{none-after}
+use Rattle.expansion.proofs.SinkLaws.{place-in-all, out-in-all}
 
 -- ---- the orders of a request within the limits
 
@@ -158,34 +161,65 @@ take-small (suc n) (x ∷ l) h (suc i) = take-small n l (λ (j : ℕ). h (suc j)
 pub orders-add : (k : Kind) (n : ℕ) → n ≡ ordersOf k → 1 + n < 2 ^ 64
 orders-add k n e = let h = orders-within k in omega arith
 
+pub head-fits : (k : Kind) (n terms l : ℕ) → n ≡ ordersOf k → l ≡ lengthOf terms → 1 + n + l < 2 ^ 64
+head-fits k n terms l e f = let h = orders-within k in let g = length-few terms in omega arith
+
 pub kept-through : (out mid after : List ℕ) (i v : ℕ) → length after ≡ length mid → length mid ≡ length (set out i v) → length after ≡ length out
 kept-through out mid after i v e f = e ∙ f ∙ length-set out i v
 
 module _ (k : Kind) (os : List ℕ) (within : RequestWithin k os) where
-  roll-bytes : rollOf k os ≡ headOf k os ++ termsBytes (termsOf k os)
-  unfolding rollOf rollBytes headOf SmallOrders
-  roll-bytes =
-      ap₂ _++_ (bytes-last (numberOf k) (omega (arith, number-within k)))
-      (ap (λ (l : List ℕ). l ++ (bytesOf (length (termsOf k os)) ++ termsBytes (termsOf k os)))
+  -- the bytes of a roll that begins with a number of one byte
+  begun-bytes : (n : ℕ) (bytes : List ℕ) → n < 128
+      → bytesOf n ++ (numbersBytes (take (ordersOf k) os) ++ (bytesOf (length (termsOf k os)) ++ bytes)) ≡ (n ∷ (take (ordersOf k) os ++ bytesOf (length (termsOf k os)))) ++ bytes
+  unfolding SmallOrders
+  begun-bytes n bytes small =
+      ap₂ _++_ (bytes-last n small)
+      (ap (λ (l : List ℕ). l ++ (bytesOf (length (termsOf k os)) ++ bytes))
       (numbers-small (take (ordersOf k) os) (take-small (ordersOf k) os (λ (i : ℕ). let h = all-small k os within i in omega arith))))
-      ∙ ap (λ (l : List ℕ). numberOf k ∷ l) (sym (append-assoc (take (ordersOf k) os) (bytesOf (length (termsOf k os))) (termsBytes (termsOf k os))))
+      ∙ ap (λ (l : List ℕ). n ∷ l) (sym (append-assoc (take (ordersOf k) os) (bytesOf (length (termsOf k os))) bytes))
+
+  -- what stands before the terms, and the terms, in each form
+  roll-bytes : (doing : ℕ) → rollIn doing k os ≡ headOf (formOf doing) k os ++ formsBytes doing [] (termsOf k os)
+  unfolding rollOf rollOf2 rollBytes rollBytes2 headOf formOf formsBytes
+  roll-bytes doing = by (eqb doing inForm1)
+    where
+      none : numberOf k ≡ 0 + numberOf k
+      none = omega arith
+
+      by : (b : Bool) → cond b rollOf rollOf2 k os ≡ ((cond b 0 formTwo + numberOf k) ∷ (take (ordersOf k) os ++ bytesOf (length (termsOf k os)))) ++ cond b (termsBytes (termsOf k os)) (termsBytes2 [] (termsOf k os))
+      by true =
+          ap (λ (n : ℕ). bytesOf n ++ (numbersBytes (take (ordersOf k) os) ++ (bytesOf (length (termsOf k os)) ++ termsBytes (termsOf k os)))) none
+          ∙ begun-bytes (0 + numberOf k) (termsBytes (termsOf k os)) (omega (arith, number-within k))
+      by false = begun-bytes (formTwo + numberOf k) (termsBytes2 [] (termsOf k os)) (omega (arith, number-within k))
 
   pub orders-long : length (take (ordersOf k) os) ≡ ordersOf k
   orders-long = length-take (ordersOf k) os ∙ (let h = orders-within k in let l = within .in-full in omega arith)
 
-  head-length : length (headOf k os) ≡ 1 + ordersOf k + lengthOf (length (termsOf k os))
+  head-length : (form : ℕ) → length (headOf form k os) ≡ 1 + ordersOf k + lengthOf (length (termsOf k os))
   unfolding headOf lengthOf
-  head-length = let a = length-append (take (ordersOf k) os) (bytesOf (length (termsOf k os))) in let c = orders-long in omega arith
+  head-length form = let a = length-append (take (ordersOf k) os) (bytesOf (length (termsOf k os))) in let c = orders-long in omega arith
+
+  form-length : (doing : ℕ) → length (rollIn doing k os) ≡ 1 + ordersOf k + lengthOf (length (termsOf k os)) + length (formsBytes doing [] (termsOf k os))
+  form-length doing =
+      ap length (roll-bytes doing) ∙ length-append (headOf (formOf doing) k os) (formsBytes doing [] (termsOf k os)) ∙ (let h = head-length (formOf doing) in omega arith)
 
   pub roll-length : length (rollOf k os) ≡ 1 + ordersOf k + lengthOf (length (termsOf k os)) + length (termsBytes (termsOf k os))
-  roll-length = ap length roll-bytes ∙ length-append (headOf k os) (termsBytes (termsOf k os)) ∙ (let h = head-length in omega arith)
+  unfolding formsBytes
+  roll-length = form-length inForm1
 
-module _ (k : Kind) (os : List ℕ) (terms : ℕ) (out : List ℕ) (may : HeadMay k os terms out) where
-  long : length (headOf k os) ≡ 1 + ordersOf k + lengthOf (length (termsOf k os))
-  long = head-length k os (may .within)
+  pub roll-length2 : length (rollOf2 k os) ≡ 1 + ordersOf k + lengthOf (length (termsOf k os)) + length (termsBytes2 [] (termsOf k os))
+  unfolding formsBytes
+  roll-length2 = form-length inForm2
+
+module _ (form : ℕ) (k : Kind) (os : List ℕ) (terms : ℕ) (out : List ℕ) (may : HeadMay form k os terms out) where
+  long : length (headOf form k os) ≡ 1 + ordersOf k + lengthOf (length (termsOf k os))
+  long = head-length k os (may .within) form
 
   pub head-inside : 0 < length out
   head-inside = let r = may .room in let l = long in omega arith
+
+  pub first-fits : (v : ℕ) → v ≡ numberOf k → form + v < 256
+  first-fits v e = let h = may .either in let n = number-within k in omega arith
 
   module _ (n : ℕ) (is : n ≡ ordersOf k) where
     pub orders-few : n ≤ requestOrders
@@ -194,9 +228,9 @@ module _ (k : Kind) (os : List ℕ) (terms : ℕ) (out : List ℕ) (may : HeadMa
     pub orders-room : (v : ℕ) → 1 + n ≤ length (set out 0 v)
     orders-room v = let r = may .room in let l = long in let s = length-set out 0 v in omega arith
 
-    module _ (v : ℕ) (num : v ≡ numberOf k) (mid : List ℕ) (put : mid ≡ sets (set out 0 v) 1 (take n os)) where
+    module _ (v : ℕ) (num : v ≡ numberOf k) (mid : List ℕ) (put : mid ≡ sets (set out 0 (form + v)) 1 (take n os)) where
       mid-long : length mid ≡ length out
-      mid-long = ap length put ∙ length-sets (set out 0 v) 1 (take n os) ∙ length-set out 0 v
+      mid-long = ap length put ∙ length-sets (set out 0 (form + v)) 1 (take n os) ∙ length-set out 0 (form + v)
 
       pub count-fits : NumberMay terms (1 + n) mid
       unfolding lengthOf
@@ -206,7 +240,7 @@ module _ (k : Kind) (os : List ℕ) (terms : ℕ) (out : List ℕ) (may : HeadMa
             room = let r = may .room in let l = long in let m = mid-long in let c = ap (λ (t : ℕ). length (bytesOf t)) (may .count) in omega arith;
           }
 
-      pub head-put : (at : ℕ) (then : List ℕ) → Emitted (bytesOf terms) (1 + n) mid at then → Emitted (headOf k os) 0 out at then
+      pub head-put : (at : ℕ) (then : List ℕ) → Emitted (bytesOf terms) (1 + n) mid at then → Emitted (headOf form k os) 0 out at then
       unfolding headOf lengthOf
       head-put at then counted =
           record {
@@ -214,39 +248,127 @@ module _ (k : Kind) (os : List ℕ) (terms : ℕ) (out : List ℕ) (may : HeadMa
             out =
                 counted .out
                 ∙ ap₂ (λ (l : List ℕ) (i : ℕ). sets l i (bytesOf terms)) put place
-                ∙ sym (sets-append (set out 0 v) 1 (take n os) (bytesOf terms))
-                ∙ ap (λ (w : ℕ). sets (set out 0 w) 1 (take n os ++ bytesOf terms)) num
-                ∙ ap₂ (λ (m t : ℕ). sets (set out 0 (numberOf k)) 1 (take m os ++ bytesOf t)) is (may .count);
+                ∙ sym (sets-append (set out 0 (form + v)) 1 (take n os) (bytesOf terms))
+                ∙ ap (λ (w : ℕ). sets (set out 0 (form + w)) 1 (take n os ++ bytesOf terms)) num
+                ∙ ap₂ (λ (m t : ℕ). sets (set out 0 (form + numberOf k)) 1 (take m os ++ bytesOf t)) is (may .count);
           }
         where
           place : 1 + n ≡ 1 + length (take n os)
           place = let h = ap (λ (m : ℕ). length (take m os)) is ∙ orders-long k os (may .within) in omega arith
 
-module _ (k : Kind) (os : List ℕ) (left terms : ℕ) (out : List ℕ) (may : RollMay k os left terms out) where
-  whole : length (rollOf k os) ≡ length (headOf k os) + length (termsBytes (termsOf k os))
-  whole = ap length (roll-bytes k os (may .within)) ∙ length-append (headOf k os) (termsBytes (termsOf k os))
+-- what a form adds is 0 or 16
+pub form-one : (doing : ℕ) → doing ≡ inForm1 → 0 ≡ formOf doing
+unfolding formOf
+form-one doing e = sym (ap (λ (b : Bool). cond b 0 formTwo) (eq-eqb doing inForm1 e))
 
-  pub head-may : HeadMay k os terms out
-  head-may = record { within = may .within; count = may .count; few = may .few; room = let r = may .room in let w = whole in omega arith }
+pub form-two : (doing : ℕ) → (doing ≡ inForm1 → ⊥) → formTwo ≡ formOf doing
+unfolding formOf
+form-two doing e = sym (ap (λ (b : Bool). cond b 0 formTwo) (ne-eqb doing inForm1 e))
 
-  module _ (at : ℕ) (then : List ℕ) (head : Emitted (headOf k os) 0 out at then) (p : Path) (empty : pathTerm p ≡ emptyTerm) where
-    terms-are : termsBelow k left p ≡ termsOf k os
-    terms-are = first-terms k os (may .within) left (may .word) p empty
+form-most : (doing : ℕ) → formOf doing ≤ formTwo
+unfolding formOf
+form-most doing = by (eqb doing inForm1)
+  where
+    by : (b : Bool) → cond b 0 formTwo ≤ formTwo
+    by true = omega arith
+    by false = omega arith
 
-    pub node-may : NodeMay k left p at then
-    node-may =
+-- a sink with no term before
+abbrev pub firstSink : ℕ → ℕ → List ℕ → Sink
+firstSink doing at out = sinkOf (doing ∷ at ∷ 0 ∷ 0 ∷ 0 ∷ []) out
+
+first-is : (doing at : ℕ) (out : List ℕ) → firstSink doing at out ≡ record { doing = doing; place = at; earlier = []; out = out }
+unfolding sinkOf pathPrefactors fiveBits
+first-is doing at out = refl
+
+module _ (doing at : ℕ) (out : List ℕ) (ts : List Term) where
+  pub first-place : withTerms (firstSink doing at out) ts .place ≡ at + length (formsBytes doing [] ts)
+  first-place = ap (λ (s : Sink). withTerms s ts .place) (first-is doing at out) ∙ place-in-all (record { doing = doing; place = at; earlier = []; out = out }) ts
+
+  pub first-out : withTerms (firstSink doing at out) ts .out ≡ storedIn doing out at (formsBytes doing [] ts)
+  first-out = ap (λ (s : Sink). withTerms s ts .out) (first-is doing at out) ∙ out-in-all (record { doing = doing; place = at; earlier = []; out = out }) ts
+
+  pub first-few : length (firstSink doing at out .earlier) < 25
+  first-few = let h = ap (λ (s : Sink). length (s .earlier)) (first-is doing at out) in omega arith
+
+module _ (doing : ℕ) (k : Kind) (os : List ℕ) (left terms : ℕ) (out : List ℕ) (may : RollMay doing k os left terms out) where
+  whole : length (rollIn doing k os) ≡ length (headOf (formOf doing) k os) + length (formsBytes doing [] (termsOf k os))
+  whole = ap length (roll-bytes k os (may .within) doing) ∙ length-append (headOf (formOf doing) k os) (formsBytes doing [] (termsOf k os))
+
+  writes : doing ≡ size2 → ⊥
+  writes e = let h = may .writes in omega arith
+
+  module _ (form : ℕ) (form-is : form ≡ formOf doing) where
+    pub head-may : HeadMay form k os terms out
+    head-may =
         record {
-          good = first-good k os (may .within) left (may .word) p empty;
-          room = record { fits = let r = may .room in let w = whole in let e = head .next in let s = ap length (head .out) ∙ length-sets out 0 (headOf k os) in let t = ap (λ (ts : List Term). length (termsBytes ts)) terms-are in omega arith };
+          within = may .within;
+          either = let h = form-most doing in omega arith;
+          count = may .count;
+          few = may .few;
+          room = let r = may .room in let w = whole in let e = ap (λ (n : ℕ). length (headOf n k os)) form-is in omega arith;
         }
 
-    pub roll-put : (r : ℕ) (after : List ℕ) → Emitted (termsBytes (termsBelow k left p)) at then r after → after ≡ sets out 0 (rollOf k os)
-    roll-put r after done =
-        done .out
-        ∙ ap (λ (ts : List Term). sets then at (termsBytes ts)) terms-are
-        ∙ ap₂ (λ (l : List ℕ) (i : ℕ). sets l i (termsBytes (termsOf k os))) (head .out) (head .next)
-        ∙ sym (sets-append out 0 (headOf k os) (termsBytes (termsOf k os)))
-        ∙ sym (ap (sets out 0) (roll-bytes k os (may .within)))
+    module _ (at : ℕ) (then : List ℕ) (head : Emitted (headOf form k os) 0 out at then) (p : Path) (empty : pathTerm p ≡ emptyTerm) where
+      terms-are : termsBelow k left p ≡ termsOf k os
+      terms-are = first-terms k os (may .within) left (may .word) p empty
+
+      heads : length (headOf form k os) ≡ length (headOf (formOf doing) k os)
+      heads = ap (λ (n : ℕ). length (headOf n k os)) form-is
+
+      place-after : withTerms (firstSink doing at then) (termsBelow k left p) .place ≡ at + length (formsBytes doing [] (termsOf k os))
+      place-after = first-place doing at then (termsBelow k left p) ∙ ap (λ (ts : List Term). at + length (formsBytes doing [] ts)) terms-are
+
+      end-is : endOf (firstSink doing at then) ≡ length then + 1
+      unfolding endOf sinkOf
+      end-is = ap (λ (b : Bool). cond b (2 ^ 64) (length then + 1)) (ne-eqb doing size2 writes)
+
+      pub node-may : NodeMay k left p (firstSink doing at then)
+      node-may =
+          record {
+            good = first-good k os (may .within) left (may .word) p empty;
+            room =
+                record {
+                  fits =
+                      let r = may .room in
+                      let w = whole in
+                      let h = heads in
+                      let e = head .next in
+                      let l = ap length (head .out) ∙ length-sets out 0 (headOf form k os) in
+                      let a = place-after in
+                      let n = end-is in
+                      omega arith;
+                  few = first-few doing at then (termsBelow k left p);
+                };
+          }
+
+      module _ (words after : List ℕ) (done : Took (firstSink doing at then) (termsBelow k left p) (sinkOf words after)) where
+        end-place : getD words 1 0 ≡ withTerms (firstSink doing at then) (termsBelow k left p) .place
+        unfolding sinkOf
+        end-place = ap (λ (s : Sink). s .place) (done .is)
+
+        end-out : after ≡ withTerms (firstSink doing at then) (termsBelow k left p) .out
+        unfolding sinkOf
+        end-out = ap (λ (s : Sink). s .out) (done .is)
+
+        stored : storedIn doing then at (formsBytes doing [] (termsOf k os)) ≡ sets then at (formsBytes doing [] (termsOf k os))
+        unfolding storedIn
+        stored = ap (λ (b : Bool). cond b then (sets then at (formsBytes doing [] (termsOf k os)))) (ne-eqb doing size2 writes)
+
+        pub roll-put : Emitted (rollIn doing k os) 0 out (getD words 1 0) after
+        roll-put =
+            record {
+              next = let p = end-place in let a = place-after in let e = head .next in let w = whole in let h = heads in omega arith;
+              out =
+                  end-out
+                  ∙ first-out doing at then (termsBelow k left p)
+                  ∙ ap (λ (ts : List Term). storedIn doing then at (formsBytes doing [] ts)) terms-are
+                  ∙ stored
+                  ∙ ap₂ (λ (l : List ℕ) (i : ℕ). sets l i (formsBytes doing [] (termsOf k os))) (head .out) (head .next)
+                  ∙ sym (sets-append out 0 (headOf form k os) (formsBytes doing [] (termsOf k os)))
+                  ∙ ap (λ (n : ℕ). sets out 0 (headOf n k os ++ formsBytes doing [] (termsOf k os))) form-is
+                  ∙ sym (ap (sets out 0) (roll-bytes k os (may .within) doing));
+            }
 
 -- ---- storing the orders
 

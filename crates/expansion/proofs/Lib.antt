@@ -1,5 +1,7 @@
 pub mod Answers
 pub mod Demanded
+pub mod FurtherBytes
+pub mod FurtherWords
 pub mod HeaderLaws
 pub mod Longest
 pub mod Many
@@ -11,6 +13,9 @@ pub mod Only
 pub mod Packings
 pub mod ReadsBack
 pub mod RequestLaws
+pub mod SinkLaws
+pub mod SinkTerms
+pub mod SizeLaws
 pub mod Sizes
 pub mod TermsBytes
 pub mod TermsWords

@@ -44,7 +44,7 @@ pub length-most : (n m : ℕ) → n ≤ m → lengthOf n ≤ lengthOf m
 unfolding lengthOf bytesOf
 length-most n m h = groups-most 4 n m h
 
-length-bytes : (n : ℕ) → length (bytesOf n) ≡ lengthOf n
+pub length-bytes : (n : ℕ) → length (bytesOf n) ≡ lengthOf n
 unfolding lengthOf
 length-bytes n = refl
 
@@ -148,7 +148,7 @@ prefactors-within Nuclear = omega arith
 prefactors-within Moment = omega arith
 prefactors-within Coulomb = omega arith
 
-kind-most : (k : Kind) → mostRollOf k ≤ mostRoll
+pub kind-most : (k : Kind) → mostRollOf k ≤ mostRoll
 kind-most k =
     let a = length-most (numberOf k) (numberOf Coulomb) (number-within k) in
     let b : ordersOf k * lengthOf mostOrder ≤ ordersOf Coulomb * lengthOf mostOrder = mul-le-mul (orders-within k) (omega arith) in

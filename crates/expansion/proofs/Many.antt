@@ -17,14 +17,14 @@ use Rattle.kind.specs.Kinds.{kindOf, numberOf, ordersOf, usesBoys}
 use Rattle.histories.proofs.Doubling.{least-terms}
 use Rattle.expansion.specs.declared.Expanded.{Expanded}
 use Rattle.expansion.specs.declared.Expanded.the-variants.{Refused}
-use Rattle.expansion.specs.Expanding.{termsOf, kindTold, namedTold, ExpandTold}
+use Rattle.expansion.specs.Expanding.{termsOf, kindIn, namedTold, ExpandTold}
 use Rattle.expansion.specs.Demands.{Passed}
 
 -- a call that passes 1, 2, 3 and 5, of a kind that uses Boys orders
 module _ (kind : ℕ) (orders before : List ℕ) (begin : ℕ) (k : Kind) (passed : Passed kind orders before begin k) (boys : usesBoys k ≡ true) where
   -- 2^L above the limit is 4
   pub doubled-told : mostTerms < 2 ^ total orders → namedTold (kindOf kind) orders before begin ≡ Refused 4
-  unfolding kindTold
+  unfolding kindIn
   doubled-told h =
       let none = ltb-false 0 (total (drop (ordersOf k) orders)) (passed .three) in
       let least = least-terms k orders boys (omega arith) in

@@ -12,7 +12,7 @@ use Rattle.kind.specs.declared.Named.the-variants.{Is, Unknown}
 use Rattle.kind.specs.Limits.{mostTerms}
 use Rattle.expansion.specs.declared.Expanded.{Expanded}
 use Rattle.expansion.specs.declared.Expanded.the-variants.{Roll, Refused}
-use Rattle.expansion.specs.Expanding.{_exceeds_, tooHigh, unusedSet, termsOf, rollOf, kindTold, kindMeasured, namedTold, namedMeasured, whereRoom}
+use Rattle.expansion.specs.Expanding.{Form, _exceeds_, tooHigh, unusedSet, termsOf, rollOf, kindIn, kindTold, kindMeasured, namedTold, namedMeasured, whereRoom}
 
 -- the tests of both, and what they come to
 in-turn : (out : List ℕ) (begin long count : ℕ) (high unused many : Bool) →
@@ -25,7 +25,7 @@ in-turn out begin long count false false false = refl
 
 -- with a start place that is not beyond the end, `expand` answers what was measured, or 6 where it has no room
 pub measured-tells : (k : Kind) (os out : List ℕ) (begin : ℕ) → begin ≤ length out → kindTold k os out begin ≡ whereRoom (kindMeasured k os) out begin
-unfolding kindTold kindMeasured
+unfolding kindIn kindMeasured
 measured-tells k os out begin inside =
     let turns = in-turn out begin (length (rollOf k os)) (length (termsOf k os)) (tooHigh k os) (unusedSet k os) (length (termsOf k os) exceeds mostTerms) in
     rw (le-ltb (length out) begin inside) turns
@@ -33,6 +33,28 @@ measured-tells k os out begin inside =
 pub named-tells : (k : Named) (os out : List ℕ) (begin : ℕ) → begin ≤ length out → namedTold k os out begin ≡ whereRoom (namedMeasured k os) out begin
 named-tells Unknown os out begin inside = refl
 named-tells (Is k) os out begin inside = measured-tells k os out begin inside
+
+-- the same in either form: a refusal that was measured, or what the room says of the roll
+abbrev pub roomTold : Form → Kind → List ℕ → List ℕ → ℕ → Expanded
+roomTold roll k os out begin = cond (begin + length (roll k os) exceeds length out) (Refused 6) (Roll (length (roll k os)) (length (termsOf k os)))
+
+abbrev pub afterSize : Expanded → Expanded → Expanded
+afterSize (Refused n) rest = Refused n
+afterSize (Roll long terms) rest = rest
+
+after-size : (rest : Expanded) (long count : ℕ) (high unused many : Bool) →
+    cond high (Refused 2) (cond unused (Refused 3) (cond many (Refused 4) rest))
+    ≡ afterSize (cond high (Refused 2) (cond unused (Refused 3) (cond many (Refused 4) (Roll long count)))) rest
+after-size rest long count true unused many = refl
+after-size rest long count false true many = refl
+after-size rest long count false false true = refl
+after-size rest long count false false false = refl
+
+pub measured-in : (roll : Form) (k : Kind) (os out : List ℕ) (begin : ℕ) → begin ≤ length out → kindIn roll k os out begin ≡ afterSize (kindMeasured k os) (roomTold roll k os out begin)
+unfolding kindIn kindMeasured
+measured-in roll k os out begin inside =
+    let turns = after-size (roomTold roll k os out begin) (length (rollOf k os)) (length (termsOf k os)) (tooHigh k os) (unusedSet k os) (length (termsOf k os) exceeds mostTerms) in
+    rw (le-ltb (length out) begin inside) turns
 
 -- what a length and a count that were measured are
 pub record SizeIs (k : Kind) (os : List ℕ) (long count : ℕ) : Type 0 where

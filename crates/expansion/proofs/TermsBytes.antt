@@ -16,10 +16,10 @@ use Rattle.number.specs.declared.Written.the-variants.{Next, NoRoom}
 use Rattle.number.proofs.Writing.{bytes-last, store-last}
 use Rattle.roll.specs.Bytes.{termBytes, numbersBytes}
 use Rattle.expansion.specs.declared.Path.{Path}
-use Rattle.expansion.specs.inner.View.{fiveBits, pathPrefactors, pathTerm, EmitMay, Emitted, NumberMay, RestMay}
+use Rattle.expansion.specs.inner.View.{fiveBits, pathPrefactors, pathTerm, TermMay, Emitted, NumberMay, RestMay}
 use Rattle.expansion.proofs.TermsWords.{length-prefactors, few, many, length-five-bits}
 
-numbers-append : (xs ys : List ℕ) → numbersBytes (xs ++ ys) ≡ numbersBytes xs ++ numbersBytes ys
+pub numbers-append : (xs ys : List ℕ) → numbersBytes (xs ++ ys) ≡ numbersBytes xs ++ numbersBytes ys
 unfolding numbersBytes
 numbers-append [] ys = refl
 numbers-append (x ∷ xs) ys = ap (λ (l : List ℕ). bytesOf x ++ l) (numbers-append xs ys) ∙ sym (append-assoc (bytesOf x) (numbersBytes xs) (numbersBytes ys))
@@ -102,7 +102,7 @@ rest-emitted out at b n low high after e =
       out = e ∙ ap (λ (k : ℕ). sets (set (set out at b) k n) (at + 2) (pathPrefactors n low high)) (add-one at) ∙ ap (λ (k : ℕ). sets (set (set out at b) (suc at) n) k (pathPrefactors n low high)) (omega arith);
     }
 
-module _ (p : Path) (at : ℕ) (out : List ℕ) (e : EmitMay p at out) where
+module _ (p : Path) (at : ℕ) (out : List ℕ) (e : TermMay p at out) where
   whole : length (termBytes (pathTerm p)) ≡ length (bytesOf (p .scale)) + (2 + p .count)
   whole =
       ap length (term-bytes p (e .boys) (e .count)) ∙ length-append (bytesOf (p .scale)) (p .boys ∷ p .count ∷ pathTerm p .prefactors)

@@ -16,7 +16,7 @@ unfolding fiveBits
 length-five-bits zero w = refl
 length-five-bits (suc n) w = length-append (fiveBits n (w / 32)) ((w % 32) ∷ []) ∙ (let h = length-five-bits n (w / 32) in omega arith)
 
-five-bits-mod : (n j w : ℕ) → fiveBits n (w % 2 ^ (j + 5 * n)) ≡ fiveBits n w
+pub five-bits-mod : (n j w : ℕ) → fiveBits n (w % 2 ^ (j + 5 * n)) ≡ fiveBits n w
 unfolding fiveBits
 five-bits-mod zero j w = refl
 five-bits-mod (suc n) j w =

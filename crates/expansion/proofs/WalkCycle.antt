@@ -1,9 +1,8 @@
 -- What each call of the walk asks and gives, a law for each. The number that falls: ten for each step left, then the branches left.
 use Prim.Native.Nat.{ℕ, _+_, _*_, _-_, _/_, _%_, _^_, _<_}
 use mathlib.Core.Path.{_≡_, refl, sym, ap, subst, _∙_}
-use mathlib.Core.List.{List, [], _∷_, _++_, append-nil}
+use mathlib.Core.List.{List, [], _∷_, _++_}
 use native.Mathlib.Omega.{arith}
-use lib.ListN.{length}
 use Rattle.laws.proofs.Cases.{clash}
 use Rattle.kind.specs.declared.Kind.{Kind}
 use Rattle.kind.specs.Limits.{requestOrders}
@@ -25,16 +24,17 @@ use Rattle.histories.proofs.Orders.{axis-positive}
 use Rattle.histories.proofs.Choices.{chosen-own}
 use Rattle.histories.proofs.Walk.{expand-done, expand-more}
 use Rattle.histories.proofs.Bounds.{scale-on-the-way}
-use Rattle.roll.specs.Bytes.{termBytes, termsBytes}
 use Rattle.expansion.specs.declared.Path.{Path}
 use Rattle.expansion.specs.declared.Child.{Child}
 use Rattle.expansion.specs.declared.Lowered.{Lowered}
 use Rattle.expansion.specs.declared.Lowering.{Lowering}
 use Rattle.expansion.specs.declared.Lowering.the-variants.{At, Nothing}
-use Rattle.expansion.specs.inner.View.{pathTerm, EmitMay, Emitted}
-use Rattle.expansion.specs.inner.Walking.{viewOf, Good, TurnMay, ChildOf, lowering, loweringOf, loweringAlong, termsBelow, termsFrom, Room, NodeMay, BranchMay}
+use Rattle.expansion.specs.inner.View.{pathTerm}
+use Rattle.expansion.specs.inner.Sinks.{Sink, Room, Took, EmitMay}
+use Rattle.expansion.specs.inner.Walking.{viewOf, Good, TurnMay, ChildOf, lowering, loweringOf, loweringAlong, termsBelow, termsFrom, NodeMay, BranchMay}
 use Rattle.expansion.proofs.TermsWords.{length-prefactors}
-use Rattle.expansion.proofs.WalkTurns.{from-none, from-skip, from-legal, turn-next, below-eight, emitted-none, room-first, room-then, emitted-both}
+use Rattle.expansion.proofs.WalkTurns.{from-none, from-skip, from-legal, turn-next, below-eight}
+use Rattle.expansion.proofs.SinkLaws.{took-none, room-first, room-then, took-both}
 
 unfoldable pub nodeFuel : Kind → ℕ → Path → ℕ
 nodeFuel k left p = 10 * depth (viewOf k left p) + 9
@@ -63,10 +63,10 @@ module _ (k : Kind) (left : List ℕ) (f : Fun) (is : f ≡ chosen k left) where
     unfolding lowering
     choose-at x e = ap (loweringAlong c) (sym e ∙ axis) ∙ ap (λ (w : Fun). loweringOf w left) (sym found ∙ is)
 
-pub branch-none : (k : Kind) (left : ℕ) (p : Path) (c : CentreName) (x : Axis) (times number at : ℕ) (out : List ℕ) → BranchMay k left p c x times number at out → times ≡ 0 → Emitted (termsBytes (termsFrom k left p c x number)) at out at out
-branch-none k left p c x times number at out may e = emitted-none (termsFrom k left p c x number) at out (from-none k left c x times number (may .turn) p e)
+pub branch-none : (k : Kind) (left : ℕ) (p : Path) (c : CentreName) (x : Axis) (times number : ℕ) (s : Sink) → BranchMay k left p c x times number s → times ≡ 0 → Took s (termsFrom k left p c x number) s
+branch-none k left p c x times number s may e = took-none s (termsFrom k left p c x number) (termsFrom k left p c x number) (may .room) (from-none k left c x times number (may .turn) p e)
 
-module _ (k : Kind) (left : ℕ) (p : Path) (c : CentreName) (x : Axis) (times number at : ℕ) (out : List ℕ) (may : BranchMay k left p c x times number at out) where
+module _ (k : Kind) (left : ℕ) (p : Path) (c : CentreName) (x : Axis) (times number : ℕ) (s : Sink) (may : BranchMay k left p c x times number s) where
   module _ (some : times ≡ 0 → ⊥) where
     pub number-fits : number + 1 < 256
     number-fits = let h = below-eight k left c x times number (may .turn) some in omega arith
@@ -75,16 +75,16 @@ module _ (k : Kind) (left : ℕ) (p : Path) (c : CentreName) (x : Axis) (times n
     unfolding branchFuel
     skip-falls t e = let h = below-eight k left c x times number (may .turn) some in omega arith
 
-    pub skip-may : times % 16 ≡ 0 → BranchMay k left p c x (times / 16) (number + 1) at out
+    pub skip-may : times % 16 ≡ 0 → BranchMay k left p c x (times / 16) (number + 1) s
     skip-may e =
         record {
           good = may .good;
           turn = turn-next k left c x times number (may .turn) some;
-          room = subst (λ (ts : List Term). Room ts at out) (sym (from-skip k left c x times number (may .turn) some p e)) (may .room);
+          room = subst (λ (ts : List Term). Room s ts) (sym (from-skip k left c x times number (may .turn) some p e)) (may .room);
         }
 
-    pub skipped : (r : ℕ) (after : List ℕ) → times % 16 ≡ 0 → Emitted (termsBytes (termsFrom k left p c x (number + 1))) at out r after → Emitted (termsBytes (termsFrom k left p c x number)) at out r after
-    skipped r after e h = subst (λ (ts : List Term). Emitted (termsBytes ts) at out r after) (from-skip k left c x times number (may .turn) some p e) h
+    pub skipped : (r : Sink) → times % 16 ≡ 0 → Took s (termsFrom k left p c x (number + 1)) r → Took s (termsFrom k left p c x number) r
+    skipped r e h = subst (λ (ts : List Term). Took s ts r) (from-skip k left c x times number (may .turn) some p e) h
 
   module _ (child : Child) (legal : times % 16 ≡ 0 → ⊥) (of : ChildOf k left p c x number child) where
     some-times : times ≡ 0 → ⊥
@@ -97,24 +97,23 @@ module _ (k : Kind) (left : ℕ) (p : Path) (c : CentreName) (x : Axis) (times n
     unfolding branchFuel belowFuel
     child-falls t e = let h = below-eight k left c x times number (may .turn) some-times in let d = of .down in omega arith
 
-    pub child-may : NodeMay (child .kind) (child .left) (child .path) at out
-    child-may = record { good = of .good; room = room-first (termsFrom k left p c x number) (termsBelow (child .kind) (child .left) (child .path)) (termsFrom k left p c x (number + 1)) split at out (may .room) }
+    pub child-may : NodeMay (child .kind) (child .left) (child .path) s
+    child-may = record { good = of .good; room = room-first (termsFrom k left p c x number) (termsBelow (child .kind) (child .left) (child .path)) (termsFrom k left p c x (number + 1)) split s (may .room) }
 
-    module _ (next : ℕ) (mid : List ℕ) (first : Emitted (termsBytes (termsBelow (child .kind) (child .left) (child .path))) at out next mid) where
-      pub then-may : BranchMay k left p c x (times / 16) (number + 1) next mid
+    module _ (mid : Sink) (first : Took s (termsBelow (child .kind) (child .left) (child .path)) mid) where
+      pub then-may : BranchMay k left p c x (times / 16) (number + 1) mid
       then-may =
           record {
             good = may .good;
             turn = turn-next k left c x times number (may .turn) some-times;
-            room = room-then (termsFrom k left p c x number) (termsBelow (child .kind) (child .left) (child .path)) (termsFrom k left p c x (number + 1)) split at out next mid first (may .room);
+            room = room-then (termsFrom k left p c x number) (termsBelow (child .kind) (child .left) (child .path)) (termsFrom k left p c x (number + 1)) split s mid first (may .room);
           }
 
-      pub then-done : (r : ℕ) (after : List ℕ) → Emitted (termsBytes (termsFrom k left p c x (number + 1))) next mid r after → Emitted (termsBytes (termsFrom k left p c x number)) at out r after
-      then-done r after h =
-          emitted-both (termsFrom k left p c x number) (termsBelow (child .kind) (child .left) (child .path)) (termsFrom k left p c x (number + 1)) split at out next mid first r after h
+      pub then-done : (r : Sink) → Took mid (termsFrom k left p c x (number + 1)) r → Took s (termsFrom k left p c x number) r
+      then-done r h = took-both (termsFrom k left p c x number) (termsBelow (child .kind) (child .left) (child .path)) (termsFrom k left p c x (number + 1)) split s mid first r h
 
-      pub then-last : times / 16 ≡ 0 → Emitted (termsBytes (termsFrom k left p c x number)) at out next mid
-      then-last e = then-done next mid (branch-none k left p c x (times / 16) (number + 1) next mid then-may e)
+      pub then-last : times / 16 ≡ 0 → Took s (termsFrom k left p c x number) mid
+      then-last e = then-done mid (branch-none k left p c x (times / 16) (number + 1) mid then-may e)
 
 -- the numbers of a path on the way are small
 pub record Words (p : Path) : Type 0 where
@@ -194,40 +193,34 @@ module _ (k : Kind) (left : ℕ) (p : Path) where
             is = e;
           }
 
-module _ (k : Kind) (left : ℕ) (p : Path) (at : ℕ) (out : List ℕ) (may : NodeMay k left p at out) where
-  one-term : left ≡ 0 → termsBytes (termsBelow k left p) ≡ termBytes (pathTerm p)
-  unfolding termsBytes
-  one-term e = ap termsBytes (below-done k left p e) ∙ append-nil (termBytes (pathTerm p))
-
-  pub node-emits : left ≡ 0 → EmitMay p at out
+module _ (k : Kind) (left : ℕ) (p : Path) (s : Sink) (may : NodeMay k left p s) where
+  pub node-emits : left ≡ 0 → EmitMay p s
   node-emits e =
       let w = good-words k left p (may .good) in
-      let room = may .room .fits in
-      let bytes = ap length (one-term e) in
-      record { scale = w .scale-fits; boys = w .boys-fits; count = w .count-fits; room = omega arith }
+      record { scale = w .scale-fits; boys = w .boys-fits; count = w .count-fits; room = subst (λ (ts : List Term). Room s ts) (below-done k left p e) (may .room) }
 
-  pub node-emitted : (r : ℕ) (after : List ℕ) → left ≡ 0 → Emitted (termBytes (pathTerm p)) at out r after → Emitted (termsBytes (termsBelow k left p)) at out r after
-  node-emitted r after e h = subst (λ (bytes : List ℕ). Emitted bytes at out r after) (sym (one-term e)) h
+  pub node-emitted : (r : Sink) → left ≡ 0 → Took s (pathTerm p ∷ []) r → Took s (termsBelow k left p) r
+  node-emitted r e h = subst (λ (ts : List Term). Took s ts r) (sym (below-done k left p e)) h
 
   pub first-falls : (t : ℕ) → nodeFuel k left p ≡ t → branchFuel k left p 0 < t
   unfolding nodeFuel branchFuel
   first-falls t e = omega arith
 
   module _ (some : left ≡ 0 → ⊥) (r : Lowering) (is : r ≡ lowering k (orders left)) where
-    pub node-none : r ≡ Nothing → Emitted (termsBytes (termsBelow k left p)) at out at out
-    node-none e = emitted-none (termsBelow k left p) at out (below-none k left p (may .good .word) some r is e)
+    pub node-none : r ≡ Nothing → Took s (termsBelow k left p) s
+    node-none e = took-none s (termsBelow k left p) (termsBelow k left p) (may .room) (below-none k left p (may .good .word) some r is e)
 
     module _ (c : CentreName) (x : Axis) (at-them : r ≡ At (record { centre = c; axis = x })) where
       from-first : termsBelow k left p ≡ termsFrom k left p c x 0
       from-first = below-first k left p (may .good .word) some r is c x at-them
 
-      pub first-may : (times : ℕ) → times ≡ multiplierWord c x (orders left) (branches k c x) → BranchMay k left p c x times 0 at out
+      pub first-may : (times : ℕ) → times ≡ multiplierWord c x (orders left) (branches k c x) → BranchMay k left p c x times 0 s
       first-may times e =
           record {
             good = may .good;
             turn = first-turn k left p (may .good .word) some r is c x at-them times e;
-            room = subst (λ (ts : List Term). Room ts at out) from-first (may .room);
+            room = subst (λ (ts : List Term). Room s ts) from-first (may .room);
           }
 
-      pub first-done : (next : ℕ) (after : List ℕ) → Emitted (termsBytes (termsFrom k left p c x 0)) at out next after → Emitted (termsBytes (termsBelow k left p)) at out next after
-      first-done next after h = subst (λ (ts : List Term). Emitted (termsBytes ts) at out next after) (sym from-first) h
+      pub first-done : (end : Sink) → Took s (termsFrom k left p c x 0) end → Took s (termsBelow k left p) end
+      first-done end h = subst (λ (ts : List Term). Took s ts end) (sym from-first) h

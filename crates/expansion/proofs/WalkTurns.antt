@@ -1,15 +1,14 @@
 -- The terms from a branch number on: none where no multiplier is left, those of the next number, or a child's and then those.
 use Prim.Native.Nat.{ℕ, zero, suc, _+_, _*_, _/_, _%_, _≤_, _<_}
-use mathlib.Core.Path.{_≡_, refl, sym, ap, ap₂, subst, _∙_}
+use mathlib.Core.Path.{_≡_, refl, sym, ap, _∙_}
 use mathlib.Core.List.{List, [], _∷_, _++_, append-assoc}
 use native.Mathlib.Omega.{arith}
 use native.Mathlib.Numerals.{add-one}
 use native.Mathlib.Decide.{decLt}
-use lib.ListN.{length, getD, drop, length-append, drop-of-length-le}
-use lib.Seq.{sets, length-sets, drop-cons}
+use lib.ListN.{length, getD, drop, drop-of-length-le}
+use lib.Seq.{drop-cons}
 use Rattle.kind.specs.declared.Kind.{Kind}
 use Rattle.kind.specs.declared.Kind.the-variants.{Overlap, Kinetic, Nuclear, Moment, Coulomb}
-use Rattle.laws.proofs.Lists.{sets-append}
 use Rattle.term.specs.Terms.{Term}
 use Rattle.steps.specs.declared.CentreName.{CentreName}
 use Rattle.steps.specs.declared.CentreName.the-variants.{A, B, C, D}
@@ -22,8 +21,7 @@ use Rattle.histories.specs.History.{inTurn, expand}
 use Rattle.roll.specs.Bytes.{termBytes, termsBytes}
 use Rattle.expansion.specs.declared.Path.{Path}
 use Rattle.expansion.specs.declared.Child.{Child}
-use Rattle.expansion.specs.inner.View.{Emitted}
-use Rattle.expansion.specs.inner.Walking.{viewOf, TurnMay, ChildOf, termsBelow, termsFrom, Room}
+use Rattle.expansion.specs.inner.Walking.{viewOf, TurnMay, ChildOf, termsBelow, termsFrom}
 
 few-branches : (k : Kind) (c : CentreName) (x : Axis) → length (branches k c x) ≤ 8
 unfolding branches
@@ -117,27 +115,3 @@ pub terms-append : (xs ys : List Term) → termsBytes (xs ++ ys) ≡ termsBytes 
 unfolding termsBytes
 terms-append [] ys = refl
 terms-append (t ∷ xs) ys = ap (λ (l : List ℕ). termBytes t ++ l) (terms-append xs ys) ∙ sym (append-assoc (termBytes t) (termsBytes xs) (termsBytes ys))
-
-pub emitted-none : (ts : List Term) (at : ℕ) (out : List ℕ) → ts ≡ [] → Emitted (termsBytes ts) at out at out
-unfolding termsBytes
-emitted-none ts at out e = subst (λ (l : List Term). Emitted (termsBytes l) at out at out) (sym e) (record { next = omega arith; out = refl })
-
-module _ (ts xs ys : List Term) (split : ts ≡ xs ++ ys) (at : ℕ) (out : List ℕ) where
-  whole : termsBytes ts ≡ termsBytes xs ++ termsBytes ys
-  whole = ap termsBytes split ∙ terms-append xs ys
-
-  pub room-first : Room ts at out → Room xs at out
-  room-first r = record { fits = let h = r .fits in let l = ap length whole ∙ length-append (termsBytes xs) (termsBytes ys) in omega arith }
-
-  module _ (next : ℕ) (mid : List ℕ) (first : Emitted (termsBytes xs) at out next mid) where
-    pub room-then : Room ts at out → Room ys next mid
-    room-then r =
-        record { fits = let h = r .fits in let l = ap length whole ∙ length-append (termsBytes xs) (termsBytes ys) in let n = first .next in let m = ap length (first .out) ∙ length-sets out at (termsBytes xs) in omega arith }
-
-    pub emitted-both : (r : ℕ) (after : List ℕ) → Emitted (termsBytes ys) next mid r after → Emitted (termsBytes ts) at out r after
-    emitted-both r after second =
-        record {
-          next = let n = first .next in let m = second .next in let l = ap length whole ∙ length-append (termsBytes xs) (termsBytes ys) in omega arith;
-          out =
-              second .out ∙ ap₂ (λ (l : List ℕ) (i : ℕ). sets l i (termsBytes ys)) (first .out) (first .next) ∙ sym (sets-append out at (termsBytes xs) (termsBytes ys)) ∙ ap (sets out at) (sym whole);
-        }

@@ -1,4 +1,4 @@
--- 01, "Limits and refusal numbers" and "The roll": what the expansion of a request answers and writes.
+-- 01, "Limits and refusal numbers" and "The roll", and 02, Q-7: what the expansion of a request answers and writes, in either form.
 use Prim.Native.Nat.{ℕ, _+_, _*_}
 use mathlib.Core.Path.{_≡_}
 use mathlib.Core.Bool.{Bool, cond, _||_}
@@ -20,6 +20,7 @@ use Rattle.laws.specs.Total.{total}
 use Rattle.steps.specs.States.{start}
 use Rattle.histories.specs.History.{expand}
 use Rattle.roll.specs.Bytes.{rollBytes}
+use Rattle.form2.specs.Bytes.{rollBytes2}
 use Rattle.expansion.specs.declared.Expanded.{Expanded}
 use Rattle.expansion.specs.declared.Expanded.the-variants.{Roll, Refused}
 
@@ -47,34 +48,69 @@ termsOf k orders = expand (start k orders)
 abbrev pub tooMany : Kind → List ℕ → Bool
 tooMany k orders = length (termsOf k orders) exceeds mostTerms
 
+-- what is written of a request: its roll, in one of the two forms
+abbrev pub Form : Type 0
+Form = Kind → List ℕ → List ℕ
+
 -- kind; the orders that it uses; term count; terms
-unfoldable pub rollOf : Kind → List ℕ → List ℕ
+unfoldable pub rollOf : Form
 rollOf k orders = rollBytes k (take (ordersOf k) orders) (termsOf k orders)
 
+-- 02, Q-7: the same in form 2
+unfoldable pub rollOf2 : Form
+rollOf2 k orders = rollBytes2 k (take (ordersOf k) orders) (termsOf k orders)
+
+-- ---- in either form
+
 -- of a kind: 2, 3, 5, 4, 6 in this order, or the roll's length and its term count (D-3, D-4, D-5, D-68)
-unfoldable pub kindTold : Kind → List ℕ → List ℕ → ℕ → Expanded
-kindTold k orders out begin =
+unfoldable pub kindIn : Form → Kind → List ℕ → List ℕ → ℕ → Expanded
+kindIn roll k orders out begin =
     cond (tooHigh k orders) (Refused 2)
     (cond (unusedSet k orders) (Refused 3)
     (cond (begin exceeds length out) (Refused 5)
     (cond (tooMany k orders) (Refused 4)
-    (cond (begin + length (rollOf k orders) exceeds length out) (Refused 6)
-    (Roll (length (rollOf k orders)) (length (termsOf k orders)))))))
+    (cond (begin + length (roll k orders) exceeds length out) (Refused 6)
+    (Roll (length (roll k orders)) (length (termsOf k orders)))))))
 
 -- before them 1, for a kind above 4
-abbrev pub namedTold : Named → List ℕ → List ℕ → ℕ → Expanded
-namedTold Unknown orders out begin = Refused 1
-namedTold (Is k) orders out begin = kindTold k orders out begin
+abbrev pub namedIn : Form → Named → List ℕ → List ℕ → ℕ → Expanded
+namedIn roll Unknown orders out begin = Refused 1
+namedIn roll (Is k) orders out begin = kindIn roll k orders out begin
 
 -- a refusal changes no byte; a success only those of the roll
-abbrev pub namedOut : Expanded → Named → List ℕ → List ℕ → ℕ → List ℕ
-namedOut (Refused n) k orders out begin = out
-namedOut (Roll long terms) Unknown orders out begin = out
-namedOut (Roll long terms) (Is k) orders out begin = placed out begin (rollOf k orders)
+abbrev pub outIn : Form → Expanded → Named → List ℕ → List ℕ → ℕ → List ℕ
+outIn roll (Refused n) k orders out begin = out
+outIn roll (Roll long terms) Unknown orders out begin = out
+outIn roll (Roll long terms) (Is k) orders out begin = placed out begin (roll k orders)
 
-pub record ExpandTold (kind : ℕ) (orders before : List ℕ) (begin : ℕ) (r : Expanded) (after : List ℕ) : Type 0 where
-  pub answer : r ≡ namedTold (kindOf kind) orders before begin
-  pub out : after ≡ namedOut (namedTold (kindOf kind) orders before begin) (kindOf kind) orders before begin
+pub record FormTold (roll : Form) (kind : ℕ) (orders before : List ℕ) (begin : ℕ) (r : Expanded) (after : List ℕ) : Type 0 where
+  pub answer : r ≡ namedIn roll (kindOf kind) orders before begin
+  pub out : after ≡ outIn roll (namedIn roll (kindOf kind) orders before begin) (kindOf kind) orders before begin
+
+-- ---- in form 1
+
+abbrev pub kindTold : Kind → List ℕ → List ℕ → ℕ → Expanded
+kindTold k orders out begin = kindIn rollOf k orders out begin
+
+abbrev pub namedTold : Named → List ℕ → List ℕ → ℕ → Expanded
+namedTold k orders out begin = namedIn rollOf k orders out begin
+
+abbrev pub namedOut : Expanded → Named → List ℕ → List ℕ → ℕ → List ℕ
+namedOut r k orders out begin = outIn rollOf r k orders out begin
+
+abbrev pub ExpandTold : ℕ → List ℕ → List ℕ → ℕ → Expanded → List ℕ → Type 0
+ExpandTold kind orders before begin r after = FormTold rollOf kind orders before begin r after
+
+-- ---- 02, Q-7: in form 2
+
+abbrev pub namedTold2 : Named → List ℕ → List ℕ → ℕ → Expanded
+namedTold2 k orders out begin = namedIn rollOf2 k orders out begin
+
+abbrev pub namedOut2 : Expanded → Named → List ℕ → List ℕ → ℕ → List ℕ
+namedOut2 r k orders out begin = outIn rollOf2 r k orders out begin
+
+abbrev pub Expand2Told : ℕ → List ℕ → List ℕ → ℕ → Expanded → List ℕ → Type 0
+Expand2Told kind orders before begin r after = FormTold rollOf2 kind orders before begin r after
 
 -- 02, Q-6: a request's roll measured and not written: 2, 3, 4 in this order, or its length and its term count (D-88)
 unfoldable pub kindMeasured : Kind → List ℕ → Expanded

@@ -2,5 +2,6 @@
 pub mod Measuring
 pub mod Packings
 pub mod Requests
+pub mod Sinks
 pub mod View
 pub mod Walking

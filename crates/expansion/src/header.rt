@@ -5,12 +5,15 @@ ghost use lib.ListN.{length, take};
 ghost use lib.Seq.{sets};
 ghost use Rattle.kind.specs.Limits.{requestOrders};
 ghost use Rattle.expansion.specs.inner.View.{pathTerm, Emitted};
-ghost use Rattle.expansion.specs.Expanding.{rollOf};
-ghost use Rattle.expansion.specs.inner.Requests.{headOf, HeadMay, RollMay, emptyTerm};
+ghost use Rattle.expansion.specs.inner.Requests.{rollIn, formOf, headOf, HeadMay, RollMay, emptyTerm};
 use crate::Path;
+use crate::sink::FORM1;
 use crate::terms::put_number;
 use crate::walk::node;
 use kind::Kind;
+
+// Form 2 begins with kind + 16.
+const FORM_TWO: u8 = 16;
 
 // Writes the first `count` orders, one byte each, from place 1 on.
 fn put_orders(out: &mut [u8], orders: [u8; Kind::ORDERS], count: usize)
@@ -37,13 +40,23 @@ pub(crate) fn first() -> Path
     }
 }
 
+// What a form adds to the kind.
+fn begins(form: u64) -> u8
+    ensures { λ r. ⌜ r ≡ formOf form ⌝ }
+{
+    if form == FORM1 {
+        return 0;
+    }
+    FORM_TWO
+}
+
 // Writes what stands before the terms of a roll.
-fn put_head(out: &mut [u8], kind: Kind, orders: [u8; Kind::ORDERS], terms: u64) -> usize
-    requires { ⌜ HeadMay kind orders terms (now out) ⌝ }
-    ensures { λ r. ⌜ Emitted (headOf kind orders) 0 (now (out .entry)) r (now (out .exit)) ⌝ }
+fn put_head(out: &mut [u8], form: u8, kind: Kind, orders: [u8; Kind::ORDERS], terms: u64) -> usize
+    requires { ⌜ HeadMay form kind orders terms (now out) ⌝ }
+    ensures { λ r. ⌜ Emitted (headOf form kind orders) 0 (now (out .entry)) r (now (out .exit)) ⌝ }
 {
     let count = kind.orders();
-    out[0] = kind.number();
+    out[0] = form + kind.number();
     put_orders(out, orders, count);
     put_number(out, 1 + count, terms)
 }
@@ -51,14 +64,17 @@ fn put_head(out: &mut [u8], kind: Kind, orders: [u8; Kind::ORDERS], terms: u64) 
 // Writes a roll at the front of a buffer that has room for it.
 pub(crate) fn put_roll(
     out: &mut [u8],
+    form: u64,
     kind: Kind,
     orders: [u8; Kind::ORDERS],
     left: u64,
     terms: u64,
-)
-    requires { ⌜ RollMay kind orders left terms (now out) ⌝ }
-    ensures { λ _. ⌜ now (out .exit) ≡ sets (now (out .entry)) 0 (rollOf kind orders) ⌝ }
+) -> usize
+    requires { ⌜ RollMay form kind orders left terms (now out) ⌝ }
+    ensures { λ r. ⌜ Emitted (rollIn form kind orders) 0 (now (out .entry)) r (now (out .exit)) ⌝ }
 {
-    let at = put_head(out, kind, orders, terms);
-    node(out, at, kind, left, first());
+    let at = put_head(out, begins(form), kind, orders, terms);
+    let mut sink = [form, at as u64, 0, 0, 0];
+    node(out, &mut sink, kind, left, first());
+    sink[1] as usize
 }

@@ -1,7 +1,9 @@
-// The expansion of a request: every complete history once, in dictionary order, as a roll.
+// The expansion of a request: every complete history once, in dictionary order, as a roll of form 1 or form 2.
+mod further;
 mod header;
 mod measure;
 mod request;
+mod sink;
 mod size;
 mod terms;
 mod walk;
@@ -9,8 +11,10 @@ mod walk;
 pub use request::too_high;
 pub use request::unused_set;
 pub use size::roll_size;
-ghost use Rattle.expansion.specs.Expanding.{ExpandTold};
-ghost use Rattle.expansion.specs.inner.Requests.{KnownTold, RequestMay, SizedMay};
+ghost use Prim.Native.Nat.{_<_};
+ghost use Rattle.expansion.specs.Expanding.{FormTold, ExpandTold, Expand2Told};
+ghost use Rattle.expansion.specs.inner.Requests.{rollIn, KnownTold, RequestMay, SizedMay};
+ghost use Rattle.expansion.specs.inner.Sinks.{size2};
 use kind::Kind;
 use kind::Named;
 use steps::Axis;
@@ -25,6 +29,9 @@ struct Path {
     low: u64,
     high: u64,
 }
+
+// The words of a sink.
+const SINK: usize = 5;
 
 // A centre and an axis that are lowered.
 struct Lowered {
@@ -59,6 +66,7 @@ pub enum Expanded {
 
 // Writes the roll of a request that was measured, where it fits (D-44).
 fn write_sized(
+    form: u64,
     kind: Kind,
     orders: [u8; Kind::ORDERS],
     left: u64,
@@ -67,32 +75,49 @@ fn write_sized(
     out: &mut [u8],
     start: usize,
 ) -> Expanded
-    requires { ⌜ SizedMay kind orders left long count start (now out) ⌝ }
-    ensures { λ r. ⌜ KnownTold kind orders (now (out .entry)) start r (now (out .exit)) ⌝ }
+    requires { ⌜ SizedMay form kind orders left long count start (now out) ⌝ }
+    ensures { λ r. ⌜ KnownTold form kind orders (now (out .entry)) start r (now (out .exit)) ⌝ }
 {
-    if out.len() - start < long {
-        return Expanded::Refused(6);
+    let room = out.len() - start;
+    if size::fits(form, kind, orders, left, long, count, room) {
+        let end = header::put_roll(&mut out[start..], form, kind, orders, left, count as u64);
+        return Expanded::Roll(end, count);
     }
-    header::put_roll(&mut out[start..], kind, orders, left, count as u64);
-    Expanded::Roll(long, count)
+    Expanded::Refused(6)
 }
 
 // Expands a request that keeps the limits (D-66).
-fn expand_within(kind: Kind, orders: [u8; Kind::ORDERS], out: &mut [u8], start: usize) -> Expanded
+fn expand_within(
+    form: u64,
+    kind: Kind,
+    orders: [u8; Kind::ORDERS],
+    out: &mut [u8],
+    start: usize,
+) -> Expanded
+    requires { ⌜ form < size2 ⌝ }
     requires { ⌜ RequestMay kind orders start (now out) ⌝ }
-    ensures { λ r. ⌜ KnownTold kind orders (now (out .entry)) start r (now (out .exit)) ⌝ }
+    ensures { λ r. ⌜ KnownTold form kind orders (now (out .entry)) start r (now (out .exit)) ⌝ }
 {
     let left = request::packed(orders);
     let size = size::sized(kind, orders, left);
     match size {
         Expanded::Refused(n) => Expanded::Refused(n),
-        Expanded::Roll(long, count) => write_sized(kind, orders, left, long, count, out, start),
+        Expanded::Roll(long, count) => {
+            write_sized(form, kind, orders, left, long, count, out, start)
+        }
     }
 }
 
 // Expands a request of a known kind.
-fn expand_kind(kind: Kind, orders: [u8; Kind::ORDERS], out: &mut [u8], start: usize) -> Expanded
-    ensures { λ r. ⌜ KnownTold kind orders (now (out .entry)) start r (now (out .exit)) ⌝ }
+fn expand_kind(
+    form: u64,
+    kind: Kind,
+    orders: [u8; Kind::ORDERS],
+    out: &mut [u8],
+    start: usize,
+) -> Expanded
+    requires { ⌜ form < size2 ⌝ }
+    ensures { λ r. ⌜ KnownTold form kind orders (now (out .entry)) start r (now (out .exit)) ⌝ }
 {
     if request::too_high(kind, orders) {
         return Expanded::Refused(2);
@@ -103,16 +128,37 @@ fn expand_kind(kind: Kind, orders: [u8; Kind::ORDERS], out: &mut [u8], start: us
     if out.len() < start {
         return Expanded::Refused(5);
     }
-    expand_within(kind, orders, out, start)
+    expand_within(form, kind, orders, out, start)
+}
+
+// Expands a request into a roll of a form.
+fn expand_in(
+    form: u64,
+    kind: u8,
+    orders: [u8; Kind::ORDERS],
+    out: &mut [u8],
+    start: usize,
+) -> Expanded
+    requires { ⌜ form < size2 ⌝ }
+    ensures { λ r. ⌜ FormTold (rollIn form) kind orders (now (out .entry)) start r (now (out .exit)) ⌝ }
+{
+    let named = Kind::of(kind);
+    match named {
+        Named::Unknown => Expanded::Refused(1),
+        Named::Is(known) => expand_kind(form, known, orders, out, start),
+    }
 }
 
 // Expands a request into a roll that begins at `start` (D-1, D-65).
 pub fn expand(kind: u8, orders: [u8; Kind::ORDERS], out: &mut [u8], start: usize) -> Expanded
     ensures { λ r. ⌜ ExpandTold kind orders (now (out .entry)) start r (now (out .exit)) ⌝ }
 {
-    let named = Kind::of(kind);
-    match named {
-        Named::Unknown => Expanded::Refused(1),
-        Named::Is(known) => expand_kind(known, orders, out, start),
-    }
+    expand_in(sink::FORM1, kind, orders, out, start)
+}
+
+// Expands a request into a form 2 roll that begins at `start`.
+pub fn expand2(kind: u8, orders: [u8; Kind::ORDERS], out: &mut [u8], start: usize) -> Expanded
+    ensures { λ r. ⌜ Expand2Told kind orders (now (out .entry)) start r (now (out .exit)) ⌝ }
+{
+    expand_in(sink::FORM2, kind, orders, out, start)
 }

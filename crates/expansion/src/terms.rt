@@ -6,7 +6,7 @@ ghost use lib.ListN.{length};
 ghost use lib.Seq.{sets};
 ghost use Rattle.number.specs.Numbers.{bytesOf};
 ghost use Rattle.roll.specs.Bytes.{termBytes};
-ghost use Rattle.expansion.specs.inner.View.{fiveBits, pathPrefactors, pathTerm, EmitMay, Emitted, NumberMay, RestMay, MoveMay, movedOn};
+ghost use Rattle.expansion.specs.inner.View.{fiveBits, pathPrefactors, pathTerm, TermMay, Emitted, NumberMay, RestMay, MoveMay, movedOn};
 use crate::Path;
 use number::Written;
 
@@ -34,7 +34,7 @@ pub(crate) fn pushed(path: Path, prefactor: u64) -> Path
 }
 
 // Writes the last `count` digits of a word, the last digit at the end.
-fn put_digits(out: &mut [u8], at: usize, count: usize, word: u64)
+pub(crate) fn put_digits(out: &mut [u8], at: usize, count: usize, word: u64)
     requires { ⌜ at + count ≤ length (now out) ⌝ }
     ensures { λ _. ⌜ now (out .exit) ≡ sets (now (out .entry)) at (fiveBits count word) ⌝ }
 {
@@ -88,8 +88,8 @@ fn put_rest(out: &mut [u8], at: usize, boys: u64, count: usize, low: u64, high: 
 }
 
 // Writes a term, for which there is room.
-pub(crate) fn emit(out: &mut [u8], at: usize, path: Path) -> usize
-    requires { ⌜ EmitMay path at (now out) ⌝ }
+pub(crate) fn put_term(out: &mut [u8], at: usize, path: Path) -> usize
+    requires { ⌜ TermMay path at (now out) ⌝ }
     ensures { λ r. ⌜ Emitted (termBytes (pathTerm path)) at (now (out .entry)) r (now (out .exit)) ⌝ }
 {
     let next = put_number(out, at, path.scale);

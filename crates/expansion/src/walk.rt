@@ -1,15 +1,15 @@
-// The walk over all complete histories. A term's children are written in turn before its next sibling (D-71).
+// The walk over all complete histories. A term's children are taken in turn before its next sibling (D-71).
 ghost use mathlib.Core.Path.{_≡_};
 ghost use Prim.Native.Nat.{_%_};
 ghost use Rattle.steps.specs.inner.Packed.{orders};
-ghost use Rattle.roll.specs.Bytes.{termsBytes};
-ghost use Rattle.expansion.specs.inner.View.{Emitted};
+ghost use Rattle.expansion.specs.inner.Sinks.{sinkOf, Took};
 ghost use Rattle.expansion.specs.inner.Walking.{Good, TurnMay, ChildOf, lowering, termsBelow, termsFrom, NodeMay, BranchMay};
 use crate::Child;
 use crate::Lowered;
 use crate::Lowering;
 use crate::Path;
-use crate::terms::emit;
+use crate::SINK;
+use crate::sink::emit;
 use crate::terms::moved;
 use kind::Kind;
 use steps::AxisChoice;
@@ -55,64 +55,67 @@ fn child(kind: Kind, left: u64, path: Path, lowered: Lowered, times: u64, number
     }
 }
 
-// Writes all terms below a state.
-pub(crate) fn node(out: &mut [u8], at: usize, kind: Kind, left: u64, path: Path) -> usize
-    requires { ⌜ NodeMay kind left path at (now out) ⌝ }
-    ensures { λ r. ⌜ Emitted (termsBytes (termsBelow kind left path)) at (now (out .entry)) r (now (out .exit)) ⌝ }
+// Takes all terms below a state.
+pub(crate) fn node(out: &mut [u8], sink: &mut [u64; SINK], kind: Kind, left: u64, path: Path)
+    requires { ⌜ NodeMay kind left path (sinkOf (now sink) (now out)) ⌝ }
+    ensures { λ _. ⌜ Took (sinkOf (now (sink .entry)) (now (out .entry))) (termsBelow kind left path) (sinkOf (now (sink .exit)) (now (out .exit))) ⌝ }
 {
     if left == 0 {
-        return emit(out, at, path);
+        emit(out, sink, path);
+        return;
     }
     let choice = choose(kind, left);
     match choice {
-        Lowering::Nothing => at,
+        Lowering::Nothing => {}
         Lowering::At(lowered) => {
             let centre = lowered.centre;
             let axis = lowered.axis;
             let times = steps::multipliers(kind, left, centre, axis);
-            branch(out, at, kind, left, path, lowered, times, 0)
+            branch(out, sink, kind, left, path, lowered, times, 0);
         }
     }
 }
 
-// Writes all terms below a child. Most have no order left and are one term, which takes no call of `node`.
-fn below(out: &mut [u8], at: usize, child: Child) -> usize
-    requires { ⌜ NodeMay (child .kind) (child .left) (child .path) at (now out) ⌝ }
-    ensures { λ r. ⌜ Emitted (termsBytes (termsBelow (child .kind) (child .left) (child .path))) at (now (out .entry)) r (now (out .exit)) ⌝ }
+// Takes all terms below a child. Most have no order left and are one term, which takes no call of `node`.
+fn below(out: &mut [u8], sink: &mut [u64; SINK], child: Child)
+    requires { ⌜ NodeMay (child .kind) (child .left) (child .path) (sinkOf (now sink) (now out)) ⌝ }
+    ensures { λ _. ⌜ Took (sinkOf (now (sink .entry)) (now (out .entry))) (termsBelow (child .kind) (child .left) (child .path)) (sinkOf (now (sink .exit)) (now (out .exit))) ⌝ }
 {
     let kind = child.kind;
     let path = child.path;
     if child.left == 0 {
-        return emit(out, at, path);
+        emit(out, sink, path);
+        return;
     }
-    node(out, at, kind, child.left, path)
+    node(out, sink, kind, child.left, path);
 }
 
-// Writes all terms below a state from a branch number on. `times` holds the multipliers of the branches left.
+// Takes all terms below a state from a branch number on. `times` holds the multipliers of the branches left.
 fn branch(
     out: &mut [u8],
-    at: usize,
+    sink: &mut [u64; SINK],
     kind: Kind,
     left: u64,
     path: Path,
     lowered: Lowered,
     times: u64,
     number: u8,
-) -> usize
-    requires { ⌜ BranchMay kind left path (lowered .centre) (lowered .axis) times number at (now out) ⌝ }
-    ensures { λ r. ⌜ Emitted (termsBytes (termsFrom kind left path (lowered .centre) (lowered .axis) number)) at (now (out .entry)) r (now (out .exit)) ⌝ }
+)
+    requires { ⌜ BranchMay kind left path (lowered .centre) (lowered .axis) times number (sinkOf (now sink) (now out)) ⌝ }
+    ensures { λ _. ⌜ Took (sinkOf (now (sink .entry)) (now (out .entry))) (termsFrom kind left path (lowered .centre) (lowered .axis) number) (sinkOf (now (sink .exit)) (now (out .exit))) ⌝ }
 {
     if times == 0 {
-        return at;
+        return;
     }
     if times % 16 == 0 {
-        return branch(out, at, kind, left, path, lowered, times / 16, number + 1);
+        branch(out, sink, kind, left, path, lowered, times / 16, number + 1);
+        return;
     }
     let next = child(kind, left, path, lowered, times, number);
-    let after = below(out, at, next);
+    below(out, sink, next);
     let rest = times / 16;
     if rest == 0 {
-        return after;
+        return;
     }
-    branch(out, after, kind, left, path, lowered, rest, number + 1)
+    branch(out, sink, kind, left, path, lowered, rest, number + 1);
 }

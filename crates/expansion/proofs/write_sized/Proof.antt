@@ -1,14 +1,14 @@
 -- `write_sized` meets its contract.
-use Rattle.expansion.proofs.Answers.{told-full, roll-may, told-roll}
+use Rattle.expansion.proofs.Answers.{long-may, roll-may, told-roll, told-full}
 use borrow.Author.Needs.{needs}
 use Rattle.expansion.proofs.write_sized.Statement.{statement}
 use Rattle.expansion.proofs.write_sized.Tie as tie
 
-sub-if1 : tie.Need-sub-if1
-sub-if1 c = search needs
+sub-room : tie.Need-sub-room
+sub-room c = search needs
 
-returns : tie.Need-returns
-returns c = search told-full
+fits-requires : tie.Need-fits-requires
+fits-requires c κs = search long-may
 
 sub-put-roll : tie.Need-sub-put-roll
 sub-put-roll c = search needs
@@ -25,18 +25,22 @@ put-roll-requires c κs = search roll-may
 same-length : tie.Need-same-length
 same-length c = search needs
 
+returns : tie.Need-returns
+returns c = search told-roll
+
 returns-2 : tie.Need-returns-2
-returns-2 c = search told-roll
+returns-2 c = search told-full
 
 pub write-sized-spec : {M : Type 1} → statement M
 write-sized-spec =
     tie.close
     (tie.spec
-    sub-if1
-    returns
+    sub-room
+    fits-requires
     sub-put-roll
     part-put-roll-start
     part-put-roll-end
     put-roll-requires
     same-length
+    returns
     returns-2)

@@ -24,7 +24,7 @@ abbrev pub pathTerm : Path → Term
 pathTerm p = record { scale = p .scale; boys = p .boys; prefactors = pathPrefactors (p .count) (p .low) (p .high) }
 
 -- there is room for a term's bytes, and each of its numbers but the scale takes one
-pub record EmitMay (p : Path) (at : ℕ) (out : List ℕ) : Type 0 where
+pub record TermMay (p : Path) (at : ℕ) (out : List ℕ) : Type 0 where
   pub scale : p .scale < 2 ^ 32
   pub boys : p .boys < 128
   pub count : p .count < 25

@@ -1,9 +1,9 @@
 -- What the walk writes: the terms below a state, and those from a branch number on.
-use Prim.Native.Nat.{ℕ, _+_, _^_, _≤_, _<_}
+use Prim.Native.Nat.{ℕ, _^_, _≤_, _<_}
 use mathlib.Core.Path.{_≡_}
 use mathlib.Core.Bool.{true}
 use mathlib.Core.List.{List}
-use lib.ListN.{length, getD, drop}
+use lib.ListN.{getD, drop}
 use Rattle.kind.specs.declared.Kind.{Kind}
 use Rattle.kind.specs.Limits.{mostL·any, requestOrders}
 use Rattle.term.specs.Terms.{Term}
@@ -19,12 +19,12 @@ use Rattle.steps.specs.States.{State, Next, start, step, turns}
 use Rattle.steps.specs.inner.Packed.{orders, multiplierWord, noBranch}
 use Rattle.histories.specs.History.{depth, inTurn, expand}
 use Rattle.histories.specs.inner.OnTheWay.{Reached, own}
-use Rattle.roll.specs.Bytes.{termsBytes}
 use Rattle.expansion.specs.declared.Path.{Path}
 use Rattle.expansion.specs.declared.Child.{Child}
 use Rattle.expansion.specs.declared.Lowering.{Lowering}
 use Rattle.expansion.specs.declared.Lowering.the-variants.{At, Nothing}
 use Rattle.expansion.specs.inner.View.{pathTerm}
+use Rattle.expansion.specs.inner.Sinks.{Sink, Room}
 
 abbrev pub viewOf : Kind → ℕ → Path → State
 viewOf k left p = record { kind = k; left = orders left; term = pathTerm p }
@@ -68,15 +68,11 @@ pub record ChildOf (k : Kind) (left : ℕ) (p : Path) (c : CentreName) (x : Axis
   pub is : viewOf (r .kind) (r .left) (r .path) ≡ step (viewOf k left p) c x (getD (branches k c x) number noBranch)
   pub down : depth (viewOf (r .kind) (r .left) (r .path)) < depth (viewOf k left p)
 
--- there is room for the bytes of terms
-pub record Room (ts : List Term) (at : ℕ) (out : List ℕ) : Type 0 where
-  pub fits : at + length (termsBytes ts) ≤ length out
-
-pub record NodeMay (k : Kind) (left : ℕ) (p : Path) (at : ℕ) (out : List ℕ) : Type 0 where
+pub record NodeMay (k : Kind) (left : ℕ) (p : Path) (s : Sink) : Type 0 where
   pub good : Good k left p
-  pub room : Room (termsBelow k left p) at out
+  pub room : Room s (termsBelow k left p)
 
-pub record BranchMay (k : Kind) (left : ℕ) (p : Path) (c : CentreName) (x : Axis) (times number at : ℕ) (out : List ℕ) : Type 0 where
+pub record BranchMay (k : Kind) (left : ℕ) (p : Path) (c : CentreName) (x : Axis) (times number : ℕ) (s : Sink) : Type 0 where
   pub good : Good k left p
   pub turn : TurnMay k left c x times number
-  pub room : Room (termsFrom k left p c x number) at out
+  pub room : Room s (termsFrom k left p c x number)

@@ -1,5 +1,5 @@
 -- `put_head` meets its contract.
-use Rattle.expansion.proofs.HeaderLaws.{orders-add, kept-through, head-inside, orders-few, orders-room, count-fits, head-put}
+use Rattle.expansion.proofs.HeaderLaws.{orders-add, kept-through, head-inside, first-fits, orders-few, orders-room, count-fits, head-put}
 use borrow.Author.Needs.{needs}
 use Rattle.expansion.proofs.header.put_head.Statement.{statement}
 use Rattle.expansion.proofs.header.put_head.Tie as tie
@@ -9,6 +9,9 @@ orders-requires c κs = search needs
 
 number-requires : tie.Need-number-requires
 number-requires c κs = search needs
+
+add-out : tie.Need-add-out
+add-out c = record { fits = search first-fits }
 
 slice-write-out : tie.Need-slice-write-out
 slice-write-out c = search head-inside
@@ -34,6 +37,7 @@ put-head-spec =
     (tie.spec
     orders-requires
     number-requires
+    add-out
     slice-write-out
     put-orders-requires
     add-put-number

@@ -1,6 +1,5 @@
 -- `sized` meets its contract.
-use Rattle.expansion.proofs.HeaderLaws.{orders-add}
-use Rattle.expansion.proofs.Answers.{first-measured, count-cast, header-fits, roll-fits, sized-many, sized-roll}
+use Rattle.expansion.proofs.Answers.{first-measured, count-cast, roll-fits, sized-many, sized-roll}
 use borrow.Author.Needs.{needs}
 use Rattle.expansion.proofs.size.sized.Statement.{statement}
 use Rattle.expansion.proofs.size.sized.Tie as tie
@@ -17,20 +16,11 @@ enum-known-size c = search needs
 cast-count : tie.Need-cast-count
 cast-count c = record { fits = search count-cast }
 
-orders-requires : tie.Need-orders-requires
-orders-requires c κs = search needs
+head-requires : tie.Need-head-requires
+head-requires c κs = search needs
 
 add-long : tie.Need-add-long
-add-long c = record { fits = search orders-add }
-
-length-requires : tie.Need-length-requires
-length-requires c κs = search needs
-
-add-long-2 : tie.Need-add-long-2
-add-long-2 c = record { fits = search header-fits }
-
-add-long-3 : tie.Need-add-long-3
-add-long-3 c = record { fits = search roll-fits }
+add-long c = record { fits = search roll-fits }
 
 returns : tie.Need-returns
 returns c = search sized-many
@@ -46,10 +36,7 @@ sized-spec =
     enum-told
     enum-known-size
     cast-count
-    orders-requires
+    head-requires
     add-long
-    length-requires
-    add-long-2
-    add-long-3
     returns
     returns-2)

@@ -13,39 +13,39 @@ use Rattle.expansion.proofs.walk.+below+branch+node.Lts-branch as branc
 use Rattle.expansion.proofs.walk.node.Reads as node
 use Rattle.expansion.proofs.walk.node.Kinds as node-kinds
 use Rattle.expansion.proofs.walk.+below+branch+node.Lts-node as node-lts
-use Rattle.expansion.proofs.terms.emit.Reads as emit-reads
+use Rattle.expansion.proofs.sink.emit.Reads as emit-reads
 use Rattle.expansion.proofs.walk.child.Reads as child-reads
 use Rattle.expansion.proofs.walk.choose.Reads as choose-reads
 use Rattle.steps.proofs.multipliers.Reads as multipliers-reads
 use Rattle.expansion.proofs.walk.+below+branch+node.{statement}
 use Rattle.expansion.proofs.walk.+below+branch+node.Tie.{close}
 
-abbrev μ-below : Measures 1 below-kinds.ps ℕ
+abbrev μ-below : Measures 2 below-kinds.ps ℕ
 μ-below κs a = belowFuel (a .1 .1 .0)
 
-abbrev μ-branch : Measures 1 branch-kinds.ps ℕ
+abbrev μ-branch : Measures 2 branch-kinds.ps ℕ
 μ-branch κs a = branchFuel (a .1 .1 .0) (a .1 .1 .1 .0) (a .1 .1 .1 .1 .0) (a .1 .1 .1 .1 .1 .1 .1 .0)
 
-abbrev μ-node : Measures 1 node-kinds.ps ℕ
+abbrev μ-node : Measures 2 node-kinds.ps ℕ
 μ-node κs a = nodeFuel (a .1 .1 .0) (a .1 .1 .1 .0) (a .1 .1 .1 .1 .0)
 
-abbrev below-at : ℕ → In 1 below-kinds.ps
-below-at t = and 1 below-kinds.ps (is 1 below-kinds.ps μ-below t) below.Pre
+abbrev below-at : ℕ → In 2 below-kinds.ps
+below-at t = and 2 below-kinds.ps (is 2 below-kinds.ps μ-below t) below.Pre
 
-abbrev below-below : ℕ → In 1 below-kinds.ps
-below-below t = and 1 below-kinds.ps (falls 1 below-kinds.ps _<_ μ-below t) below.Pre
+abbrev below-below : ℕ → In 2 below-kinds.ps
+below-below t = and 2 below-kinds.ps (falls 2 below-kinds.ps _<_ μ-below t) below.Pre
 
-abbrev branch-at : ℕ → In 1 branch-kinds.ps
-branch-at t = and 1 branch-kinds.ps (is 1 branch-kinds.ps μ-branch t) branch.Pre
+abbrev branch-at : ℕ → In 2 branch-kinds.ps
+branch-at t = and 2 branch-kinds.ps (is 2 branch-kinds.ps μ-branch t) branch.Pre
 
-abbrev branch-below : ℕ → In 1 branch-kinds.ps
-branch-below t = and 1 branch-kinds.ps (falls 1 branch-kinds.ps _<_ μ-branch t) branch.Pre
+abbrev branch-below : ℕ → In 2 branch-kinds.ps
+branch-below t = and 2 branch-kinds.ps (falls 2 branch-kinds.ps _<_ μ-branch t) branch.Pre
 
-abbrev node-at : ℕ → In 1 node-kinds.ps
-node-at t = and 1 node-kinds.ps (is 1 node-kinds.ps μ-node t) node.Pre
+abbrev node-at : ℕ → In 2 node-kinds.ps
+node-at t = and 2 node-kinds.ps (is 2 node-kinds.ps μ-node t) node.Pre
 
-abbrev node-below : ℕ → In 1 node-kinds.ps
-node-below t = and 1 node-kinds.ps (falls 1 node-kinds.ps _<_ μ-node t) node.Pre
+abbrev node-below : ℕ → In 2 node-kinds.ps
+node-below t = and 2 node-kinds.ps (falls 2 node-kinds.ps _<_ μ-node t) node.Pre
 
 -- what each may ask and learns of the functions that it calls
 abbrev below-claims : ℕ → below-lts.Claims
@@ -106,7 +106,7 @@ branch-add-branch-2 : (t : ℕ) → branch-lts.Need-add-branch-2 (branch-claims 
 branch-add-branch-2 t c = record { fits = search number-fits }
 
 branch-branch-requires-2 : (t : ℕ) → branch-lts.Need-branch-requires-2 (branch-claims t) (branch-at t) branch.Post
-branch-branch-requires-2 t c κs = (search skip-falls, search then-may)
+branch-branch-requires-2 t c κs = (search skip-falls, search (then-may, c .before .before .before .before .before .below .ensures, c .before .before .before .before .before .before .before .before .child .ensures))
 
 branch-same-length-3 : (t : ℕ) → branch-lts.Need-same-length-3 (branch-claims t) (branch-at t) branch.Post
 branch-same-length-3 t c = search needs

@@ -1,8 +1,8 @@
--- `expand` meets its contract.
-use Rattle.expansion.proofs.Answers.{told-known}
+-- `expand_in` meets its contract.
 use borrow.Author.Needs.{needs}
-use Rattle.expansion.proofs.expand.Statement.{statement}
-use Rattle.expansion.proofs.expand.Tie as tie
+use Rattle.expansion.proofs.Answers.{told-unknown, told-known}
+use Rattle.expansion.proofs.expand_in.Statement.{statement}
+use Rattle.expansion.proofs.expand_in.Tie as tie
 
 of-requires : tie.Need-of-requires
 of-requires c κs = search needs
@@ -17,7 +17,7 @@ expand-kind-requires : tie.Need-expand-kind-requires
 expand-kind-requires c κs = search needs
 
 returns : tie.Need-returns
-returns c = search needs
+returns c = search told-unknown
 
 same-length : tie.Need-same-length
 same-length c = search needs
@@ -25,8 +25,8 @@ same-length c = search needs
 returns-2 : tie.Need-returns-2
 returns-2 c = search told-known
 
-pub expand-spec : {M : Type 1} → statement M
-expand-spec =
+pub expand-in-spec : {M : Type 1} → statement M
+expand-in-spec =
     tie.close
     (tie.spec
     of-requires

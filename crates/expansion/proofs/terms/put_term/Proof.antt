@@ -1,8 +1,8 @@
--- `emit` meets its contract.
+-- `put_term` meets its contract.
 use Rattle.expansion.proofs.TermsBytes.{emits-scale, emits-rest, emitted}
 use borrow.Author.Needs.{needs}
-use Rattle.expansion.proofs.terms.emit.Statement.{statement}
-use Rattle.expansion.proofs.terms.emit.Tie as tie
+use Rattle.expansion.proofs.terms.put_term.Statement.{statement}
+use Rattle.expansion.proofs.terms.put_term.Tie as tie
 
 put-number-requires : tie.Need-put-number-requires
 put-number-requires c κs = search emits-scale
@@ -16,5 +16,5 @@ same-length c = search needs
 returns : tie.Need-returns
 returns c = search emitted
 
-pub emit-spec : {M : Type 1} → statement M
-emit-spec = tie.close (tie.spec put-number-requires put-rest-requires same-length returns)
+pub put-term-spec : {M : Type 1} → statement M
+put-term-spec = tie.close (tie.spec put-number-requires put-rest-requires same-length returns)
