@@ -1,4 +1,4 @@
--- Demands 2 and 3: whatever fits the contract of `expand` keeps them. The answer is turned back into the checks that it has passed;
+-- Demands 2 and 3: whatever fits the contract of `expand` keeps them, and demand 3 in either form. The answer is turned back into the checks that it has passed;
 -- then the laws of the histories and of the roll apply.
 use Prim.Native.Nat.{ℕ, _+_, _-_, _≤_, _<_}
 use mathlib.Core.Path.{_≡_, refl, sym, ap, ap₂, subst, _∙_}
@@ -28,14 +28,15 @@ use Rattle.histories.proofs.OneList.{one-list}
 use Rattle.histories.proofs.Bounds.{Kept, terms-kept}
 use Rattle.roll.specs.Reading as Read
 use Rattle.roll.specs.Reading.{got, rollAt}
+use Rattle.roll.specs.Bytes.{rollBytes}
 use Rattle.roll.specs.Header.{checkOf}
 use Rattle.roll.specs.inner.Judged.{Judged}
 use Rattle.roll.proofs.Written.{roll-only}
 use Rattle.roll.proofs.Checked.{reads-checked, judged-kind, judged-orders, judged-l, judged-left}
 use Rattle.expansion.specs.declared.Expanded.{Expanded}
 use Rattle.expansion.specs.declared.Expanded.the-variants.{Roll, Refused}
-use Rattle.expansion.specs.Expanding.{_exceeds_, tooHigh, unusedSet, termsOf, rollOf, kindIn, kindTold, namedTold, namedOut, ExpandTold, refusalOf}
-use Rattle.expansion.specs.Demands.{HistoriesOf, replayed, rollWith, WholeList, Passed, TooMany, Demand3, writtenAt, ReadsBack, Demand2}
+use Rattle.expansion.specs.Expanding.{Form, _exceeds_, tooHigh, unusedSet, termsOf, rollOf, kindIn, namedIn, outIn, FormTold, ExpandTold, refusalOf}
+use Rattle.expansion.specs.Demands.{HistoriesOf, replayed, Writing, rollWith, WholeList, Passed, TooMany, Demand3In, Demand3, writtenAt, ReadsBack, Demand2}
 use Rattle.expansion.specs.inner.Requests.{RequestWithin}
 use Rattle.expansion.proofs.HeaderLaws.{all-small, orders-long}
 use Rattle.expansion.proofs.ReadsBack.{rest-zero, used-total, reads-back}
@@ -64,13 +65,13 @@ in-map f (g ∷ hs) h (List·Memᴰ·tail m) = List·Memᴰ·tail (in-map f hs h
 -- ---- what an answer shows
 
 -- an answer that a roll is: the checks that it has passed
-pub record Answered (k : Kind) (orders before : List ℕ) (begin long count : ℕ) : Type 0 where
+pub record Answered (roll : Form) (k : Kind) (orders before : List ℕ) (begin long count : ℕ) : Type 0 where
   pub two : tooHigh k orders ≡ false
   pub three : unusedSet k orders ≡ false
   pub five : (begin exceeds length before) ≡ false
   pub four : (length (termsOf k orders) exceeds mostTerms) ≡ false
-  pub six : (begin + length (rollOf k orders) exceeds length before) ≡ false
-  pub long-is : long ≡ length (rollOf k orders)
+  pub six : (begin + length (roll k orders) exceeds length before) ≡ false
+  pub long-is : long ≡ length (roll k orders)
   pub count-is : count ≡ length (termsOf k orders)
 
 abbrev inTurn : Bool → Bool → Bool → Bool → Bool → Expanded → Expanded
@@ -95,46 +96,46 @@ four-met false false false true e l n is = (refl, refl, refl, refl)
 four-met false false false false true l n is = let h : _≡_ {A = ℕ} 6 4 = ap refusalOf is in absurd (omega arith)
 four-met false false false false false l n is = let h : _≡_ {A = ℕ} 0 4 = ap refusalOf is in absurd (omega arith)
 
-pub answered : (k : Kind) (orders before : List ℕ) (begin long count : ℕ) → kindTold k orders before begin ≡ Roll long count → Answered k orders before begin long count
+pub answered : (roll : Form) (k : Kind) (orders before : List ℕ) (begin long count : ℕ) → kindIn roll k orders before begin ≡ Roll long count → Answered roll k orders before begin long count
 unfolding kindIn
-answered k orders before begin long count e =
+answered roll k orders before begin long count e =
     let m =
     none-met (tooHigh k orders) (unusedSet k orders) (begin exceeds length before) (length (termsOf k orders) exceeds mostTerms)
-    (begin + length (rollOf k orders) exceeds length before) (length (rollOf k orders)) (length (termsOf k orders)) long count e in
+    (begin + length (roll k orders) exceeds length before) (length (roll k orders)) (length (termsOf k orders)) long count e in
     record { two = m .0; three = m .1; five = m .2; four = m .3; six = m .4; long-is = m .5; count-is = m .6 }
 
-answered-four : (k : Kind) (orders before : List ℕ) (begin : ℕ) → kindTold k orders before begin ≡ Refused 4
+answered-four : (roll : Form) (k : Kind) (orders before : List ℕ) (begin : ℕ) → kindIn roll k orders before begin ≡ Refused 4
     → (tooHigh k orders ≡ false) × (unusedSet k orders ≡ false) × ((begin exceeds length before) ≡ false) × ((length (termsOf k orders) exceeds mostTerms) ≡ true)
 unfolding kindIn
-answered-four k orders before begin e =
+answered-four roll k orders before begin e =
     four-met (tooHigh k orders) (unusedSet k orders) (begin exceeds length before) (length (termsOf k orders) exceeds mostTerms)
-    (begin + length (rollOf k orders) exceeds length before) (length (rollOf k orders)) (length (termsOf k orders)) e
+    (begin + length (roll k orders) exceeds length before) (length (roll k orders)) (length (termsOf k orders)) e
 
-told-four : (k : Kind) (orders before : List ℕ) (begin : ℕ) → tooHigh k orders ≡ false → unusedSet k orders ≡ false → (begin exceeds length before) ≡ false
-    → (length (termsOf k orders) exceeds mostTerms) ≡ true → kindTold k orders before begin ≡ Refused 4
+told-four : (roll : Form) (k : Kind) (orders before : List ℕ) (begin : ℕ) → tooHigh k orders ≡ false → unusedSet k orders ≡ false → (begin exceeds length before) ≡ false
+    → (length (termsOf k orders) exceeds mostTerms) ≡ true → kindIn roll k orders before begin ≡ Refused 4
 unfolding kindIn
-told-four k orders before begin a b c d = simp (a, b, c, d)
+told-four roll k orders before begin a b c d = simp (a, b, c, d)
 
-told-roll : (k : Kind) (orders before : List ℕ) (begin : ℕ) → tooHigh k orders ≡ false → unusedSet k orders ≡ false → (begin exceeds length before) ≡ false
-    → length (termsOf k orders) ≤ mostTerms → begin + length (rollOf k orders) ≤ length before → kindTold k orders before begin ≡ Roll (length (rollOf k orders)) (length (termsOf k orders))
+told-roll : (roll : Form) (k : Kind) (orders before : List ℕ) (begin : ℕ) → tooHigh k orders ≡ false → unusedSet k orders ≡ false → (begin exceeds length before) ≡ false
+    → length (termsOf k orders) ≤ mostTerms → begin + length (roll k orders) ≤ length before → kindIn roll k orders before begin ≡ Roll (length (roll k orders)) (length (termsOf k orders))
 unfolding kindIn
-told-roll k orders before begin a b c few room =
-    simp (a, b, c, le-ltb mostTerms (length (termsOf k orders)) few, le-ltb (length before) (begin + length (rollOf k orders)) room)
+told-roll roll k orders before begin a b c few room =
+    simp (a, b, c, le-ltb mostTerms (length (termsOf k orders)) few, le-ltb (length before) (begin + length (roll k orders)) room)
 
 -- the kind is known where the answer is not refusal 1
-pub record Known (kind : ℕ) (orders before : List ℕ) (begin : ℕ) (r : Expanded) (after : List ℕ) : Type 0 where
+pub record Known (roll : Form) (kind : ℕ) (orders before : List ℕ) (begin : ℕ) (r : Expanded) (after : List ℕ) : Type 0 where
   pub k : Kind
   pub named : kindOf kind ≡ Is k
-  pub answer : kindTold k orders before begin ≡ r
-  pub out : after ≡ namedOut r (Is k) orders before begin
+  pub answer : kindIn roll k orders before begin ≡ r
+  pub out : after ≡ outIn roll r (Is k) orders before begin
 
-pub known : (kind : ℕ) (orders before : List ℕ) (begin : ℕ) (r : Expanded) (after : List ℕ)
-    → ExpandTold kind orders before begin r after → (refusalOf r ≡ 1 → ⊥) → Known kind orders before begin r after
-known kind orders before begin r after told other = at (kindOf kind) refl (told .answer) (told .out)
+pub known : (roll : Form) (kind : ℕ) (orders before : List ℕ) (begin : ℕ) (r : Expanded) (after : List ℕ)
+    → FormTold roll kind orders before begin r after → (refusalOf r ≡ 1 → ⊥) → Known roll kind orders before begin r after
+known roll kind orders before begin r after told other = at (kindOf kind) refl (told .answer) (told .out)
   where
-    at : (m : Named) → kindOf kind ≡ m → r ≡ namedTold m orders before begin → after ≡ namedOut (namedTold m orders before begin) m orders before begin → Known kind orders before begin r after
+    at : (m : Named) → kindOf kind ≡ m → r ≡ namedIn roll m orders before begin → after ≡ outIn roll (namedIn roll m orders before begin) m orders before begin → Known roll kind orders before begin r after
     at Unknown e a o = absurd (other (ap refusalOf a))
-    at (Is k) e a o = record { k = k; named = e; answer = sym a; out = o ∙ ap (λ (x : Expanded). namedOut x (Is k) orders before begin) (sym a) }
+    at (Is k) e a o = record { k = k; named = e; answer = sym a; out = o ∙ ap (λ (x : Expanded). outIn roll x (Is k) orders before begin) (sym a) }
 
 -- ---- demand 3
 
@@ -142,9 +143,8 @@ module _ (k : Kind) (orders : List ℕ) where
   replays : termsOf k orders ≡ replayed k orders (histories (start k orders))
   replays = expansion-is-replay (start k orders)
 
-  rolls : rollOf k orders ≡ rollWith k orders (replayed k orders (histories (start k orders)))
-  unfolding rollOf
-  rolls = ap (rollWith k orders) replays
+  rolls : (roll : Form) (bytes : Writing) → roll k orders ≡ rollWith bytes k orders (termsOf k orders) → roll k orders ≡ rollWith bytes k orders (replayed k orders (histories (start k orders)))
+  rolls roll bytes is = is ∙ ap (rollWith bytes k orders) replays
 
   module _ (within : RequestWithin k orders) where
     replay-kept : (h : List ℕ) → List·Memᴰ h (histories (start k orders)) → Kept k orders (replay (start k orders) h)
@@ -152,28 +152,29 @@ module _ (k : Kind) (orders : List ℕ) where
         terms-kept k orders (all-small k orders within) (replay (start k orders) h)
         (subst (List·Memᴰ (replay (start k orders) h)) (sym replays) (in-map (replay (start k orders)) (histories (start k orders)) h m))
 
-module _ (kind : ℕ) (orders before : List ℕ) (begin : ℕ) (in-full : length orders ≡ requestOrders) where
-  whole-list : (long count : ℕ) (after : List ℕ) → Known kind orders before begin (Roll long count) after → WholeList kind orders before begin long count after
+-- of a form, and how it is written
+module _ (roll : Form) (bytes : Writing) (writes : (k : Kind) (os : List ℕ) → roll k os ≡ rollWith bytes k os (termsOf k os)) (kind : ℕ) (orders before : List ℕ) (begin : ℕ) (in-full : length orders ≡ requestOrders) where
+  whole-list : (long count : ℕ) (after : List ℕ) → Known roll kind orders before begin (Roll long count) after → WholeList bytes kind orders before begin long count after
   whole-list long count after of =
       let k = of .k in
-      let a = answered k orders before begin long count (of .answer) in
+      let a = answered roll k orders before begin long count (of .answer) in
       let within : RequestWithin k orders = record { low-sums = a .two; none-unused = a .three; in-full = in-full } in
       record {
         k = k;
         named = of .named;
         hs = histories (start k orders);
         holds = all-histories k orders;
-        written = of .out ∙ ap (placed before begin) (rolls k orders);
-        long-is = a .long-is ∙ ap length (rolls k orders);
+        written = of .out ∙ ap (placed before begin) (rolls k orders roll bytes (writes k orders));
+        long-is = a .long-is ∙ ap length (rolls k orders roll bytes (writes k orders));
         count-is = a .count-is ∙ as-many (start k orders);
         weighs = λ (h : List ℕ) (m : List·Memᴰ h (histories (start k orders))). replay-kept k orders within h m .weighs;
         boys = λ (h : List ℕ) (m : List·Memᴰ h (histories (start k orders))). replay-kept k orders within h m .boys;
       }
 
-  too-many : (after : List ℕ) → Known kind orders before begin (Refused 4) after → TooMany kind orders before begin
+  too-many : (after : List ℕ) → Known roll kind orders before begin (Refused 4) after → TooMany kind orders before begin
   too-many after of =
       let k = of .k in
-      let a = answered-four k orders before begin (of .answer) in
+      let a = answered-four roll k orders before begin (of .answer) in
       let more : mostTerms < length (termsOf k orders) = ltb-true mostTerms (length (termsOf k orders)) (a .3) in
       record {
         k = k;
@@ -183,27 +184,27 @@ module _ (kind : ℕ) (orders before : List ℕ) (begin : ℕ) (in-full : length
         more = omega (arith, as-many (start k orders));
       }
 
-  refused-four : (r : Expanded) (after : List ℕ) → ExpandTold kind orders before begin r after → TooMany kind orders before begin → r ≡ Refused 4
+  refused-four : (r : Expanded) (after : List ℕ) → FormTold roll kind orders before begin r after → TooMany kind orders before begin → r ≡ Refused 4
   refused-four r after told many =
       let k = many .k in
       let same = ap length (only-histories k orders (many .hs) (many .holds)) in
       let more : mostTerms < length (termsOf k orders) = omega (arith, as-many (start k orders), many .more) in
-      told .answer ∙ ap (λ (m : Named). namedTold m orders before begin) (many .passed .one)
-      ∙ told-four k orders before begin (many .passed .two) (many .passed .three) (many .passed .five) (lt-ltb mostTerms (length (termsOf k orders)) more)
+      told .answer ∙ ap (λ (m : Named). namedIn roll m orders before begin) (many .passed .one)
+      ∙ told-four roll k orders before begin (many .passed .two) (many .passed .three) (many .passed .five) (lt-ltb mostTerms (length (termsOf k orders)) more)
 
-  roll-comes : (r : Expanded) (after : List ℕ) → ExpandTold kind orders before begin r after
+  roll-comes : (r : Expanded) (after : List ℕ) → FormTold roll kind orders before begin r after
       → (k : Kind) (hs : List (List ℕ)) → Passed kind orders before begin k → HistoriesOf k orders hs → length hs ≤ mostTerms
-      → begin + length (rollWith k orders (replayed k orders hs)) ≤ length before → r ≡ Roll (length (rollWith k orders (replayed k orders hs))) (length hs)
+      → begin + length (rollWith bytes k orders (replayed k orders hs)) ≤ length before → r ≡ Roll (length (rollWith bytes k orders (replayed k orders hs))) (length hs)
   roll-comes r after told k hs passed holds few room =
       let same = only-histories k orders hs holds in
-      let long : length (rollOf k orders) ≡ length (rollWith k orders (replayed k orders hs)) = ap length (rolls k orders)
-      ∙ ap (λ (gs : List (List ℕ)). length (rollWith k orders (replayed k orders gs))) (sym same) in
+      let long : length (roll k orders) ≡ length (rollWith bytes k orders (replayed k orders hs)) = ap length (rolls k orders roll bytes (writes k orders))
+      ∙ ap (λ (gs : List (List ℕ)). length (rollWith bytes k orders (replayed k orders gs))) (sym same) in
       let count : length (termsOf k orders) ≡ length hs = as-many (start k orders) ∙ ap length (sym same) in
-      told .answer ∙ ap (λ (m : Named). namedTold m orders before begin) (passed .one)
-      ∙ told-roll k orders before begin (passed .two) (passed .three) (passed .five) (omega arith) (omega arith) ∙ ap₂ Roll long count
+      told .answer ∙ ap (λ (m : Named). namedIn roll m orders before begin) (passed .one)
+      ∙ told-roll roll k orders before begin (passed .two) (passed .three) (passed .five) (omega arith) (omega arith) ∙ ap₂ Roll long count
 
-  pub demand-3 : (r : Expanded) (after : List ℕ) → ExpandTold kind orders before begin r after → Demand3 kind orders before begin r after
-  demand-3 r after told =
+  pub demand-3-in : (r : Expanded) (after : List ℕ) → FormTold roll kind orders before begin r after → Demand3In bytes kind orders before begin r after
+  demand-3-in r after told =
       record {
         unless-refused = λ (long count : ℕ) (e : r ≡ Roll long count). whole-list long count after (having (Roll long count) e (λ f. omega arith));
         four-then-more = λ (e : r ≡ Refused 4). too-many after (having (Refused 4) e (λ f. omega arith));
@@ -211,8 +212,16 @@ module _ (kind : ℕ) (orders before : List ℕ) (begin : ℕ) (in-full : length
         else-a-roll = roll-comes r after told;
       }
     where
-      having : (x : Expanded) → r ≡ x → (refusalOf x ≡ 1 → ⊥) → Known kind orders before begin x after
-      having x e other = known kind orders before begin x after (subst (λ (y : Expanded). ExpandTold kind orders before begin y after) e told) other
+      having : (x : Expanded) → r ≡ x → (refusalOf x ≡ 1 → ⊥) → Known roll kind orders before begin x after
+      having x e other = known roll kind orders before begin x after (subst (λ (y : Expanded). FormTold roll kind orders before begin y after) e told) other
+
+-- each form is the writing of a request's terms
+roll-is : (k : Kind) (orders : List ℕ) → rollOf k orders ≡ rollWith rollBytes k orders (termsOf k orders)
+unfolding rollOf
+roll-is k orders = refl
+
+pub demand-3 : (kind : ℕ) (orders before : List ℕ) (begin : ℕ) → length orders ≡ requestOrders → (r : Expanded) (after : List ℕ) → ExpandTold kind orders before begin r after → Demand3 kind orders before begin r after
+demand-3 kind orders before begin in-full r after told = demand-3-in rollOf rollBytes roll-is kind orders before begin in-full r after told
 
 -- ---- demand 2
 
@@ -240,9 +249,12 @@ module _ (k : Kind) (orders : List ℕ) (within : RequestWithin k orders) (few :
   abbrev the-judged : Judged (checkOf s) s
   the-judged = record { roll = theRoll; end = length (rollOf k orders); reads = reads-as; header = reads-checked s theRoll (length (rollOf k orders)) reads-as .0 }
 
-roll-is : (k : Kind) (orders : List ℕ) → rollOf k orders ≡ rollWith k orders (termsOf k orders)
-unfolding rollOf
-roll-is k orders = refl
+-- the bytes that were placed
+pub cut : (out : List ℕ) (at long : ℕ) (after bytes : List ℕ) → at ≤ length out → long ≡ length bytes → after ≡ placed out at bytes → writtenAt after at long ≡ bytes
+cut out at long after bytes h l e =
+    ap (λ (x : List ℕ). take long (drop at x)) e
+    ∙ ap (take long) (drop-at (take at out) (bytes ++ drop (at + length bytes) out) at (length-take at out ∙ omega arith))
+    ∙ take-at bytes (drop (at + length bytes) out) long (sym l)
 
 -- the bytes that a call has written are the request's roll
 pub written-is : (kind : ℕ) (orders before : List ℕ) (begin long count : ℕ) (after : List ℕ) (of : Known kind orders before begin (Roll long count) after) → writtenAt after begin long ≡ rollOf (of .k) orders
@@ -256,10 +268,10 @@ written-is kind orders before begin long count after of =
         ∙ take-at bytes (drop (at + length bytes) out) long (sym l)
 
 module _ (kind : ℕ) (orders before : List ℕ) (begin : ℕ) (in-full : length orders ≡ requestOrders) where
-  read-again : (long count : ℕ) (after : List ℕ) → Known kind orders before begin (Roll long count) after → ReadsBack kind orders before begin long count after
+  read-again : (long count : ℕ) (after : List ℕ) → Known rollOf kind orders before begin (Roll long count) after → ReadsBack kind orders before begin long count after
   read-again long count after of =
       let k = of .k in
-      let a = answered k orders before begin long count (of .answer) in
+      let a = answered rollOf k orders before begin long count (of .answer) in
       let within : RequestWithin k orders = record { low-sums = a .two; none-unused = a .three; in-full = in-full } in
       let few : length (termsOf k orders) ≤ mostTerms = ltb-false mostTerms (length (termsOf k orders)) (a .four) in
       let s = writtenAt after begin long in
@@ -284,6 +296,6 @@ module _ (kind : ℕ) (orders before : List ℕ) (begin : ℕ) (in-full : length
   demand-2 r after told =
       record {
         reads-back = λ (long count : ℕ) (e : r ≡ Roll long count).
-            read-again long count after (known kind orders before begin (Roll long count) after (subst (λ (y : Expanded). ExpandTold kind orders before begin y after) e told) (λ f. omega arith));
+            read-again long count after (known rollOf kind orders before begin (Roll long count) after (subst (λ (y : Expanded). ExpandTold kind orders before begin y after) e told) (λ f. omega arith));
         only-writing = roll-only;
       }

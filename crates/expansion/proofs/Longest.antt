@@ -165,9 +165,9 @@ pub roll-most : (kind : ℕ) (orders before : List ℕ) (begin long count : ℕ)
     → length orders ≡ requestOrders → ExpandTold kind orders before begin (answer.Roll long count) after → long ≤ mostRoll
 unfolding rollOf
 roll-most kind orders before begin long count after in-full told =
-    let of = known kind orders before begin (answer.Roll long count) after told (λ e. omega arith) in
+    let of = known rollOf kind orders before begin (answer.Roll long count) after told (λ e. omega arith) in
     let k = of .k in
-    let a = answered k orders before begin long count (of .answer) in
+    let a = answered rollOf k orders before begin long count (of .answer) in
     let within : RequestWithin k orders = record { low-sums = a .two; none-unused = a .three; in-full = in-full } in
     let few : length (termsOf k orders) ≤ mostTerms = ltb-false mostTerms (length (termsOf k orders)) (a .four) in
     let most = within-most (record { kind = k; orders = take (ordersOf k) orders; terms = termsOf k orders }) (roll-fits k orders within few) in

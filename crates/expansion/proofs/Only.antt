@@ -6,8 +6,9 @@ use Rattle.kind.specs.Kinds.{kindOf}
 use Rattle.laws.proofs.Contract.{Alone, alone, Lent, _then_, _▸_, end}
 use Rattle.expansion.specs.declared.Expanded.{Expanded}
 use Rattle.kind.specs.declared.Kind.{Kind}
-use Rattle.expansion.specs.Expanding.{tooHigh, unusedSet, namedTold, namedMeasured, namedOut}
+use Rattle.expansion.specs.Expanding.{tooHigh, unusedSet, namedTold, namedMeasured, namedOut, namedTold2, namedOut2}
 use Rattle.expansion.proofs.expand.Reads.{Post as Expand}
+use Rattle.expansion.proofs.expand2.Reads.{Post as Expand2}
 use Rattle.expansion.proofs.request.too_high.Reads.{Post as TooHigh}
 use Rattle.expansion.proofs.request.unused_set.Reads.{Post as UnusedSet}
 use Rattle.expansion.proofs.size.roll_size.Reads.{Post as RollSize}
@@ -17,6 +18,12 @@ pub expand-only : (κs : Lfts 1) (kind : ℕ) (orders : List ℕ) (out : Lent �
     Alone {A = Expanded × List ℕ} (λ x. Expand κs (kind ▸ orders ▸ out ▸ start ▸ end) (x .0) (kind ▸ orders ▸ out then (x .1) ▸ start ▸ end))
     (told, namedOut told (kindOf kind) orders (out .now) start)
 expand-only κs kind orders out start = alone (λ x p i. (p .answer i, p .out i))
+
+pub expand2-only : (κs : Lfts 1) (kind : ℕ) (orders : List ℕ) (out : Lent ℕ) (start : ℕ) →
+    let told = namedTold2 (kindOf kind) orders (out .now) start in
+    Alone {A = Expanded × List ℕ} (λ x. Expand2 κs (kind ▸ orders ▸ out ▸ start ▸ end) (x .0) (kind ▸ orders ▸ out then (x .1) ▸ start ▸ end))
+    (told, namedOut2 told (kindOf kind) orders (out .now) start)
+expand2-only κs kind orders out start = alone (λ x p i. (p .answer i, p .out i))
 
 pub roll-size-only : (kind : ℕ) (orders : List ℕ) → let g = kind ▸ orders ▸ end in Alone (λ r. RollSize tt g r g) (namedMeasured (kindOf kind) orders)
 roll-size-only kind orders = alone (λ r p. p)

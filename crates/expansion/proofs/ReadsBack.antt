@@ -1,4 +1,4 @@
--- Whatever the expansion writes reads back as exactly its kind, orders and terms.
+-- Whatever the expansion writes reads back as exactly its kind, orders and terms, in either form.
 use Prim.Native.Nat.{ℕ, suc, _+_, _-_, _≤_, _<_}
 use mathlib.Core.Path.{_≡_, refl, sym, ap, subst, _∙_}
 use mathlib.Core.Bool.{false}
@@ -23,7 +23,9 @@ use Rattle.histories.proofs.Some.{Unused, unused-zero, some-term}
 use Rattle.roll.specs.Reading.{got, rollAt, mostBoys}
 use Rattle.roll.specs.Fits.{CentresFit, Below, TermFits, TermsFit, RollFits}
 use Rattle.roll.proofs.Back.{roll-back}
-use Rattle.expansion.specs.Expanding.{termsOf, rollOf}
+use Rattle.form2.specs.Reading.{rollAt2}
+use Rattle.form2.proofs.Back.{roll-back2}
+use Rattle.expansion.specs.Expanding.{termsOf, rollOf, rollOf2}
 use Rattle.expansion.specs.inner.Requests.{RequestWithin}
 use Rattle.expansion.proofs.HeaderLaws.{Sums, all-sums, all-small, orders-long}
 
@@ -130,3 +132,8 @@ module _ (k : Kind) (os : List ℕ) (within : RequestWithin k os) where
     pub reads-back : rollAt (rollOf k os) ≡ got (record { kind = k; orders = take (ordersOf k) os; terms = termsOf k os }) (length (rollOf k os))
     unfolding rollOf
     reads-back = roll-back (record { kind = k; orders = take (ordersOf k) os; terms = termsOf k os }) roll-fits
+
+    -- 02, Q-7: in form 2
+    pub reads-back2 : rollAt2 (rollOf2 k os) ≡ got (record { kind = k; orders = take (ordersOf k) os; terms = termsOf k os }) (length (rollOf2 k os))
+    unfolding rollOf2
+    reads-back2 = roll-back2 (record { kind = k; orders = take (ordersOf k) os; terms = termsOf k os }) roll-fits
