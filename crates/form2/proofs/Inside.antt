@@ -14,6 +14,7 @@ use Rattle.laws.specs.Total.{total}
 use Rattle.term.specs.Terms.{Term}
 use Rattle.roll.specs.declared.field.Field.the-variants as field
 use Rattle.roll.specs.Reading.{Reading, got, refused, onward, andThen, before, withinAt, mostBoys, prefactorsAt, ordersAt, Header, ofKind}
+use Rattle.roll.specs.Fits.{Below}
 use Rattle.roll.proofs.FieldLaws.{Taken, taken}
 use Rattle.roll.proofs.Filling.{before-is, onward-is, andThen-is}
 use Rattle.roll.proofs.Inside.{taken-inside, prefactors-inside, kind-read, orders-most}
@@ -70,6 +71,15 @@ further-read (suc count) table follow s at ps next e =
     by : (p n : ℕ) → withinAt s at 0 (table - 1) ≡ field.Is p n → (b : Bool) → goesOn follow p ≡ b → cond b (refused 7 at) (before (p ∷ []) (prefactorsAt s n count table)) ≡ got ps next → (onward (withinAt s at 0 (table - 1)) (λ p n. before (p ∷ []) (prefactorsAt s n count table)) ≡ got ps next) × Parts follow ps
     by p n is true t e = absurd (clash (cc))
     by p n is false f e = let b = before-is p (prefactorsAt s n count table) ps next e in (rw is e, rw (b .2) f)
+
+pub prefactors-below : (count table : ℕ) (s : List ℕ) (at : ℕ) (ps : List ℕ) (next : ℕ) → 1 ≤ table → prefactorsAt s at count table ≡ got ps next → Below table ps
+unfolding prefactorsAt
+prefactors-below zero table s at ps next some e = let none : [] ≡ ps = cc in rw (← none) tt
+prefactors-below (suc count) table s at ps next some e =
+    let x = onward-is (withinAt s at 0 (table - 1)) (λ p n. before (p ∷ []) (prefactorsAt s n count table)) ps next e in
+    let b = before-is (x .0) (prefactorsAt s (x .1) count table) ps next (x .3) in
+    let below = taken s at 0 (table - 1) (withinAt s at 0 (table - 1)) (x .0) (x .1) refl (x .2) .below in
+    rw (b .2) (omega arith, prefactors-below count table s (x .1) (b .0) next some (b .1))
 
 -- ---- a term
 

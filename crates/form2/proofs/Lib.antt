@@ -1,8 +1,13 @@
 pub mod Back
 pub mod Checked
+pub mod CursorLaws
 pub mod CutOrWrong
 pub mod Forms
+pub mod HeaderLaws
 pub mod Inside
+pub mod JudgeLaws
+pub mod Only
 pub mod Places
 pub mod Sharing
+pub mod TermsLaws
 pub mod Written

@@ -22,12 +22,13 @@ use Rattle.roll.specs.Bytes.{numbersBytes}
 use Rattle.roll.specs.Reading.{Reading, got, refused, andThen, before, mostBoys, Header, Roll}
 use Rattle.roll.specs.Fits.{Below, TermFits, TermsFit, RollFits}
 use Rattle.roll.proofs.Filling.{before-is, andThen-is}
+use Rattle.roll.proofs.JudgeLaws.{none-left}
 use Rattle.roll.proofs.TermsLaws.{prefactors-length}
 use Rattle.roll.proofs.Written.{taken-bytes, prefactors-bytes, head-bytes}
 use Rattle.form2.specs.Bytes.{formTwo, shared, furtherOf, termBytes2, termsBytes2, rollBytes2}
 use Rattle.form2.specs.Reading.{headerAt2, Front, frontAt, furtherAt, termAfter, termsAfter, rollAt2}
 use Rattle.form2.proofs.Sharing.{Parts, shared-is, further-is}
-use Rattle.form2.proofs.Inside.{front-read, further-read, term-read2, header-read2}
+use Rattle.form2.proofs.Inside.{front-read, further-read, prefactors-below, term-read2, header-read2}
 
 -- ---- the term before
 
@@ -48,15 +49,36 @@ below-joined table (suc n) (q ∷ qs) ps a b = (a .0, below-joined table n qs ps
 
 -- ---- a term
 
+-- a term keeps the limits, where the one before it does
+pub term-fits2 : (k : Kind) (l : ℕ) (earlier s : List ℕ) (at : ℕ) (t : Term) (next : ℕ) → EarlierFits k l earlier → termAfter s at k l earlier ≡ got t next → TermFits k l t
+term-fits2 k l earlier s at t next old e =
+    let r = term-read2 k l earlier s at t next e in
+    let f = r .front in
+    let n = f .shared in
+    let x = front-read k l (length earlier) s at f (r .place) (r .numbers) in
+    let y = further-read (f .further) (tableOf k) (drop n earlier) s (r .place) (r .further) next (r .reads) in
+    let long : length (r .further) ≡ f .further = prefactors-length (f .further) (tableOf k) s (r .place) (r .further) next (y .0) in
+    let within = x .shared .below in
+    let few = x .further .below in
+    let most = old .count in
+    rw (r .is)
+    (record {
+      scale-least = x .scale .above;
+      scale = x .scale .below;
+      boys = x .boys .below;
+      count = omega (arith, length-append (take n earlier) (r .further), length-take-le n earlier within, long);
+      prefactors = below-joined (tableOf k) n earlier (r .further) (old .prefactors) (prefactors-below (f .further) (tableOf k) s (r .place) (r .further) next (some-entries k) (y .0));
+    })
+
 -- bytes of five numbers, one after the other
 five-then : (s ps bs cs ds es : List ℕ) (at a b c d e : ℕ) → drop at s ≡ ps ++ drop a s → drop a s ≡ bs ++ drop b s → drop b s ≡ cs ++ drop c s → drop c s ≡ ds ++ drop d s → drop d s ≡ es ++ drop e s → drop at s ≡ (ps ++ (bs ++ (cs ++ (ds ++ es)))) ++ drop e s
 five-then s ps bs cs ds es at a b c d e p q r t u =
     drop-then s ps (bs ++ (cs ++ (ds ++ es))) at a e p
     (drop-then s bs (cs ++ (ds ++ es)) a b e q (drop-then s cs (ds ++ es) b c e r (drop-then s ds es c d e t u)))
 
-pub term-bytes2 : (k : Kind) (l : ℕ) (earlier s : List ℕ) (at : ℕ) (t : Term) (next : ℕ) → Bytes s → EarlierFits k l earlier → termAfter s at k l earlier ≡ got t next → (drop at s ≡ termBytes2 earlier t ++ drop next s) × TermFits k l t
+pub term-bytes2 : (k : Kind) (l : ℕ) (earlier s : List ℕ) (at : ℕ) (t : Term) (next : ℕ) → Bytes s → termAfter s at k l earlier ≡ got t next → drop at s ≡ termBytes2 earlier t ++ drop next s
 unfolding termBytes2
-term-bytes2 k l earlier s at t next bytes old e =
+term-bytes2 k l earlier s at t next bytes e =
     let r = term-read2 k l earlier s at t next e in
     let f = r .front in
     let n = f .shared in
@@ -68,24 +90,14 @@ term-bytes2 k l earlier s at t next bytes old e =
     let same : shared earlier (take n earlier ++ r .further) ≡ n = shared-is n earlier (r .further) within (y .1) in
     let rest : furtherOf earlier (take n earlier ++ r .further) ≡ r .further = further-is n earlier (r .further) within (y .1) in
     let count : drop (x .c) s ≡ bytesOf (length (r .further)) ++ drop (r .place) s = taken-bytes s (x .c) 0 (mostPrefactors k l - n) (f .further) (r .place) bytes (x .further) ∙ ap (λ (m : ℕ). bytesOf m ++ drop (r .place) s) (sym long) in
-    let few = x .further .below in
-    let most = old .count in
-    rw (r .is) (
-      rw (same, rest)
-          (five-then s (bytesOf (f .scale)) (bytesOf (f .boys)) (bytesOf n) (bytesOf (length (r .further))) (numbersBytes (r .further)) at (x .a) (x .b) (x .c) (r .place) next
-          (taken-bytes s at 1 mostScale (f .scale) (x .a) bytes (x .scale))
-          (taken-bytes s (x .a) 0 (mostBoys k l) (f .boys) (x .b) bytes (x .boys))
-          (taken-bytes s (x .b) 0 (length earlier) n (x .c) bytes (x .shared))
-          count
-          (ps .0)),
-      record {
-        scale-least = x .scale .above;
-        scale = x .scale .below;
-        boys = x .boys .below;
-        count = omega (arith, length-append (take n earlier) (r .further), length-take-le n earlier within, long);
-        prefactors = below-joined (tableOf k) n earlier (r .further) (old .prefactors) (ps .1);
-      },
-    )
+    rw (r .is)
+    (rw (same, rest)
+    (five-then s (bytesOf (f .scale)) (bytesOf (f .boys)) (bytesOf n) (bytesOf (length (r .further))) (numbersBytes (r .further)) at (x .a) (x .b) (x .c) (r .place) next
+    (taken-bytes s at 1 mostScale (f .scale) (x .a) bytes (x .scale))
+    (taken-bytes s (x .a) 0 (mostBoys k l) (f .boys) (x .b) bytes (x .boys))
+    (taken-bytes s (x .b) 0 (length earlier) n (x .c) bytes (x .shared))
+    count
+    (ps .0)))
 
 -- ---- the terms
 
@@ -114,19 +126,25 @@ terms-read2 zero k l earlier s at ts end bytes old e = terms-none2 k l earlier s
 terms-read2 (suc left) k l earlier s at ts end bytes old e =
     let x = andThen-is (termAfter s at k l earlier) (λ t next. before (t ∷ []) (termsAfter s next left k l (t .prefactors))) ts end e in
     let b = before-is (x .0) (termsAfter s (x .1) left k l (x .0 .prefactors)) ts end (x .3) in
-    let t = term-bytes2 k l earlier s at (x .0) (x .1) bytes old (x .2) in
-    let r = terms-read2 left k l (x .0 .prefactors) s (x .1) (b .0) end bytes (term-earlier k l (x .0) (t .1)) (b .1) in
+    let t = term-bytes2 k l earlier s at (x .0) (x .1) bytes (x .2) in
+    let fit = term-fits2 k l earlier s at (x .0) (x .1) old (x .2) in
+    let r = terms-read2 left k l (x .0 .prefactors) s (x .1) (b .0) end bytes (term-earlier k l (x .0) fit) (b .1) in
     rw (b .2)
     (record {
-      bytes = t .0 ∙ ap (λ (l : List ℕ). termBytes2 earlier (x .0) ++ l) (r .bytes);
-      fit = (t .1, r .fit);
+      bytes = t ∙ ap (λ (l : List ℕ). termBytes2 earlier (x .0) ++ l) (r .bytes);
+      fit = (fit, r .fit);
       count = ap suc (r .count);
       ends = r .ends;
     })
 
 -- as many terms as were asked for
-pub terms-count2 : (left : ℕ) (k : Kind) (l : ℕ) (earlier s : List ℕ) (at : ℕ) (ts : List Term) (end : ℕ) → Bytes s → EarlierFits k l earlier → termsAfter s at left k l earlier ≡ got ts end → length ts ≡ left
-terms-count2 left k l earlier s at ts end bytes old e = terms-read2 left k l earlier s at ts end bytes old e .count
+pub terms-count2 : (left : ℕ) (k : Kind) (l : ℕ) (earlier s : List ℕ) (at : ℕ) (ts : List Term) (end : ℕ) → termsAfter s at left k l earlier ≡ got ts end → length ts ≡ left
+unfolding termsAfter
+terms-count2 zero k l earlier s at ts end e = rw (none-left at ts end (eqb at (length s)) e)
+terms-count2 (suc left) k l earlier s at ts end e =
+    let x = andThen-is (termAfter s at k l earlier) (λ t next. before (t ∷ []) (termsAfter s next left k l (t .prefactors))) ts end e in
+    let b = before-is (x .0) (termsAfter s (x .1) left k l (x .0 .prefactors)) ts end (x .3) in
+    rw (b .2) (ap suc (terms-count2 left k l (x .0 .prefactors) s (x .1) (b .0) end (b .1)))
 
 -- ---- the roll
 

@@ -55,12 +55,12 @@ someAbove table [] = false
 someAbove table (p ∷ ps) = leb table p || someAbove table ps
 
 -- a forged term before: a prefactor not below the table size, or more of them than a term may have
-unfoldable pub forgedEarlier : Kind → Cursor2 → Bool
-forgedEarlier k c = ltb (mostPrefactors k (c .cursor .l)) (c .count) || someAbove (tableOf k) (earlierOf c)
+unfoldable pub forgedEarlier : Kind → ℕ → ℕ → List ℕ → Bool
+forgedEarlier k l count earlier = ltb (mostPrefactors k l) count || someAbove (tableOf k) (take count earlier)
 
 -- a forged cursor is 7 at its place: a kind above 4, L beyond the kind's, a place past the end, then a forged term before
 abbrev pub stepAs2 : Named → Cursor2 → List ℕ → Step2
-stepAs2 (named.Is k) c s = cond (forged k (c .cursor) s || forgedEarlier k c) (refusedStep2 7 (c .cursor .place)) (stepWith2 k c s)
+stepAs2 (named.Is k) c s = cond (forged k (c .cursor) s || forgedEarlier k (c .cursor .l) (c .count) (c .earlier)) (refusedStep2 7 (c .cursor .place)) (stepWith2 k c s)
 stepAs2 named.Unknown c s = refusedStep2 7 (c .cursor .place)
 
 unfoldable pub step2Of : Cursor2 → List ℕ → Step2

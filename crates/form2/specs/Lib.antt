@@ -3,3 +3,4 @@ pub mod Cursor
 pub mod Header
 pub mod Moves
 pub mod Reading
+pub mod inner

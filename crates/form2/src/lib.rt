@@ -1,10 +1,13 @@
 // A roll of form 2, which says of each term what it does not share with the one before: its reader, and the moves between the two forms.
 mod cursor;
 mod header;
+mod judge;
 mod moves;
 mod terms;
 
 pub use cursor::Cursor2;
 pub use cursor::Step2;
 pub use header::Opened2;
+pub use header::open2;
+pub use judge::check2;
 pub use moves::Moved;
