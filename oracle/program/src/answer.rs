@@ -2,7 +2,7 @@
 
 use crate::parse::{self, Centre, Cursor, Evaluation, Lengths, Line, Question};
 use crate::rust_side;
-use crate::second::{self, Header, Refusal, Step, Term};
+use crate::second::{self, Form, Header, Refusal, Step, Term};
 use std::io::{self, BufRead, BufReader, Read, Write};
 
 /// Answers lines until the input ends.
@@ -56,20 +56,32 @@ fn write(out: &mut Vec<u8>, text: &str) {
 fn answer(question: Question, out: &mut Vec<u8>) -> Result<(), Refusal> {
     match question {
         Question::Expand {
+            form,
             kind,
             orders,
             buffer,
             start,
-        } => expand(out, kind, &orders, buffer, start),
+        } => expand(out, form, kind, &orders, buffer, start),
         Question::Measure { kind, orders } => measure(out, kind, &orders),
         Question::Total { kind, orders } => total(out, kind, &orders),
         Question::Shell { m, buffer, start } => shell(out, m, buffer, start),
         Question::Component { shells, number } => component(out, &shells, number),
         Question::List(roll) => list(out, &roll),
-        Question::Open(roll) => opened(out, &second::NOW.open(&roll)?),
-        Question::Check(roll) => opened(out, &second::NOW.check(&roll)?.0),
+        Question::Open(form, roll) => opened(out, &second::NOW.open_in(form, &roll)?),
+        Question::Check(form, roll) => opened(out, &second::NOW.check_in(form, &roll)?.0),
         Question::Scales(roll) => scales(out, &roll),
-        Question::Next(cursor, roll) => next(out, cursor, &roll),
+        Question::Next {
+            form,
+            cursor,
+            before,
+            roll,
+        } => next(out, form, cursor, &before, &roll),
+        Question::Move {
+            to,
+            roll,
+            buffer,
+            start,
+        } => moved(out, to, &roll, buffer, start),
         Question::Eval(evaluation) => eval(out, &evaluation),
         Question::Table(kind, centres) => table(out, kind, &centres),
         Question::JK { n, lengths, i, d } => jk(out, n, &lengths, &i, &d),
@@ -78,6 +90,7 @@ fn answer(question: Question, out: &mut Vec<u8>) -> Result<(), Refusal> {
 
 fn expand(
     out: &mut Vec<u8>,
+    form: Form,
     kind: u8,
     orders: &[u8; 12],
     buffer: usize,
@@ -85,10 +98,29 @@ fn expand(
 ) -> Result<(), Refusal> {
     second::check_request(kind, orders, buffer, start)?;
     let terms = rust_side::terms(kind, orders);
-    let roll = second::write_roll(kind, orders, &terms);
+    let roll = second::write_roll_in(form, kind, orders, &terms);
     second::check_room(roll.len(), buffer, start)?;
-    write(out, &format!("roll {} terms {} ", roll.len(), terms.len()));
-    parse::write_hex(out, &roll);
+    written(out, &roll, terms.len());
+    Ok(())
+}
+
+/// A roll that was written, with the count of its terms.
+fn written(out: &mut Vec<u8>, roll: &[u8], count: usize) {
+    write(out, &format!("roll {} terms {} ", roll.len(), count));
+    parse::write_hex(out, roll);
+}
+
+/// The refusals of reading come before those of the output.
+fn moved(
+    out: &mut Vec<u8>,
+    to: Form,
+    roll: &[u8],
+    buffer: usize,
+    start: u64,
+) -> Result<(), Refusal> {
+    let (header, roll) = second::moved(to, roll)?;
+    second::check_room(roll.len(), buffer, start)?;
+    written(out, &roll, header.count as usize);
     Ok(())
 }
 
@@ -168,8 +200,14 @@ fn opened(out: &mut Vec<u8>, header: &Header) -> Result<(), Refusal> {
     Ok(())
 }
 
-fn next(out: &mut Vec<u8>, cursor: Cursor, roll: &[u8]) -> Result<(), Refusal> {
-    match second::NOW.next(cursor, roll)? {
+fn next(
+    out: &mut Vec<u8>,
+    form: Form,
+    cursor: Cursor,
+    before: &[u8],
+    roll: &[u8],
+) -> Result<(), Refusal> {
+    match second::NOW.next_in(form, cursor, before, roll)? {
         Step::End => write(out, "end"),
         Step::Term(term, after) => {
             write(out, &format!("term {} {}", term.scale, term.boys));

@@ -2,8 +2,11 @@
 //! knows nothing, from a second reading of documents 01 and 02.
 
 pub mod answer;
+pub mod cursors;
 pub mod diff;
 pub mod floats;
+pub mod form2_rolls;
+pub mod form2_runs;
 pub mod last_bits;
 pub mod lines;
 pub mod matrices;

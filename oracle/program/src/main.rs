@@ -1,5 +1,6 @@
 //! The judge's program; README.md says how it is used.
 
+use oracle::form2_runs::{self, Asked};
 use oracle::second::NOW;
 use oracle::{answer, diff, last_bits, questions, runs, second};
 use std::env;
@@ -9,6 +10,7 @@ use std::process::exit;
 const USAGE: &str = "usage: oracle answer < QUESTIONS
        oracle questions KIND-OF-QUESTION COUNT SEED
        oracle questions expand-all KIND [PART OF]
+       oracle questions expand2-all|form2-all|form1-all KIND [PART OF]
        oracle questions total-all KIND [MOST]
        oracle questions scales-all KIND [MOST]
        oracle questions component-all
@@ -91,6 +93,7 @@ fn questions(words: &[&str], out: &mut dyn Write) -> io::Result<Option<bool>> {
         }
         ("expand-within", Ok([count, seed])) => runs::within_the_cap(*count, *seed, out)?,
         ("measure-around", Ok([count, seed])) => runs::around_the_cap(*count, *seed, out)?,
+        (word, Ok(numbers)) if form2_run(word, numbers, out)? => {}
         (kind, Ok([count, seed])) => {
             let known = questions::write_all(kind, *count, *seed, out)?;
             return Ok(Some(true).filter(|_| known));
@@ -98,6 +101,25 @@ fn questions(words: &[&str], out: &mut dyn Write) -> io::Result<Option<bool>> {
         _ => return Ok(None),
     }
     Ok(Some(true))
+}
+
+/// A run of form 2; false where the words name none.
+fn form2_run(word: &str, numbers: &[u64], out: &mut dyn Write) -> io::Result<bool> {
+    let named = word.rsplit_once('-');
+    let named = named.and_then(|(asked, run)| Some((Asked::named(asked)?, run)));
+    match (named, numbers) {
+        (Some((asked, "all")), [kind @ 0..=3]) => {
+            form2_runs::every_request(asked, *kind as u8, 0, 1, out)?
+        }
+        (Some((asked, "all")), [kind @ 0..=3, part, of]) if part < of => {
+            form2_runs::every_request(asked, *kind as u8, *part as usize, *of as usize, out)?
+        }
+        (Some((asked, "within")), [count, seed]) => {
+            form2_runs::within_the_cap(asked, *count, *seed, out)?
+        }
+        _ => return Ok(false),
+    }
+    Ok(true)
 }
 
 /// By n, in how many symmetric cases JK_direct and JK_inmem differ.

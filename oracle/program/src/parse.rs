@@ -1,11 +1,15 @@
 //! The question language: a line becomes a question, or it is none.
 
+use crate::second::Form;
+
 /// A longer line is no question.
 pub const LONGEST_LINE: usize = 2_097_152;
 /// The largest buffer that a question lends, and what the short forms lend.
 pub const LARGEST_BUFFER: usize = 16_777_216;
 /// The most Boys numbers of a question.
 pub const MOST_BOYS: usize = 65_536;
+/// The most prefactors of the term before that a question's cursor holds.
+pub const MOST_BEFORE: usize = 24;
 
 /// Three coordinates and an exponent.
 #[derive(Clone, Copy, Debug, Default, PartialEq)]
@@ -42,6 +46,7 @@ pub struct Lengths {
 #[derive(Clone, Debug, PartialEq)]
 pub enum Question {
     Expand {
+        form: Form,
         kind: u8,
         orders: [u8; 12],
         buffer: usize,
@@ -65,10 +70,21 @@ pub enum Question {
         number: u32,
     },
     List(Vec<u8>),
-    Open(Vec<u8>),
-    Check(Vec<u8>),
+    Open(Form, Vec<u8>),
+    Check(Form, Vec<u8>),
     Scales(Vec<u8>),
-    Next(Cursor, Vec<u8>),
+    Next {
+        form: Form,
+        cursor: Cursor,
+        before: Vec<u8>,
+        roll: Vec<u8>,
+    },
+    Move {
+        to: Form,
+        roll: Vec<u8>,
+        buffer: usize,
+        start: u64,
+    },
     Eval(Evaluation),
     Table(u8, [Centre; 4]),
     JK {
@@ -175,16 +191,8 @@ impl<'a> Words<'a> {
 fn question(bytes: &[u8]) -> Option<Question> {
     let mut words = Words(Some(bytes));
     let question = match words.next()? {
-        b"expand" => {
-            let (kind, orders) = words.request()?;
-            let (buffer, start) = words.room()?;
-            Question::Expand {
-                kind,
-                orders,
-                buffer,
-                start,
-            }
-        }
+        b"expand" => expand(&mut words, Form::One)?,
+        b"expand2" => expand(&mut words, Form::Two)?,
         b"measure" => {
             let (kind, orders) = words.request()?;
             Question::Measure { kind, orders }
@@ -200,18 +208,15 @@ fn question(bytes: &[u8]) -> Option<Question> {
         }
         b"component" => component(&mut words)?,
         b"list" => Question::List(words.roll()?),
-        b"open" => Question::Open(words.roll()?),
-        b"check" => Question::Check(words.roll()?),
+        b"open" => Question::Open(Form::One, words.roll()?),
+        b"open2" => Question::Open(Form::Two, words.roll()?),
+        b"check" => Question::Check(Form::One, words.roll()?),
+        b"check2" => Question::Check(Form::Two, words.roll()?),
         b"scales" => Question::Scales(words.roll()?),
-        b"next" => {
-            let cursor = Cursor {
-                kind: words.byte()?,
-                l: words.byte()?,
-                left: words.number(u32::MAX.into())? as u32,
-                place: words.number(u64::MAX)?,
-            };
-            Question::Next(cursor, words.roll()?)
-        }
+        b"next" => next(&mut words, Form::One)?,
+        b"next2" => next(&mut words, Form::Two)?,
+        b"form1" => moved(&mut words, Form::One)?,
+        b"form2" => moved(&mut words, Form::Two)?,
         b"eval" => eval(&mut words)?,
         b"table" => Question::Table(words.byte()?, words.centres()?),
         b"jk" => jk(&mut words)?,
@@ -222,6 +227,60 @@ fn question(bytes: &[u8]) -> Option<Question> {
         return None;
     }
     Some(question)
+}
+
+fn expand(words: &mut Words, form: Form) -> Option<Question> {
+    let (kind, orders) = words.request()?;
+    let (buffer, start) = words.room()?;
+    Some(Question::Expand {
+        form,
+        kind,
+        orders,
+        buffer,
+        start,
+    })
+}
+
+fn next(words: &mut Words, form: Form) -> Option<Question> {
+    let cursor = Cursor {
+        kind: words.byte()?,
+        l: words.byte()?,
+        left: words.number(u32::MAX.into())? as u32,
+        place: words.number(u64::MAX)?,
+    };
+    let before = match form {
+        Form::One => Vec::new(),
+        Form::Two => before(words)?,
+    };
+    Some(Question::Next {
+        form,
+        cursor,
+        before,
+        roll: words.roll()?,
+    })
+}
+
+/// The prefactors of the term before, up to a slash.
+fn before(words: &mut Words) -> Option<Vec<u8>> {
+    let mut before = Vec::new();
+    loop {
+        match words.next()? {
+            b"/" => return Some(before),
+            _ if before.len() == MOST_BEFORE => return None,
+            word => before.push(whole(word).filter(|&n| n <= 255)? as u8),
+        }
+    }
+}
+
+fn moved(words: &mut Words, to: Form) -> Option<Question> {
+    let roll = words.roll()?;
+    let (buffer, start) = words.room()?;
+    Some(Question::Move {
+        to,
+        roll,
+        buffer,
+        start,
+    })
 }
 
 /// Two shells or four, then the number: told apart by how many words there are.

@@ -1,16 +1,17 @@
 //! Random questions of one kind: ordinary, extreme and wrong ones.
 
+use crate::cursors::{self, Walk};
 use crate::floats::{self, Taste};
 use crate::lines::{append, append_centres, append_float, append_floats, append_room};
 use crate::lines::{numbers, with_roll};
-use crate::parse::{self, LONGEST_LINE, MOST_BOYS};
+use crate::parse::{LONGEST_LINE, MOST_BOYS};
 use crate::random::Random;
-use crate::second::{self, BEFORE, NOW};
-use crate::{matrices, odd_lines, requests, rolls, runs, rust_side};
+use crate::second::{self, Form, NOW};
+use crate::{form2_rolls, matrices, odd_lines, requests, rolls, runs, rust_side};
 use std::io::{self, Write};
 
 /// The kinds of question, as `oracle/ask-both` names them.
-pub const KINDS: [&str; 14] = [
+pub const KINDS: [&str; 20] = [
     "shell",
     "component",
     "expand",
@@ -21,6 +22,12 @@ pub const KINDS: [&str; 14] = [
     "check",
     "scales",
     "next",
+    "expand2",
+    "open2",
+    "check2",
+    "next2",
+    "form2",
+    "form1",
     "eval",
     "table",
     "jk",
@@ -44,7 +51,10 @@ pub fn write_all(kind: &str, count: u64, seed: u64, out: &mut dyn Write) -> io::
         runs::every_component(4, out)?;
     }
     let one_by_one = match kind {
-        "list" | "open" | "check" | "scales" | "next" | "eval" => rolls::tried_one_by_one(),
+        "list" | "open" | "check" | "scales" | "next" | "eval" | "form2" => {
+            rolls::tried_one_by_one()
+        }
+        "open2" | "check2" | "next2" | "form1" => form2_rolls::tried_one_by_one(),
         _ => Vec::new(),
     };
     let most_tried = if count < ALL_TRIED { count / 2 } else { count };
@@ -68,10 +78,12 @@ pub fn write_all(kind: &str, count: u64, seed: u64, out: &mut dyn Write) -> io::
     Ok(true)
 }
 
-/// `expand` with one kind of integral only.
+/// `expand` or `expand2` with one kind of integral only.
 fn fixed_kind(kind: &str) -> Option<u8> {
-    let kind = kind.strip_prefix("expand-kind-")?.parse().ok()?;
-    Some(kind).filter(|&kind| kind <= 4)
+    let (word, kind) = kind.rsplit_once("-kind-")?;
+    let kind = kind.parse().ok()?;
+    let is_known = (word == "expand" || word == "expand2") && kind <= 4;
+    Some(kind).filter(|_| is_known)
 }
 
 /// The last lines but one of a run stand at a limit of the language and one beyond it.
@@ -97,11 +109,20 @@ fn question(random: &mut Random, kind: &str, at: u64) -> Vec<u8> {
             let roll = rolls::any(random);
             about_roll(random, kind, &roll, Walk::Anywhere)
         }
+        "open2" | "check2" | "next2" | "form1" => {
+            let roll = form2_rolls::any(random);
+            about_roll(random, kind, &roll, Walk::Anywhere)
+        }
+        "form2" => {
+            let roll = form2_rolls::any_of_form_1(random);
+            about_roll(random, kind, &roll, Walk::Anywhere)
+        }
         "eval" => eval(random),
         "table" => table(random),
         "jk" => jk(random, at),
         "jkl" => jkl(random, at),
-        _ => expand(random, fixed_kind(kind)),
+        _ if kind.starts_with("expand2") => expand(random, Form::Two, fixed_kind(kind)),
+        _ => expand(random, Form::One, fixed_kind(kind)),
     };
     if random.once_in(50) {
         odd_lines::malformed(random, line)
@@ -110,16 +131,12 @@ fn question(random: &mut Random, kind: &str, at: u64) -> Vec<u8> {
     }
 }
 
-/// Where the cursor of a question stands: where the reading stops, or anywhere, forged or not.
-#[derive(Clone, Copy, PartialEq)]
-enum Walk {
-    ToTheStop,
-    Anywhere,
-}
-
 fn about_roll(random: &mut Random, kind: &str, roll: &[u8], walk: Walk) -> Vec<u8> {
     match kind {
-        "next" => next(random, roll, walk),
+        "next" => cursors::next(random, Form::One, roll, walk),
+        "next2" => cursors::next(random, Form::Two, roll, walk),
+        "form1" => moved(random, Form::One, roll),
+        "form2" => moved(random, Form::Two, roll),
         "eval" => eval_of(random, roll, Taste::Ordinary, true),
         _ => with_roll(kind, roll),
     }
@@ -164,12 +181,32 @@ fn component(random: &mut Random) -> Vec<u8> {
 }
 
 /// A request with a buffer and a start around each boundary.
-fn expand(random: &mut Random, fixed_kind: Option<u8>) -> Vec<u8> {
+fn expand(random: &mut Random, form: Form, fixed_kind: Option<u8>) -> Vec<u8> {
     let (kind, orders) = request(random, fixed_kind);
-    let mut line = numbers("expand", kind, &orders);
+    let word = match form {
+        Form::One => "expand",
+        Form::Two => "expand2",
+    };
+    let mut line = numbers(word, kind, &orders);
     if random.once_in(2) {
-        let need = roll_length(kind as u8, &orders);
+        let need = match form {
+            Form::One => roll_length(kind as u8, &orders),
+            Form::Two => form2_rolls::length_expanded(kind as u8, &orders),
+        };
         append_room(random, &mut line, need);
+    }
+    line
+}
+
+/// A roll to be moved, with a buffer and a start around each boundary.
+fn moved(random: &mut Random, to: Form, roll: &[u8]) -> Vec<u8> {
+    let word = match to {
+        Form::One => "form1",
+        Form::Two => "form2",
+    };
+    let mut line = with_roll(word, roll);
+    if random.once_in(2) {
+        append_room(random, &mut line, form2_rolls::length_moved(to, roll));
     }
     line
 }
@@ -217,74 +254,6 @@ fn roll_length(kind: u8, orders: &[u8; 12]) -> u64 {
         Ok(()) => second::measure(kind, orders).0 as u64,
         Err(_) => 100,
     }
-}
-
-/// A cursor that comes from reading, or a forged one.
-fn next(random: &mut Random, roll: &[u8], walk: Walk) -> Vec<u8> {
-    let length = roll.len() as u64;
-    let (mut kind, mut l, mut left, mut place) = match NOW.open(roll) {
-        Ok(header) => {
-            let mut cursor = parse::Cursor {
-                kind: header.kind,
-                l: header.l,
-                left: header.count,
-                place: header.place as u64,
-            };
-            let steps = match random.below(4) {
-                _ if walk == Walk::ToTheStop => u64::from(header.count),
-                0 => u64::from(header.count),
-                1 => 0,
-                _ => random.below(u64::from(header.count) + 1),
-            };
-            for _ in 0..steps {
-                match NOW.next(cursor, roll) {
-                    Ok(second::Step::Term(_, after)) => cursor = after,
-                    _ => break,
-                }
-            }
-            (
-                u64::from(cursor.kind),
-                u64::from(cursor.l),
-                u64::from(cursor.left),
-                cursor.place,
-            )
-        }
-        Err(_) => (
-            random.below(5),
-            random.below(26),
-            random.below(4),
-            random.below(length + 1),
-        ),
-    };
-    if walk == Walk::Anywhere && random.once_in(2) {
-        match random.below(5) {
-            0 => kind = random.one_of(&[0, 1, 2, 3, 4, 5, 6, 128, 255]),
-            1 => l = random.one_of(&[0, 1, 8, 11, 12, 13, 17, 18, 19, 23, 24, 25, 128, 255]),
-            2 => {
-                let (now, before) = (u64::from(NOW.terms), u64::from(BEFORE.terms));
-                left = random.one_of(&[0, 1, before, before + 1, now, now + 1, (1 << 32) - 1])
-            }
-            3 => place = random.below(length + 3),
-            _ => {
-                place = random.one_of(&[
-                    length,
-                    length + 1,
-                    1 << 32,
-                    (1 << 32) + 1,
-                    1 << 63,
-                    u64::MAX,
-                    u64::MAX - 1,
-                ])
-            }
-        }
-    }
-    let mut line = b"next".to_vec();
-    for number in [kind, l, left, place] {
-        append(&mut line, number);
-    }
-    line.push(b' ');
-    parse::write_roll(&mut line, roll);
-    line
 }
 
 /// An evaluation: the Rust's own list and aux, or other terms or another aux, or a wrong one.

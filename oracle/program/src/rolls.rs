@@ -3,7 +3,7 @@
 use crate::random::Random;
 use crate::requests::{self, AT_THE_LISTING, LONG};
 use crate::rust_side;
-use crate::second::{self, Term, BEFORE, NOW};
+use crate::second::{self, Form, Term, BEFORE, NOW};
 
 /// The numbers of a legal roll, in order; what the terms say is left to chance.
 fn numbers(random: &mut Random) -> Vec<u32> {
@@ -43,16 +43,24 @@ const SCALES: [u32; 12] = [
     (1 << 7) - 1,
 ];
 
-fn term_numbers(random: &mut Random, list: &mut Vec<u32>, kind: u8, l: u32) {
-    let scale = match random.below(4) {
+pub fn scale(random: &mut Random) -> u32 {
+    match random.below(4) {
         0 => random.from_to(1, NOW.scale.into()) as u32,
         1 => random.one_of(&SCALES),
         _ => random.from_to(1, 4) as u32,
-    };
-    let boys = match kind {
+    }
+}
+
+pub fn boys_order(random: &mut Random, kind: u8, l: u32) -> u32 {
+    match kind {
         2 | 4 => random.from_to(0, l.into()) as u32,
         _ => 0,
-    };
+    }
+}
+
+fn term_numbers(random: &mut Random, list: &mut Vec<u32>, kind: u8, l: u32) {
+    let scale = scale(random);
+    let boys = boys_order(random, kind, l);
     let most = if kind == 1 { l + 1 } else { l };
     let count = match random.below(3) {
         0 => u64::from(most),
@@ -65,7 +73,7 @@ fn term_numbers(random: &mut Random, list: &mut Vec<u32>, kind: u8, l: u32) {
     }
 }
 
-fn write(list: &[u32]) -> Vec<u8> {
+pub fn write(list: &[u32]) -> Vec<u8> {
     let mut out = Vec::new();
     for &number in list {
         second::write_number(&mut out, number);
@@ -116,9 +124,8 @@ pub fn of_largest_scales(most: usize) -> Vec<u8> {
     of((most - header) / each)
 }
 
-/// A legal roll with one number changed, mostly by little, or to a limit.
-fn one_number_changed(random: &mut Random) -> Vec<u8> {
-    let mut list = numbers(random);
+/// A roll of these numbers with one changed, mostly by little, or to a limit.
+pub fn one_number_changed(random: &mut Random, mut list: Vec<u32>) -> Vec<u8> {
     let at = random.index(list.len().min(40));
     list[at] = match random.below(4) {
         0 => list[at].wrapping_add(1),
@@ -129,11 +136,10 @@ fn one_number_changed(random: &mut Random) -> Vec<u8> {
     write(&list)
 }
 
-/// A legal roll with an order, the count, or a number of its first term at its limit or one
-/// beyond.
-fn one_number_at_its_limit(random: &mut Random) -> Vec<u8> {
-    let mut list = numbers(random);
-    let used = second::orders_used(list[0] as u8);
+/// A roll of these numbers with an order, the count, or a number of its first term at its limit
+/// or one beyond.
+pub fn one_number_at_its_limit(random: &mut Random, form: Form, mut list: Vec<u32>) -> Vec<u8> {
+    let used = second::orders_used(list[0] as u8 - form.added());
     let l: u32 = list[1..=used].iter().sum();
     let order = 1 + random.index(used);
     let first_of_centre = order - (order - 1) % 3;
@@ -146,16 +152,16 @@ fn one_number_at_its_limit(random: &mut Random) -> Vec<u8> {
         4 => (used + 2, BEFORE.scale),
         5 => (used + 2, u32::MAX - 1),
         6 => (used + 3, l),
-        // Kinetic may have one more.
+        // Kinetic may have one more. A shared length stands before it in form 2.
+        _ if form == Form::Two => (used + 5, l + random.below(2) as u32),
         _ => (used + 4, l + random.below(2) as u32),
     };
     list[at] = limit + random.below(2) as u32;
     write(&list)
 }
 
-/// A legal roll with one number in another form than the shortest, or too large.
-fn one_long_number(random: &mut Random) -> Vec<u8> {
-    let list = numbers(random);
+/// A roll of these numbers with one not in its shortest form, or too large.
+pub fn one_long_number(random: &mut Random, list: &[u32]) -> Vec<u8> {
     let at = random.index(list.len().min(40));
     let mut out = write(&list[..at]);
     let mut number = Vec::new();
@@ -184,13 +190,16 @@ fn one_long_number(random: &mut Random) -> Vec<u8> {
     out
 }
 
-/// Bytes set, cut, inserted, doubled, left out or added.
-fn damaged(random: &mut Random) -> Vec<u8> {
-    let mut roll = if random.once_in(2) {
+fn fresh_or_legal(random: &mut Random) -> Vec<u8> {
+    if random.once_in(2) {
         fresh(random)
     } else {
         legal(random)
-    };
+    }
+}
+
+/// Bytes set, cut, inserted, doubled, left out or added.
+pub fn damaged(random: &mut Random, mut roll: Vec<u8>) -> Vec<u8> {
     for _ in 0..random.from_to(1, 2) {
         let at = random.index(roll.len().max(1));
         match random.below(7) {
@@ -208,7 +217,7 @@ fn damaged(random: &mut Random) -> Vec<u8> {
     roll
 }
 
-fn random_bytes(random: &mut Random) -> Vec<u8> {
+pub fn random_bytes(random: &mut Random) -> Vec<u8> {
     let length = random.below(40);
     let most = random.one_of(&[1, 2, 5, 24, 128, 256]);
     (0..length).map(|_| random.below(most) as u8).collect()
@@ -264,7 +273,10 @@ pub fn to_be_cut() -> Vec<Vec<u8>> {
         let roll = match rolls.len() % 5 {
             0 | 1 => fresh(&mut random),
             2 | 3 => legal(&mut random),
-            _ => one_long_number(&mut random),
+            _ => {
+                let list = numbers(&mut random);
+                one_long_number(&mut random, &list)
+            }
         };
         if roll.len() <= LONGEST_CUT {
             rolls.push(roll);
@@ -283,19 +295,23 @@ pub fn tried_one_by_one() -> Vec<Vec<u8>> {
         }
     }
     for (kind, orders) in &SMALL {
-        let roll = rust_side::roll(*kind, orders);
-        for cut in 0..=roll.len() {
-            rolls.push(roll[..cut].to_vec());
-        }
-        for at in 0..roll.len() {
-            for byte in 0..=255 {
-                let mut changed = roll.clone();
-                changed[at] = byte;
-                rolls.push(changed);
-            }
-        }
+        cut_and_changed(&rust_side::roll(*kind, orders), &mut rolls);
     }
     rolls
+}
+
+/// A roll cut at each place, and with each byte set to each value.
+pub fn cut_and_changed(roll: &[u8], rolls: &mut Vec<Vec<u8>>) {
+    for cut in 0..=roll.len() {
+        rolls.push(roll[..cut].to_vec());
+    }
+    for at in 0..roll.len() {
+        for byte in 0..=255 {
+            let mut changed = roll.to_vec();
+            changed[at] = byte;
+            rolls.push(changed);
+        }
+    }
 }
 
 /// Any roll, good or bad.
@@ -319,10 +335,22 @@ pub fn any(random: &mut Random) -> Vec<u8> {
         }
         24..=1_000 => fresh(random),
         1_001..=2_300 => legal(random),
-        2_301..=3_200 => one_number_changed(random),
-        3_201..=3_700 => one_number_at_its_limit(random),
-        3_701..=4_500 => one_long_number(random),
-        4_501..=5_500 => damaged(random),
+        2_301..=3_200 => {
+            let list = numbers(random);
+            one_number_changed(random, list)
+        }
+        3_201..=3_700 => {
+            let list = numbers(random);
+            one_number_at_its_limit(random, Form::One, list)
+        }
+        3_701..=4_500 => {
+            let list = numbers(random);
+            one_long_number(random, &list)
+        }
+        4_501..=5_500 => {
+            let roll = fresh_or_legal(random);
+            damaged(random, roll)
+        }
         _ => random_bytes(random),
     }
 }

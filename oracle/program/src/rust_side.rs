@@ -1,7 +1,7 @@
 //! What the unchanged Rust answers: shells, terms, values, tables, J and K.
 
 use crate::parse::Centre;
-use crate::second::{self, Header, Term, NOW};
+use crate::second::{self, Form, Header, Term, NOW};
 use ndarray::{Array, Ix2};
 use rchem::integrals::{given, os86};
 use rchem::{basis, direct, shell};
@@ -65,9 +65,13 @@ fn whole_term(term: rchem::Term) -> Term {
     }
 }
 
-/// The roll of the Rust's own terms.
+/// The roll of the Rust's own terms, in form 1.
 pub fn roll(kind: u8, orders: &[u8; 12]) -> Vec<u8> {
-    second::write_roll(kind, orders, &terms(kind, orders))
+    roll_in(Form::One, kind, orders)
+}
+
+pub fn roll_in(form: Form, kind: u8, orders: &[u8; 12]) -> Vec<u8> {
+    second::write_roll_in(form, kind, orders, &terms(kind, orders))
 }
 
 /// The length of that roll and the number of its terms.

@@ -2,10 +2,14 @@
 
 use oracle::answer::answer_all;
 use oracle::diff::class;
-use oracle::parse::{self, write_roll, Line, Question};
+use oracle::form2_rolls;
+use oracle::form2_runs::{self, Asked};
+use oracle::parse::{self, write_roll, Line, Question, LONGEST_LINE};
 use oracle::questions::{write_all, KINDS};
+use oracle::requests;
 use oracle::rolls::{to_be_cut, tried_one_by_one};
 use oracle::runs;
+use oracle::second::Form;
 use std::collections::BTreeSet;
 use std::io::{self, Write};
 
@@ -32,7 +36,7 @@ fn every_kind_of_answer_comes_up() {
         let expected: &[&str] = match kind {
             "shell" => &["shell", "refused  2", "refused  5", "refused  6"],
             "component" => &["component", "refused  2", "refused 13"],
-            "expand" => &[
+            "expand" | "expand2" => &[
                 "roll",
                 "refused  1",
                 "refused  2",
@@ -57,8 +61,15 @@ fn every_kind_of_answer_comes_up() {
             ],
             "scales" => &["scales", "refused  7", "refused 14"],
             "list" => &["listing", "refused  6", "refused  7", "refused 14"],
-            "open" | "check" => &["opened", "refused  7", "refused 14"],
-            "next" => &["term", "end", "refused  7", "refused 14"],
+            "open" | "check" | "open2" | "check2" => &["opened", "refused  7", "refused 14"],
+            "next" | "next2" => &["term", "end", "refused  7", "refused 14"],
+            "form1" | "form2" => &[
+                "roll",
+                "refused  5",
+                "refused  6",
+                "refused  7",
+                "refused 14",
+            ],
             "eval" => &[
                 "value",
                 "refused  7",
@@ -172,6 +183,24 @@ fn rolls_that_are_tried_one_by_one() {
     }
 }
 
+/// checks/questions counts on this number.
+#[test]
+fn rolls_of_form_2_that_are_tried_one_by_one() {
+    let tried = form2_rolls::tried_one_by_one();
+    let cut: usize = form2_rolls::to_be_cut().iter().map(Vec::len).sum();
+    assert_eq!((form2_rolls::to_be_cut().len(), cut), (100, 3_291));
+    // The small rolls have 19, 19, 19, 22 and 25 bytes.
+    let small = 19 + 19 + 19 + 22 + 25;
+    assert_eq!(tried.len(), cut + 256 * small + small + 5);
+    let asked = questions("check2", 50_000, 1);
+    let mut line = b"check2 ".to_vec();
+    for (asked, roll) in lines(&asked).into_iter().zip(&tried) {
+        line.truncate(7);
+        write_roll(&mut line, roll);
+        assert!(asked == line);
+    }
+}
+
 #[test]
 fn a_seed_gives_the_same_questions() {
     assert!(questions("eval", 200, 5) == questions("eval", 200, 5));
@@ -236,4 +265,44 @@ fn requests_within_the_cap_and_around_it() {
     assert!(classes(&within).iter().eq(["roll"]));
     assert_eq!(lines(&around).len(), 100);
     assert!(classes(&around).iter().eq(["measured", "refused  4"]));
+}
+
+/// Of every request its roll, moved; a remark where it is too long for a line.
+#[test]
+fn every_expansion_is_moved_once() {
+    for asked in [
+        Asked::Expand2,
+        Asked::Move(Form::One),
+        Asked::Move(Form::Two),
+    ] {
+        let whole = run(|out| form2_runs::every_request(asked, 0, 0, 1, out));
+        let different: BTreeSet<&[u8]> = lines(&whole).into_iter().collect();
+        assert_eq!(different.len(), 7_056);
+        assert!(answers(&whole)
+            .split(|&b| b == b'\n')
+            .all(|line| line.is_empty() || line.starts_with(b"roll ")));
+    }
+    // Nuclear Ax6 Bx6 has 4,665,226 bytes in form 1.
+    let long = [6, 0, 0, 6, 0, 0, 0, 0, 0, 0, 0, 0];
+    let at = requests::every(2).iter().position(|&orders| orders == long);
+    let at = at.expect("it is a request");
+    let remark = run(|out| form2_runs::every_request(Asked::Move(Form::Two), 2, at, 7_056, out));
+    assert!(remark == b"# too long for a line: kind 2 6 0 0 6 0 0 0 0 0 0 0 0\n");
+}
+
+#[test]
+fn coulomb_moved_within_the_cap() {
+    for word in ["expand2", "form1", "form2"] {
+        let asked = Asked::named(word).expect("a run of form 2");
+        let text = run(|out| form2_runs::within_the_cap(asked, 40, 1, out));
+        assert_eq!(lines(&text).len(), 40);
+        assert!(lines(&text)
+            .iter()
+            .all(|line| line.len() <= LONGEST_LINE && line.starts_with(word.as_bytes())));
+        let answered = answers(&text);
+        assert!(lines(&answered)
+            .iter()
+            .all(|line| line.starts_with(b"roll ")));
+    }
+    assert!(Asked::named("expand").is_none());
 }

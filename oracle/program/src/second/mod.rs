@@ -1,16 +1,19 @@
 //! A second, independent reading of documents 01 and 02, in plain Rust.
 //!
 //! Everything that os86.rs, shell.rs and basis.rs do not know stands here: limits and
-//! refusals, the roll and its reader, the cursor, the listing, the capped count of histories
-//! and the checks of an evaluation. Nothing here calls the unchanged Rust. The step rules, the
-//! geometry and the sums of J and K are here too, so that the two can be held against each other.
+//! refusals, the roll in its two forms, the reader and the cursor, the moves, the listing, the
+//! capped count of histories and the checks of an evaluation. Nothing here calls the unchanged
+//! Rust. The step rules, the geometry and the sums of J and K are here too, so that the two can
+//! be held against each other.
 
 mod census;
 mod checks;
+mod form;
 mod geometry;
 mod limits;
 mod listing;
 mod matrices;
+mod moves;
 mod refusal;
 mod roll;
 mod steps;
@@ -19,11 +22,14 @@ mod totals;
 pub use census::{facts, totals, Facts};
 pub use checks::{check_component, check_evaluation, check_matrices, check_measured};
 pub use checks::{check_request, check_results, check_room, check_shell, check_table, check_total};
+pub use form::{shared_length, Form};
 pub use geometry::geometry_and_table;
 pub use limits::{orders_used, table_size, Limits, BEFORE, NOW};
 pub use listing::listing;
 pub use matrices::j_and_k;
+pub use moves::moved;
 pub use refusal::{refusal, Refusal};
-pub use roll::{measure, read_number, write_number, write_roll, Header, Step, Unread};
+pub use roll::{fresh_roll, measure, write_number, write_roll, write_roll_in};
+pub use roll::{read_number, Header, Step, Unread};
 pub use steps::{count_histories, terms, Term};
 pub use totals::{by_hand, is_claimed, scales, total};

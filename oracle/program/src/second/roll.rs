@@ -1,5 +1,6 @@
-//! The roll: its writer, its reader and the cursor.
+//! The roll in either form: its writer, its reader and the cursor.
 
+use super::form::{shared_length, Form};
 use super::limits::{most_boys, most_prefactors, orders_used, table_size, Limits};
 use super::refusal::{cut, fault, Refusal};
 use super::steps::{each_term, Term};
@@ -14,29 +15,57 @@ pub fn write_number(out: &mut Vec<u8>, mut number: u32) {
     out.push(number as u8);
 }
 
-fn write_term(out: &mut Vec<u8>, term: &Term) {
+/// A term after one that has the prefactors `before`.
+fn write_term(out: &mut Vec<u8>, form: Form, before: &[u8], term: &Term) {
     write_number(out, term.scale);
     write_number(out, term.boys.into());
-    write_number(out, term.prefactors.len() as u32);
-    for &prefactor in &term.prefactors {
+    let mut further = &term.prefactors[..];
+    if form == Form::Two {
+        let shared = shared_length(before, further);
+        write_number(out, shared as u32);
+        further = &further[shared..];
+    }
+    write_number(out, further.len() as u32);
+    for &prefactor in further {
         write_number(out, prefactor.into());
     }
 }
 
-fn write_header(out: &mut Vec<u8>, kind: u8, orders: &[u8; 12], count: usize) {
-    write_number(out, kind.into());
+fn write_header(out: &mut Vec<u8>, form: Form, kind: u8, orders: &[u8; 12], count: usize) {
+    write_number(out, (kind + form.added()).into());
     for &order in &orders[..orders_used(kind)] {
         write_number(out, order.into());
     }
     write_number(out, count as u32);
 }
 
+/// In form 1.
 pub fn write_roll(kind: u8, orders: &[u8; 12], terms: &[Term]) -> Vec<u8> {
+    write_roll_in(Form::One, kind, orders, terms)
+}
+
+pub fn write_roll_in(form: Form, kind: u8, orders: &[u8; 12], terms: &[Term]) -> Vec<u8> {
     let mut out = Vec::new();
-    write_header(&mut out, kind, orders, terms.len());
+    write_header(&mut out, form, kind, orders, terms.len());
+    let mut before: &[u8] = &[];
     for term in terms {
-        write_term(&mut out, term);
+        write_term(&mut out, form, before, term);
+        before = &term.prefactors;
     }
+    out
+}
+
+/// The roll of a request's terms by the step rules, for orders within the limits and the cap.
+pub fn fresh_roll(form: Form, kind: u8, orders: &[u8; 12]) -> Vec<u8> {
+    let (mut terms, mut before, mut count) = (Vec::new(), Vec::new(), 0);
+    each_term(kind, orders, &mut |term| {
+        write_term(&mut terms, form, &before, term);
+        before.clone_from(&term.prefactors);
+        count += 1;
+    });
+    let mut out = Vec::new();
+    write_header(&mut out, form, kind, orders, count);
+    out.append(&mut terms);
     out
 }
 
@@ -54,7 +83,7 @@ fn term_length(term: &Term) -> usize {
     number_length(term.scale) + length(&term.boys) + number_length(count) + prefactors
 }
 
-/// The length of a request's roll and the number of its terms, for orders within the limits
+/// The length of a request's form 1 roll and the number of its terms, for orders within the limits
 /// and the cap.
 pub fn measure(kind: u8, orders: &[u8; 12]) -> (usize, usize) {
     let (mut length, mut count) = (0, 0);
@@ -63,7 +92,7 @@ pub fn measure(kind: u8, orders: &[u8; 12]) -> (usize, usize) {
         count += 1;
     });
     let mut header = Vec::new();
-    write_header(&mut header, kind, orders, count);
+    write_header(&mut header, Form::One, kind, orders, count);
     (header.len() + length, count)
 }
 
@@ -87,13 +116,24 @@ impl<'a> Reader<'a> {
         }
     }
 
-    fn term(&mut self, kind: u8, l: u32) -> Result<Term, Refusal> {
+    /// A term after one that has the prefactors `before`, no more of them than a term may have.
+    fn term(&mut self, form: Form, kind: u8, l: u32, before: &[u8]) -> Result<Term, Refusal> {
         let scale = self.number(1, self.limits.scale)?;
         let boys = self.number(0, most_boys(kind, l))? as u8;
-        let count = self.number(0, most_prefactors(kind, l))?;
-        let mut prefactors = Vec::new();
-        for _ in 0..count {
-            prefactors.push(self.number(0, table_size(kind) as u32 - 1)? as u8);
+        let shared = match form {
+            Form::One => 0,
+            Form::Two => self.number(0, before.len() as u32)?,
+        };
+        let further = self.number(0, most_prefactors(kind, l) - shared)?;
+        let mut prefactors = before[..shared as usize].to_vec();
+        for at in 0..further {
+            let place = self.place;
+            let prefactor = self.number(0, table_size(kind) as u32 - 1)? as u8;
+            // The first further one goes on as the term before does: more is shared.
+            if form == Form::Two && at == 0 && before.get(shared as usize) == Some(&prefactor) {
+                return Err(fault(place));
+            }
+            prefactors.push(prefactor);
         }
         Ok(Term {
             scale,
@@ -149,12 +189,18 @@ pub enum Step {
     End,
 }
 
-/// What a cabinet that has these limits says of a roll.
+/// What a cabinet that has these limits says of a roll. Each form's reader refuses the other
+/// form at its first number.
 impl Limits {
-    /// The header alone.
+    /// The header alone, form 1.
     pub fn open(&self, roll: &[u8]) -> Result<Header, Refusal> {
+        self.open_in(Form::One, roll)
+    }
+
+    pub fn open_in(&self, form: Form, roll: &[u8]) -> Result<Header, Refusal> {
         let mut reader = self.reader(roll, 0);
-        let kind = reader.number(0, 4)? as u8;
+        let added: u32 = form.added().into();
+        let kind = (reader.number(added, added + 4)? - added) as u8;
         let mut orders = [0; 12];
         for at in 0..orders_used(kind) {
             let first_of_centre = at - at % 3;
@@ -171,13 +217,18 @@ impl Limits {
         })
     }
 
-    /// The whole roll judged.
+    /// The whole roll judged, form 1.
     pub fn check(&self, roll: &[u8]) -> Result<(Header, Vec<Term>), Refusal> {
-        let header = self.open(roll)?;
+        self.check_in(Form::One, roll)
+    }
+
+    pub fn check_in(&self, form: Form, roll: &[u8]) -> Result<(Header, Vec<Term>), Refusal> {
+        let header = self.open_in(form, roll)?;
         let mut reader = self.reader(roll, header.place);
-        let mut terms = Vec::new();
+        let mut terms: Vec<Term> = Vec::new();
         for _ in 0..header.count {
-            terms.push(reader.term(header.kind, header.l.into())?);
+            let before = terms.last().map_or(&[][..], |term| &term.prefactors);
+            terms.push(reader.term(form, header.kind, header.l.into(), before)?);
         }
         if reader.place < roll.len() {
             return Err(fault(reader.place));
@@ -185,11 +236,21 @@ impl Limits {
         Ok((header, terms))
     }
 
-    /// One step of the cursor, forged or not.
+    /// One step of the cursor, forged or not, form 1.
     pub fn next(&self, cursor: Cursor, roll: &[u8]) -> Result<Step, Refusal> {
-        let forged =
-            cursor.kind > 4 || cursor.l > self.l(cursor.kind) || cursor.place > roll.len() as u64;
-        if forged {
+        self.next_in(Form::One, cursor, &[], roll)
+    }
+
+    /// One step. A cursor of form 2 also holds the prefactors of the term before, which may be
+    /// forged too; one of form 1 has none.
+    pub fn next_in(
+        &self,
+        form: Form,
+        cursor: Cursor,
+        before: &[u8],
+        roll: &[u8],
+    ) -> Result<Step, Refusal> {
+        if self.is_forged(cursor, before, roll.len()) {
             return Err(Refusal {
                 number: 7,
                 place: cursor.place,
@@ -204,13 +265,23 @@ impl Limits {
             };
         }
         let mut reader = self.reader(roll, place);
-        let term = reader.term(cursor.kind, cursor.l.into())?;
+        let term = reader.term(form, cursor.kind, cursor.l.into(), before)?;
         let after = Cursor {
             left: cursor.left - 1,
             place: reader.place as u64,
             ..cursor
         };
         Ok(Step::Term(term, after))
+    }
+
+    /// No reading of a roll of this length comes to such a cursor.
+    fn is_forged(&self, cursor: Cursor, before: &[u8], length: usize) -> bool {
+        let Cursor { kind, l, place, .. } = cursor;
+        kind > 4
+            || l > self.l(kind)
+            || place > length as u64
+            || before.len() > most_prefactors(kind, l.into()) as usize
+            || before.iter().any(|&p| usize::from(p) >= table_size(kind))
     }
 
     fn reader<'a>(&'a self, roll: &'a [u8], place: usize) -> Reader<'a> {
