@@ -2,6 +2,7 @@
 //! its own, then the table or the picture from what was measured, on standard input.
 
 mod components;
+mod forms;
 mod matrices;
 mod measure;
 mod numbers;

@@ -1,6 +1,7 @@
 //! The table: ratios of both sides, natively beside the goals.
 
 use crate::components::{self, COUNT};
+use crate::forms;
 use crate::matrices::{self, SIZES};
 use crate::measure::Row;
 use crate::totals;
@@ -165,6 +166,27 @@ fn print_totals() -> Result<(), String> {
     Ok(())
 }
 
+/// A move may take three times the time of xew_check of the roll in form 1; the writer of form 2 no longer than form 1's.
+fn print_forms(rows: &[&Row]) -> Result<(), String> {
+    heading("two forms | form 1, bytes | form 2, bytes | ratio | xew_expand, ns a term | xew_expand2 | xew_check | xew_to_form2, times check | xew_to_form1, times check");
+    for row in rows {
+        let took = forms::times(&row.request, Duration::from_millis(100))?;
+        println!(
+            "| {} | {} | {} | {:.3} | {:.1} | {:.1} | {:.1} | {:.2} | {:.2} |",
+            row.request.title(),
+            took.bytes[0],
+            took.bytes[1],
+            took.bytes[1] / took.bytes[0],
+            took.written[0] / took.terms,
+            took.written[1] / took.terms,
+            took.check / took.terms,
+            took.moved[0] / took.check,
+            took.moved[1] / took.check
+        );
+    }
+    Ok(())
+}
+
 pub fn print(rows: &[Row], has_goals: bool) -> Result<(), String> {
     let table = Table { has_goals };
     let (accepted, refused): (Vec<&Row>, Vec<&Row>) = rows.iter().partition(|row| row.terms > 0.0);
@@ -180,5 +202,6 @@ pub fn print(rows: &[Row], has_goals: bool) -> Result<(), String> {
     table.print_refusals(&refused, time);
     table.print_components();
     print_matrices()?;
+    print_forms(&accepted)?;
     print_totals()
 }
