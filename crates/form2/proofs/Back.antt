@@ -49,7 +49,7 @@ below-drop table zero ps b = b
 below-drop table (suc n) [] b = tt
 below-drop table (suc n) (p ∷ ps) b = below-drop table n ps (b .1)
 
-below-further : (table : ℕ) (earlier ps : List ℕ) → Below table ps → Below table (furtherOf earlier ps)
+pub below-further : (table : ℕ) (earlier ps : List ℕ) → Below table ps → Below table (furtherOf earlier ps)
 unfolding furtherOf
 below-further table earlier ps b = below-drop table (shared earlier ps) ps b
 

@@ -95,28 +95,30 @@ sizing-first s at terms k l small =
 pub sizing-may : (s : List ℕ) (at terms : ℕ) (k : Kind) (l : ℕ) (values : List ℕ) (count place left n : ℕ) → Sizing s at terms k l values count place left n → AfterMay k l count
 sizing-may s at terms k l values count place left n z = record { small = z .small; few = z .few }
 
-turn : (left : ℕ) (k : Kind) (l : ℕ) (earlier s : List ℕ) (place : ℕ) (x : Reading Term) → 0 < left → termAfter s place k l earlier ≡ x → termsAfter s place left k l earlier ≡ andThen x (λ t next. before (t ∷ []) (termsAfter s next (left - 1) k l (t .prefactors)))
+pub terms-turn2 : (left : ℕ) (k : Kind) (l : ℕ) (earlier s : List ℕ) (place : ℕ) (x : Reading Term) → 0 < left → termAfter s place k l earlier ≡ x → termsAfter s place left k l earlier ≡ andThen x (λ t next. before (t ∷ []) (termsAfter s next (left - 1) k l (t .prefactors)))
 unfolding termsAfter
-turn zero k l earlier s place x some e = absurd (not-suc-le-zero some)
-turn (suc left) k l earlier s place x some e = let less : suc left - 1 ≡ left = omega arith in rw (less, e)
+terms-turn2 zero k l earlier s place x some e = absurd (not-suc-le-zero some)
+terms-turn2 (suc left) k l earlier s place x some e = let less : suc left - 1 ≡ left = omega arith in rw (less, e)
 
 size-more : (n : ℕ) (t : Term) (r : Reading (List Term)) → sizePlus n (before (t ∷ []) r) ≡ sizePlus (n + length (termBytes t)) r
 unfolding termsBytes
 size-more n t (got ts end) = let sum : n + length (termBytes t ++ termsBytes ts) ≡ n + length (termBytes t) + length (termsBytes ts) = omega (arith, length-append (termBytes t) (termsBytes ts)) in ap size.Bytes sum
 size-more n t (refused r place) = refl
 
-module _ (s : List ℕ) (at terms : ℕ) (k : Kind) (l : ℕ) (values : List ℕ) (count place left n : ℕ) (read : ReadAfter) (z : Sizing s at terms k l values count place left n) (some : 0 < left) (is : read ≡ heldAfter values (termAfter s place k l (take count values))) where
-  -- what was read is a term, its prefactors stand in front
-  record Read (m next : ℕ) : Type 0 where
+-- what was read is a term; its prefactors stand in front
+module _ (s : List ℕ) (k : Kind) (l : ℕ) (values : List ℕ) (count place : ℕ) (read : ReadAfter) (small : l ≤ mostL k) (long : length values ≡ mostL·any) (fits : EarlierFits k l (take count values)) (is : read ≡ heldAfter values (termAfter s place k l (take count values))) where
+  pub record Read (m next : ℕ) : Type 0 where
     pub term : Term
     pub reads : termAfter s place k l (take count values) ≡ got term next
     pub count-is : m ≡ length (term .prefactors)
     pub scale : read .scale ≡ term .scale
     pub boys : read .boys ≡ term .boys
-    pub values-is : read .values ≡ sets values 0 (term .prefactors)
-    pub fits : TermFits k l term
+    pub kept : length (read .values) ≡ mostL·any
+    pub fit : TermFits k l term
+    pub few : m ≤ mostL·any
+    pub front : take m (read .values) ≡ term .prefactors
 
-  was-read : (m next : ℕ) → read .found ≡ field.Is m next → Read m next
+  pub was-read : (m next : ℕ) → read .found ≡ field.Is m next → Read m next
   was-read m next e = by (termAfter s place k l (take count values)) refl
     where
       by : (x : Reading Term) → termAfter s place k l (take count values) ≡ x → Read m next
@@ -124,51 +126,65 @@ module _ (s : List ℕ) (at terms : ℕ) (k : Kind) (l : ℕ) (values : List ℕ
           let read-is : read ≡ heldAfter values (got t end) = is ∙ ap (heldAfter values) reads in
           let found = ap (λ (r : ReadAfter). r .found) read-is in
           let same : end ≡ next = cc in
+          let ps = t .prefactors in
+          let number : m ≡ length ps = cc in
+          let values-is : read .values ≡ sets values 0 ps = ap (λ (r : ReadAfter). r .values) read-is in
+          let fit = term-fits2 k l (take count values) s place t end fits reads in
+          let few : m ≤ mostL·any = omega (arith, fit .count, few-prefactors k l small) in
           record {
             term = t;
             reads = rw same at reads;
-            count-is = cc;
+            count-is = number;
             scale = ap (λ (r : ReadAfter). r .scale) read-is;
             boys = ap (λ (r : ReadAfter). r .boys) read-is;
-            values-is = ap (λ (r : ReadAfter). r .values) read-is;
-            fits = term-fits2 k l (take count values) s place t end (z .fits) reads;
+            kept = ap length values-is ∙ length-sets values 0 ps ∙ long;
+            fit = fit;
+            few = few;
+            front = ap (take m) (values-is ∙ sets-eq ps values 0 (omega arith)) ∙ take-at ps (drop (0 + length ps) values) m (sym number);
           }
       by (refused r p) reads =
           let found = ap (λ (r : ReadAfter). r .found) (is ∙ ap (heldAfter values) reads) in
           absurd (clash (cc))
 
-  pub read-few : (m next : ℕ) → read .found ≡ field.Is m next → m ≤ mostL·any
-  read-few m next e = let r = was-read m next e in omega (arith, r .count-is, r .fits .count, few-prefactors k l (z .small))
+  -- a refusal that was read
+  pub was-refused : (r wrong : ℕ) → read .found ≡ field.Refused r wrong → termAfter s place k l (take count values) ≡ refused r wrong
+  was-refused r wrong e = by (termAfter s place k l (take count values)) refl
+    where
+      by : (x : Reading Term) → termAfter s place k l (take count values) ≡ x → termAfter s place k l (take count values) ≡ refused r wrong
+      by (got t end) reads =
+          let found = ap (λ (r : ReadAfter). r .found) (is ∙ ap (heldAfter values) reads) in
+          absurd (clash (cc))
+      by (refused q p) reads =
+          let found = ap (λ (r : ReadAfter). r .found) (is ∙ ap (heldAfter values) reads) in
+          let number : q ≡ r = cc in
+          let there : p ≡ wrong = cc in
+          rw (number, there) at reads
 
-  in-front : (m next : ℕ) (r : Read m next) → m ≤ mostL·any → take m (read .values) ≡ r .term .prefactors
-  in-front m next r few =
-      let ps = r .term .prefactors in
-      let same = r .count-is in
-      let long = z .long in
-      ap (take m) (r .values-is ∙ sets-eq ps values 0 (omega arith)) ∙ take-at ps (drop (0 + length ps) values) m (sym same)
+module _ (s : List ℕ) (at terms : ℕ) (k : Kind) (l : ℕ) (values : List ℕ) (count place left n : ℕ) (read : ReadAfter) (z : Sizing s at terms k l values count place left n) (some : 0 < left) (is : read ≡ heldAfter values (termAfter s place k l (take count values))) where
+  pub read-few : (m next : ℕ) → read .found ≡ field.Is m next → m ≤ mostL·any
+  read-few m next e = was-read s k l values count place read (z .small) (z .long) (z .fits) is m next e .few
 
   pub sizing-more : (m next v : ℕ) → read .found ≡ field.Is m next → v ≡ termLength (read .scale) (read .boys) m → Sizing s at terms k l (read .values) m next (left - 1) (n + v)
   sizing-more m next v e size-is =
-      let r = was-read m next e in
+      let r = was-read s k l values count place read (z .small) (z .long) (z .fits) is m next e in
       let t = r .term in
-      let few = read-few m next e in
-      let front = in-front m next r few in
-      let fit = r .fits in
+      let fit = r .fit in
       let length-of : v ≡ length (termBytes t) = size-is ∙ length-same (read .scale) (read .boys) m (t .scale) (t .boys) (length (t .prefactors)) (r .scale) (r .boys) (r .count-is) ∙ sym (term-length k l t fit) in
       let inside = z .inside in
       let bound = z .bound in
+      let few = r .few in
       record {
         inside = omega arith;
         small = z .small;
-        long = ap length (r .values-is) ∙ length-sets values 0 (t .prefactors) ∙ z .long;
+        long = r .kept;
         few = omega (arith, r .count-is, fit .count);
-        fits = rw front (term-earlier k l t fit);
+        fits = rw (r .front) (term-earlier k l t fit);
         bound = omega (arith, size-is, length-small (read .scale) (read .boys) m);
         whole =
-            ap (λ (ps : List ℕ). sizePlus (n + v) (termsAfter s next (left - 1) k l ps)) front
+            ap (λ (ps : List ℕ). sizePlus (n + v) (termsAfter s next (left - 1) k l ps)) (r .front)
             ∙ ap (λ (w : ℕ). sizePlus (n + w) (termsAfter s next (left - 1) k l (t .prefactors))) length-of
             ∙ sym (size-more n t (termsAfter s next (left - 1) k l (t .prefactors)))
-            ∙ ap (sizePlus n) (sym (turn left k l (take count values) s place (got t next) some (r .reads)))
+            ∙ ap (sizePlus n) (sym (terms-turn2 left k l (take count values) s place (got t next) some (r .reads)))
             ∙ z .whole;
       }
 
@@ -178,17 +194,9 @@ module _ (s : List ℕ) (at terms : ℕ) (k : Kind) (l : ℕ) (values : List ℕ
       omega (arith, z .bound, size-is, length-small (read .scale) (read .boys) m, read-few m next e)
 
   pub sizing-refused : (r wrong : ℕ) → read .found ≡ field.Refused r wrong → size.Refused r wrong ≡ sizePlus 0 (termsAfter s at terms k l [])
-  sizing-refused r wrong e = by (termAfter s place k l (take count values)) refl
-    where
-      by : (x : Reading Term) → termAfter s place k l (take count values) ≡ x → size.Refused r wrong ≡ sizePlus 0 (termsAfter s at terms k l [])
-      by (got t end) reads =
-          let found = ap (λ (r : ReadAfter). r .found) (is ∙ ap (heldAfter values) reads) in
-          absurd (clash (cc))
-      by (refused q p) reads =
-          let found = ap (λ (r : ReadAfter). r .found) (is ∙ ap (heldAfter values) reads) in
-          let number : q ≡ r = cc in
-          let there : p ≡ wrong = cc in
-          sym (ap (sizePlus n) (turn left k l (take count values) s place (refused q p) some reads) ∙ rw (number, there)) ∙ z .whole
+  sizing-refused r wrong e =
+      let reads = was-refused s k l values count place read (z .small) (z .long) (z .fits) is r wrong e in
+      sym (ap (sizePlus n) (terms-turn2 left k l (take count values) s place (refused r wrong) some reads)) ∙ z .whole
 
 sizes-end : (n place : ℕ) (b : Bool) → cond b (size.Bytes n) (size.Refused 7 place) ≡ sizePlus n (cond b (got [] place) (refused 7 place))
 unfolding termsBytes

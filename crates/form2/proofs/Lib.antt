@@ -6,8 +6,13 @@ pub mod Forms
 pub mod HeaderLaws
 pub mod Inside
 pub mod JudgeLaws
+pub mod LongerLaws
+pub mod MovedLaws
+pub mod MovesLaws
 pub mod Only
 pub mod Places
+pub mod PutsLaws
 pub mod Sharing
+pub mod ShorterLaws
 pub mod TermsLaws
 pub mod Written

@@ -15,7 +15,7 @@ use roll::refused_roll;
 use roll::within;
 
 // What form 2 adds to the kind's number.
-const FORM_TWO: u32 = 16;
+pub(crate) const FORM_TWO: u32 = 16;
 
 // A roll's orders and the cursor at its first term; zeros beside a refusal.
 pub struct Opened2 {

@@ -2,7 +2,10 @@
 mod cursor;
 mod header;
 mod judge;
+mod longer;
 mod moves;
+mod puts;
+mod shorter;
 mod terms;
 
 pub use cursor::Cursor2;
@@ -10,4 +13,6 @@ pub use cursor::Step2;
 pub use header::Opened2;
 pub use header::open2;
 pub use judge::check2;
+pub use longer::to_form1;
 pub use moves::Moved;
+pub use shorter::to_form2;

@@ -1,0 +1,142 @@
+// From form 1 to form 2: a roll that has been judged is read again, measured, and written.
+ghost use Prim.Native.Nat.{_+_, _≤_, min};
+ghost use mathlib.Core.Path.{_≡_};
+ghost use mathlib.Core.List.{[]};
+ghost use lib.ListN.{length};
+ghost use lib.Seq.{sets};
+ghost use Rattle.kind.specs.Limits.{mostL·any};
+ghost use Rattle.roll.specs.Reading.{rollAt};
+ghost use Rattle.roll.specs.inner.Again.{between};
+ghost use Rattle.form2.specs.Bytes.{shared};
+ghost use Rattle.form2.specs.Moves.{inForm2, MoveTold, ToForm2Told};
+ghost use Rattle.form2.specs.inner.Puts.{bytesIn, plainLength2, againBytes2, AgainMay, PartsMay, May2};
+use crate::header::FORM_TWO;
+use crate::moves::Moved;
+use crate::moves::has_room;
+use crate::puts::put_head;
+use crate::puts::put_term2;
+use roll::Opened;
+use roll::Opening;
+use roll::head_at;
+
+// The smaller of two numbers.
+fn least(a: usize, b: usize) -> usize
+    ensures { λ r. ⌜ r ≡ min a b ⌝ }
+{
+    if a <= b {
+        return a;
+    }
+    b
+}
+
+// How many bytes two parts of a roll begin alike.
+fn alike(roll: &[u8], a: usize, b: usize, c: usize, d: usize) -> usize
+    requires { ⌜ PartsMay (now roll) a b c d ⌝ }
+    ensures { λ r. ⌜ r ≡ shared (between (now (roll .entry)) a b) (between (now (roll .entry)) c d) ⌝ }
+{
+    let most = least(b - a, d - c);
+    let mut i = 0;
+    while i < most {
+        if roll[a + i] != roll[c + i] {
+            return i;
+        }
+        i += 1;
+    }
+    i
+}
+
+// How many bytes a term takes in form 2.
+fn length2(scale: u32, boys: u32, shared: u32, further: u32) -> usize
+    requires { ⌜ further ≤ mostL·any ⌝ }
+    ensures { λ r. ⌜ r ≡ plainLength2 scale boys shared further ⌝ }
+{
+    let front = number::length(scale) + number::length(boys);
+    front + number::length(shared) + number::length(further) + further as usize
+}
+
+// How many bytes so many terms take in form 2.
+fn terms_size(roll: &[u8], at: usize, terms: u32) -> usize
+    requires { ⌜ AgainMay (now roll) at terms ⌝ }
+    ensures { λ r. ⌜ r ≡ length (againBytes2 (now (roll .entry)) [] at terms) ⌝ }
+{
+    let mut from = at;
+    let mut end = at;
+    let mut place = at;
+    let mut left = terms;
+    let mut size = 0;
+    while 0 < left {
+        let h = head_at(roll, place);
+        let n = alike(roll, from, end, h.from, h.end);
+        let further = h.end - h.from - n;
+        size += length2(h.scale, h.boys, n as u32, further as u32);
+        from = h.from;
+        end = h.end;
+        place = h.end;
+        left -= 1;
+    }
+    size
+}
+
+// Writes so many terms in form 2.
+fn put_terms(out: &mut [u8], start: usize, roll: &[u8], at: usize, terms: u32)
+    requires { ⌜ AgainMay (now roll) at terms ⌝ }
+    requires { ⌜ start + length (againBytes2 (now roll) [] at terms) ≤ length (now out) ⌝ }
+    ensures { λ _. ⌜ now (out .exit) ≡ sets (now (out .entry)) start (againBytes2 (now (roll .entry)) [] at terms) ⌝ }
+{
+    let mut from = at;
+    let mut end = at;
+    let mut place = at;
+    let mut left = terms;
+    let mut to = start;
+    while 0 < left {
+        let h = head_at(roll, place);
+        let n = alike(roll, from, end, h.from, h.end);
+        from = h.from;
+        end = h.end;
+        place = h.end;
+        to = put_term2(out, to, h.scale, h.boys, n as u32, &roll[from + n..end]);
+        left -= 1;
+    }
+}
+
+// Writes a judged roll in form 2 at the front of a buffer that has room for it.
+fn put_roll(out: &mut [u8], roll: &[u8], opened: Opened)
+    requires { ⌜ May2 opened (now roll) ⌝ }
+    requires { ⌜ length (bytesIn inForm2 (rollAt (now roll))) ≤ length (now out) ⌝ }
+    ensures { λ _. ⌜ now (out .exit) ≡ sets (now (out .entry)) 0 (bytesIn inForm2 (rollAt (now (roll .entry)))) ⌝ }
+{
+    let cursor = opened.cursor;
+    let place = cursor.place;
+    let to = put_head(out, cursor.kind + FORM_TWO as u8, roll, place);
+    put_terms(out, to, roll, place, cursor.left);
+}
+
+// Writes a judged roll in form 2 from a start place on, where it fits.
+fn write(roll: &[u8], opened: Opened, out: &mut [u8], start: usize) -> Moved
+    requires { ⌜ May2 opened (now roll) ⌝ }
+    ensures { λ r. ⌜ MoveTold inForm2 (rollAt (now (roll .entry))) (now (out .entry)) start r (now (out .exit)) ⌝ }
+{
+    if out.len() < start {
+        return Moved::Refused(5, 0);
+    }
+    let cursor = opened.cursor;
+    let place = cursor.place;
+    let size = terms_size(roll, place, cursor.left);
+    if has_room(out.len() - start, place, size) {
+        put_roll(&mut out[start..], roll, opened);
+        return Moved::Roll(place + size, cursor.left);
+    }
+    Moved::Refused(6, 0)
+}
+
+// Moves a roll from form 1 to form 2: nothing is written before the whole roll has been judged and measured.
+pub fn to_form2(roll: &[u8], out: &mut [u8], start: usize) -> Moved
+    ensures { λ r. ⌜ ToForm2Told (now (roll .entry)) (now (out .entry)) start r (now (out .exit)) ⌝ }
+{
+    let opened = roll::check(roll);
+    let found = opened.found;
+    match found {
+        Opening::Roll => write(roll, opened, out, start),
+        Opening::Refused(refusal, place) => Moved::Refused(refusal, place),
+    }
+}
