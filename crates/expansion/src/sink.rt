@@ -38,13 +38,8 @@ fn emit2(out: &mut [u8], sink: &mut [u64; SINK], path: Path)
     let at = sink[1];
     let same = shared_with(sink[2], sink[3], sink[4], path);
     if doing == SIZE2 {
-        *sink = [
-            doing,
-            at + long2(path, same),
-            path.count,
-            path.low,
-            path.high,
-        ];
+        let next = at + long2(path, same);
+        *sink = [doing, next, path.count, path.low, path.high];
         return;
     }
     let next = put_term2(out, at as usize, same, path);

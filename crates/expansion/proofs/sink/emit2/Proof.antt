@@ -25,8 +25,8 @@ shared-with-requires c κs = (search earlier-few, search)
 long2-requires : tie.Need-long2-requires
 long2-requires c κs = (search, search, search same-few)
 
-add-t23 : tie.Need-add-t23
-add-t23 c = record { fits = search size-fits }
+add-next : tie.Need-add-next
+add-next c = record { fits = search size-fits }
 
 returns : tie.Need-returns
 returns c = search size-taken
@@ -51,7 +51,7 @@ emit2-spec =
     element-copy-out-shared-with-3
     shared-with-requires
     long2-requires
-    add-t23
+    add-next
     returns
     put-term2-requires
     same-length
