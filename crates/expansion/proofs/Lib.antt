@@ -1,6 +1,6 @@
 pub mod Answers
+pub mod BothForms
 pub mod Demanded
-pub mod Demanded2
 pub mod FurtherBytes
 pub mod FurtherWords
 pub mod HeaderLaws

@@ -1,6 +1,6 @@
 -- Demands 2 and 3 of document 00, said of every call of `expansion::expand` and of `expansion::expand2`: from their contract, `ExpandTold` and `Expand2Told` of Expanding.antt, to the lent bytes.
 -- `kind`, `orders`, `before` and `begin` are what a call is lent, `r` is what it answers, and `after` is what the lent bytes then hold.
--- proofs/Demanded.antt proves that whatever fits the contract keeps `Demand2` and `Demand3` (its laws demand-2 and demand-3), for the twelve orders of an array; proofs/Demanded2.antt the same of form 2.
+-- proofs/Demanded.antt proves that whatever fits the contract keeps `Demand2` and `Demand3` (its laws demand-2 and demand-3), for the twelve orders of an array; proofs/BothForms.antt the same of form 2.
 use Prim.Native.Nat.{ℕ, _+_, _≤_, _<_}
 use mathlib.Core.Path.{_≡_}
 use mathlib.Core.Bool.{false}
