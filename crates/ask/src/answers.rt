@@ -49,6 +49,9 @@ pub(crate) const SCALES: usize = 18;
 
 pub(crate) const WAIT: usize = 19;
 
+// The refusal of an output that has no room.
+const NO_ROOM: u64 = 6;
+
 // The answer to what was heard: a line that is too long is no question. Where no line has come, what waits goes out, since
 // nothing says when more will come.
 pub(crate) fn heard(s: State, t: Told) -> Told {
@@ -107,6 +110,22 @@ pub(crate) fn bytes(form: usize, numbers: [u64; NUMBERS], start: usize, long: us
     t.start = start;
     t.long = long;
     t
+}
+
+// A roll of so many bytes and terms, which was written from a place on.
+pub(crate) fn roll(long: usize, terms: u32, start: usize) -> Told {
+    bytes(ROLL, [long as u64, terms as u64, 0, 0], start, long)
+}
+
+// How many bytes an answer asks for: those that its question lends, where it had no room in fewer.
+pub(crate) fn wanted(t: Told, lends: usize) -> usize {
+    let numbers = t.numbers;
+    if t.form == REFUSED {
+        if numbers[0] == NO_ROOM {
+            return lends;
+        }
+    }
+    0
 }
 
 // Numbers, and the first `count` of the answer's own bytes; no answer has more of them than there are.

@@ -1,4 +1,4 @@
-// `expand KIND o1 .. o12 ..` and `measure KIND o1 .. o12`: the roll of a request, and its size.
+// `expand KIND o1 .. o12 ..`, `expand2 KIND o1 .. o12 ..` and `measure KIND o1 .. o12`: the roll of a request, and its size.
 use crate::answers;
 use crate::forms;
 use crate::questions;
@@ -23,36 +23,17 @@ pub(crate) fn orders(n: [u64; NUMBERS]) -> [u8; Kind::ORDERS] {
 // The roll that was written from a place on.
 pub(crate) fn told(answer: Expanded, start: usize) -> Told {
     match answer {
-        Expanded::Roll(long, terms) => {
-            answers::bytes(
-                answers::ROLL,
-                [long as u64, terms as u64, 0, 0],
-                start,
-                long,
-            )
-        }
+        Expanded::Roll(long, terms) => answers::roll(long, terms, start),
         Expanded::Refused(refusal) => answers::refused(refusal, 0),
     }
 }
 
 // The size of a request's roll, which nothing is written of.
 pub(crate) fn measured(n: [u64; NUMBERS]) -> Told {
-    match size(n) {
+    match expansion::roll_size(byte(n[0]), orders(n)) {
         Expanded::Roll(long, terms) => {
             answers::bytes(answers::MEASURED, [long as u64, terms as u64, 0, 0], 0, 0)
         }
         Expanded::Refused(refusal) => answers::refused(refusal, 0),
     }
-}
-
-// The bytes of a request's roll; none where it is refused.
-pub(crate) fn long(n: [u64; NUMBERS]) -> usize {
-    match size(n) {
-        Expanded::Roll(long, _) => long,
-        Expanded::Refused(_) => 0,
-    }
-}
-
-fn size(n: [u64; NUMBERS]) -> Expanded {
-    expansion::roll_size(byte(n[0]), orders(n))
 }

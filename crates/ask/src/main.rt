@@ -12,6 +12,7 @@ mod lent;
 mod lines;
 mod lists;
 mod matrices;
+mod moves;
 mod output;
 mod questions;
 mod rolls;

@@ -6,6 +6,7 @@ use crate::forms;
 use crate::lent;
 use crate::lists;
 use crate::matrices;
+use crate::moves;
 use crate::rolls;
 use crate::shells;
 use crate::sums;
@@ -40,13 +41,24 @@ enum Question {
     Measure,
     Total,
     Scales,
+    Expand2,
+    Expand2In,
+    Open2,
+    Check2,
+    Next2,
+    Form2,
+    Form2In,
+    Form1,
+    Form1In,
     Unknown,
 }
 
-// The length of a lent buffer, and the place from which on it is filled.
-struct Lent {
-    size: usize,
+// The length of a lent buffer, the place from which on it is filled, and the length that it must have at once: all of it
+// where the question says it, else none.
+pub(crate) struct Lent {
+    pub(crate) size: usize,
     start: usize,
+    pub(crate) said: usize,
 }
 
 // The question of each line of the table of shapes in `turns`, from 0 on (D-54).
@@ -70,6 +82,15 @@ fn of(shape: usize) -> Question {
         16 => Question::Measure,
         17 => Question::Total,
         18 => Question::Scales,
+        19 => Question::Expand2,
+        20 => Question::Expand2In,
+        21 => Question::Open2,
+        22 => Question::Check2,
+        23 => Question::Next2,
+        24 => Question::Form2,
+        25 => Question::Form2In,
+        26 => Question::Form1,
+        27 => Question::Form1In,
         _ => Question::Unknown,
     }
 }
@@ -77,32 +98,37 @@ fn of(shape: usize) -> Question {
 // What a question has lent. Where it says no buffer, it is one of the usual size, from its front on.
 fn lends(q: Question, n: [u64; NUMBERS]) -> Lent {
     match q {
-        Question::Shell => buffer(SHELL_LENT, 0),
-        Question::ShellIn => buffer(n[1], n[2]),
-        Question::Expand => buffer(lent::LARGE as u64, 0),
-        Question::ExpandIn => buffer(n[13], n[14]),
-        Question::List => buffer(LISTING_LENT, 0),
-        _ => buffer(0, 0),
+        Question::Shell => usual(SHELL_LENT),
+        Question::ShellIn => said(n[1], n[2]),
+        Question::Expand | Question::Expand2 => usual(lent::LARGE as u64),
+        Question::ExpandIn | Question::Expand2In => said(n[13], n[14]),
+        Question::Form2 | Question::Form1 => usual(lent::LARGE as u64),
+        Question::Form2In | Question::Form1In => said(n[0], n[1]),
+        Question::List => usual(LISTING_LENT),
+        _ => usual(0),
     }
 }
 
-fn buffer(size: u64, start: u64) -> Lent {
+fn usual(size: u64) -> Lent {
+    Lent {
+        size: size as usize,
+        start: 0,
+        said: 0,
+    }
+}
+
+fn said(size: u64, start: u64) -> Lent {
     Lent {
         size: size as usize,
         start: start as usize,
+        said: size as usize,
     }
 }
 
-// The bytes that a question's buffer must have: as many as it says, or else those of the roll.
-pub(crate) fn room(asked: Asked) -> usize {
+// What a question that is read has lent.
+pub(crate) fn room(asked: Asked) -> Lent {
     let n = asked.numbers;
-    let q = of(asked.question);
-    match q {
-        Question::ShellIn => n[1] as usize,
-        Question::Expand => expands::long(n),
-        Question::ExpandIn => n[13] as usize,
-        _ => 0,
-    }
+    lends(of(asked.question), n)
 }
 
 // The answer to what is read; the roll and the floats are the first of those that are given.
@@ -114,18 +140,26 @@ pub(crate) fn answer(asked: Asked, given: &[u8], floats: &mut [f64], lent: &mut 
     let count = least(asked.floats, floats.len());
     let size = least(l.size, lent.len());
     let roll = &given[0..bytes];
-    let plain = in_numbers(q, n, roll, &floats[0..count]);
+    let plain = in_numbers(q, n, asked.count, roll, &floats[0..count]);
     let told = looked_at(q, n, l.start, roll, &mut lent[0..size], plain);
     in_floats(q, n, &mut floats[0..count], told)
 }
 
 // The same for a question that has bytes lent alone, by way of another buffer.
-pub(crate) fn answer_in(asked: Asked, lent: &mut [u8]) -> Told {
+pub(crate) fn answer_in(asked: Asked, given: &[u8], lent: &mut [u8]) -> Told {
     let n = asked.numbers;
     let q = of(asked.question);
     let l = lends(q, n);
+    let bytes = least(asked.bytes, given.len());
     let size = least(l.size, lent.len());
-    looked_at(q, n, l.start, b"", &mut lent[0..size], answers::unknown())
+    looked_at(
+        q,
+        n,
+        l.start,
+        &given[0..bytes],
+        &mut lent[0..size],
+        answers::unknown(),
+    )
 }
 
 pub(crate) fn least(a: usize, b: usize) -> usize
@@ -137,8 +171,8 @@ pub(crate) fn least(a: usize, b: usize) -> usize
     b
 }
 
-// The questions that have nothing lent.
-fn in_numbers(q: Question, n: [u64; NUMBERS], roll: &[u8], floats: &[f64]) -> Told {
+// The questions that have nothing lent; `count` numbers are said.
+fn in_numbers(q: Question, n: [u64; NUMBERS], count: usize, roll: &[u8], floats: &[f64]) -> Told {
     match q {
         Question::Echo => answers::plain(answers::ECHO),
         Question::Pair => shells::pair(n),
@@ -151,6 +185,9 @@ fn in_numbers(q: Question, n: [u64; NUMBERS], roll: &[u8], floats: &[f64]) -> To
         Question::Measure => expands::measured(n),
         Question::Total => sums::total(n),
         Question::Scales => sums::scales(roll),
+        Question::Open2 => rolls::opened2(form2::open2(roll)),
+        Question::Check2 => rolls::opened2(form2::check2(roll)),
+        Question::Next2 => rolls::next2(n, count, roll),
         _ => answers::unknown(),
     }
 }
@@ -190,6 +227,20 @@ fn in_bytes(
                 start,
             )
         }
+        Question::Expand2 | Question::Expand2In => {
+            expands::told(
+                expansion::expand2(first, expands::orders(n), lent, start),
+                start,
+            )
+        }
+        Question::Form2 | Question::Form2In => moves::told(
+            form2::to_form2(roll, lent, start),
+            start,
+        ),
+        Question::Form1 | Question::Form1In => moves::told(
+            form2::to_form1(roll, lent, start),
+            start,
+        ),
         Question::List => lists::told(listing::listing(roll, lent, 0)),
         _ => told,
     }

@@ -1,8 +1,11 @@
 // `open ROLL`, `check ROLL` and `next KIND L LEFT PLACE ROLL`: a roll's header, the whole roll judged, a cursor's step.
+// `open2`, `check2` and `next2` ask the same of form 2.
 use crate::answers;
 use crate::forms;
 use crate::questions;
 use crate::words;
+use form2::Cursor2;
+use form2::Opened2;
 use forms::OWN;
 use forms::Told;
 use kind::Kind;
@@ -14,6 +17,7 @@ use roll::Found;
 use roll::Opened;
 use roll::Opening;
 use term::Term;
+use words::CURSOR;
 use words::NUMBERS;
 
 pub(crate) fn opened(o: Opened) -> Told {
@@ -23,6 +27,19 @@ pub(crate) fn opened(o: Opened) -> Told {
         Opening::Roll => header(o.cursor, answers::of_orders(orders)),
         Opening::Refused(refusal, place) => answers::refused(refusal, place),
     }
+}
+
+// No term stands before the first, so form 2 tells what form 1 does.
+pub(crate) fn opened2(o: Opened2) -> Told {
+    let found = o.found;
+    let held = o.cursor;
+    let cursor = held.cursor;
+    let orders = o.orders;
+    opened(Opened {
+        found,
+        cursor,
+        orders,
+    })
 }
 
 // How many orders a kind uses. More than there are where there is no such kind, so that the answer is spoiled.
@@ -38,18 +55,63 @@ fn header(c: Cursor, orders: [u8; OWN]) -> Told {
     answers::own(answers::OPENED, numbers, orders, used_orders(c.kind))
 }
 
-// A step of the cursor that is said, forged or not.
-pub(crate) fn next(n: [u64; NUMBERS], roll: &[u8]) -> Told {
-    let cursor = Cursor {
+// The cursor that is said, forged or not.
+fn cursor(n: [u64; NUMBERS]) -> Cursor {
+    Cursor {
         place: n[3] as usize,
         left: word(n[2]),
         kind: byte(n[0]),
         l: byte(n[1]),
-    };
-    let step = cursor.next(roll);
+    }
+}
+
+// The prefactors of the term before, which are said after the cursor.
+fn earlier(n: [u64; NUMBERS]) -> [u8; Kind::PREFACTORS] {
+    let mut earlier = [0; Kind::PREFACTORS];
+    let mut i = 0;
+    while i < Kind::PREFACTORS {
+        earlier[i] = byte(n[CURSOR + i]);
+        i += 1;
+    }
+    earlier
+}
+
+// How many they are, of all numbers.
+fn earlier_count(numbers: usize) -> u8 {
+    if numbers < CURSOR {
+        return 0;
+    }
+    byte((numbers - CURSOR) as u64)
+}
+
+pub(crate) fn next(n: [u64; NUMBERS], roll: &[u8]) -> Told {
+    let step = cursor(n).next(roll);
     let found = step.found;
+    let term = step.term;
+    let next = step.next;
+    stepped(found, term, next)
+}
+
+pub(crate) fn next2(n: [u64; NUMBERS], numbers: usize, roll: &[u8]) -> Told {
+    let cursor = cursor(n);
+    let count = earlier_count(numbers);
+    let earlier = earlier(n);
+    let from = Cursor2 {
+        cursor,
+        count,
+        earlier,
+    };
+    let step = from.next(roll);
+    let found = step.found;
+    let term = step.term;
+    let held = step.next;
+    let next = held.cursor;
+    stepped(found, term, next)
+}
+
+fn stepped(found: Found, t: Term, next: Cursor) -> Told {
     match found {
-        Found::Term => term_told(step.term, step.next),
+        Found::Term => term_told(t, next),
         Found::End => answers::plain(answers::END),
         Found::Refused(refusal, place) => answers::refused(refusal, place),
     }

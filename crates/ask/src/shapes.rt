@@ -56,11 +56,12 @@ fn ended(a: Asked, end: usize) -> Asked {
 }
 
 // B, W and P are numbers below 2^8, 2^32 and 2^64, L the length of a lent buffer, R a roll, * floats, each after a blank,
-// ^ whatever is left. What is read after a misfit is dropped.
+// + a number below 2^8 after a blank or nothing, ^ whatever is left. What is read after a misfit is dropped.
 fn item(mark: u8, line: &[u8], a: Asked, bytes: &mut [u8], floats: &mut [f64]) -> Asked {
     match mark {
         b'\n' => ended(a, line.len()),
         b'B' | b'W' | b'P' | b'L' => words::number(line, a, most(mark)),
+        b'+' => words::perhaps(line, a, most(mark)),
         b'R' => words::roll(line, a, bytes),
         b'*' => words::floats(line, a, floats),
         b'^' => words::rest(line, a),
@@ -71,7 +72,7 @@ fn item(mark: u8, line: &[u8], a: Asked, bytes: &mut [u8], floats: &mut [f64]) -
 // The most that a number's mark allows.
 fn most(mark: u8) -> u64 {
     match mark {
-        b'B' => 255,
+        b'B' | b'+' => 255,
         b'W' => 4294967295,
         b'L' => lent::LARGE as u64,
         _ => u64::MAX,

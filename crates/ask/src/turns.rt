@@ -11,8 +11,8 @@ use forms::Told;
 use lines::State;
 use words::Asked;
 
-// Shapes: B, W and P are numbers below 2^8, 2^32 and 2^64, L a buffer's length, R a roll, * floats, ^ any bytes; the first is
-// the empty line. `questions::of` has their numbers.
+// Shapes: B, W and P are numbers below 2^8, 2^32 and 2^64, L a buffer's length, R a roll, * floats, + one number below 2^8 or
+// none, ^ any bytes; the first is the empty line. `questions::of` has their numbers.
 pub(crate) fn turn(
     input: &[u8],
     s: State,
@@ -43,6 +43,15 @@ jkl P P P P P*
 measure B B B B B B B B B B B B B
 total B B B B B B B B B B B B B
 scales R
+expand2 B B B B B B B B B B B B B
+expand2 B B B B B B B B B B B B B L P
+open2 R
+check2 R
+next2 B B W P++++++++++++++++++++++++ / R
+form2 R
+form2 R L P
+form1 R
+form1 R L P
 ",
         line,
         given,
@@ -51,7 +60,7 @@ scales R
     answered(s, asked, line, given, floats, lent, out, used)
 }
 
-// The answer to what is read.
+// The answer to what is read. A question that says no buffer gets the usual one first, and a larger one where that has no room.
 fn answered(
     s: State,
     asked: Asked,
@@ -63,10 +72,13 @@ fn answered(
     used: usize,
 ) -> usize {
     let room = questions::room(asked);
-    if lent.len() < room {
-        return in_large(s, asked, room, line, floats, out, used);
+    if lent.len() < room.said {
+        return in_large(s, asked, room.size, line, given, floats, out, used);
     }
     let told = questions::answer(asked, given, floats, lent);
+    if lent.len() < answers::wanted(told, room.size) {
+        return in_large(s, asked, room.size, line, given, floats, out, used);
+    }
     say(answers::heard(s, told), line, lent, floats, out, used)
 }
 
@@ -78,16 +90,17 @@ fn in_large(
     asked: Asked,
     room: usize,
     line: &[u8],
+    given: &[u8],
     floats: &[f64],
     out: &mut [u8],
     used: usize,
 ) -> usize {
     if lent::LARGE < room {
-        let next = in_large(s, asked, room - lent::LARGE, line, floats, out, used);
+        let next = in_large(s, asked, room - lent::LARGE, line, given, floats, out, used);
         return output::room(out, next);
     }
     let mut bytes = large_bytes();
-    let told = questions::answer_in(asked, &mut bytes);
+    let told = questions::answer_in(asked, given, &mut bytes);
     say(answers::heard(s, told), line, &bytes, floats, out, used)
 }
 

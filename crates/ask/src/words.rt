@@ -1,9 +1,12 @@
 // The words of a line. Each reader takes what is read so far, and answers it with one word more.
 use crate::floats;
+use kind::Kind;
 use text::Parsed;
 
-// The most numbers of a question.
-pub(crate) const NUMBERS: usize = 16;
+// The numbers of a cursor.
+pub(crate) const CURSOR: usize = 4;
+// The most numbers of a question: those of a cursor, and the prefactors of the term before.
+pub(crate) const NUMBERS: usize = CURSOR + Kind::PREFACTORS;
 
 // What is read of a line: its question's number, whether that is found, and a number for each word that the shape asks for. A
 // roll's bytes and floats stand at the front of what was lent for them.
@@ -100,6 +103,15 @@ pub(crate) fn number(line: &[u8], a: Asked, most: u64) -> Asked {
         }
         Parsed::Not => misfit(a),
     }
+}
+
+// A number up to `most` after a blank, or nothing.
+pub(crate) fn perhaps(line: &[u8], a: Asked, most: u64) -> Asked {
+    let b = number(line, letter(line, a, b' '), most);
+    if b.misfit {
+        return a;
+    }
+    b
 }
 
 // A float by its bits in hexadecimal, after a blank (D-46).

@@ -15,14 +15,14 @@ use Rattle.ask.proofs.turns.say.Reads as say-reads
 use Rattle.ask.proofs.turns.+in_large.{statement}
 use Rattle.ask.proofs.turns.+in_large.Tie.{close}
 
-abbrev μ-in-large : Measures 3 in-large-kinds.ps ℕ
+abbrev μ-in-large : Measures 4 in-large-kinds.ps ℕ
 μ-in-large κs a = a .1 .1 .0
 
-abbrev in-large-at : ℕ → In 3 in-large-kinds.ps
-in-large-at t = and 3 in-large-kinds.ps (is 3 in-large-kinds.ps μ-in-large t) in-large.Pre
+abbrev in-large-at : ℕ → In 4 in-large-kinds.ps
+in-large-at t = and 4 in-large-kinds.ps (is 4 in-large-kinds.ps μ-in-large t) in-large.Pre
 
-abbrev in-large-below : ℕ → In 3 in-large-kinds.ps
-in-large-below t = and 3 in-large-kinds.ps (falls 3 in-large-kinds.ps _<_ μ-in-large t) in-large.Pre
+abbrev in-large-below : ℕ → In 4 in-large-kinds.ps
+in-large-below t = and 4 in-large-kinds.ps (falls 4 in-large-kinds.ps _<_ μ-in-large t) in-large.Pre
 
 -- what it may ask and learns of the functions that it calls
 abbrev claims : ℕ → in-large-lts.Claims
