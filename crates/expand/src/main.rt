@@ -1,4 +1,4 @@
-// Writes the roll of a request to standard output: `expand KIND ORDERS..`, in decimal (D-77).
+// Writes the roll of a request to standard output: `expand KIND ORDERS..`, in decimal (D-77); `expand form2 ..`, in form 2.
 //
 // Orders are as many as the kind uses, or all twelve of a request. A refusal writes nothing there and one line to
 // standard error. Wrong arguments are answered there too, by how to call the program.
@@ -18,8 +18,8 @@ const ROOM: usize = 1048576;
 const LARGE: usize = 16777216;
 // The digits of the largest byte.
 const DIGITS: usize = 3;
-// The program's name and the kind stand before the orders.
-const BEFORE: usize = 2;
+// The letters of the word that asks for form 2.
+const WORD: usize = 5;
 
 enum Byte {
     Is(u8),
@@ -31,7 +31,7 @@ fn say(words: &[u8]) {
 }
 
 fn usage() {
-    say(b"expand KIND ORDERS.. > ROLL\n");
+    say(b"expand KIND ORDERS.. > ROLL, or expand form2 KIND ORDERS.. > ROLL\n");
     say(b"KIND: 0 overlap, 1 kinetic, 2 nuclear, 3 moment, 4 Coulomb.\n");
     say(b"ORDERS: x y z of each centre, A, B, then the operator (kind 3) or C, D (kind 4).\n");
     say(
@@ -87,8 +87,19 @@ fn argument(i: usize) -> Byte {
     byte_of(&word[..n])
 }
 
-// Reads so many orders, and answers whether each is a number.
-fn read_orders(n: usize, orders: &mut [u8]) -> bool
+// Whether the first argument asks for form 2.
+fn is_form2() -> bool {
+    let mut w = [0u8; WORD];
+    let n = os::arg(1, &mut w);
+    if n != WORD {
+        return false;
+    }
+    let off = (w[0] ^ b'f') | (w[1] ^ b'o') | (w[2] ^ b'r') | (w[3] ^ b'm') | (w[4] ^ b'2');
+    off == 0
+}
+
+// Reads so many orders after the kind, which is argument `at`, and answers whether each is a number.
+fn read_orders(at: u8, n: usize, orders: &mut [u8]) -> bool
     requires { ⌜ length (now orders) ≡ requestOrders ⌝ }
 {
     if Kind::ORDERS < n {
@@ -96,7 +107,7 @@ fn read_orders(n: usize, orders: &mut [u8]) -> bool
     }
     let mut i = 0;
     while i < n {
-        match argument(BEFORE + i) {
+        match argument(at as usize + 1 + i) {
             Byte::Is(order) => orders[i] = order,
             Byte::Not => return false,
         }
@@ -122,11 +133,22 @@ fn write_roll(roll: &[u8], n: usize) {
     }
 }
 
-// The request's roll, by way of the buffer, or the refusal.
-fn answer(kind: u8, orders: [u8; Kind::ORDERS], out: &mut [u8]) {
-    match expansion::expand(kind, orders, out, 0) {
-        Expanded::Roll(n, _) => write_roll(out, n),
-        Expanded::Refused(refusal) => say_refused(refusal),
+// The request's roll in the form that is asked for, at the front of the buffer.
+fn expanded(second: bool, kind: u8, orders: [u8; Kind::ORDERS], out: &mut [u8]) -> Expanded {
+    if second {
+        return expansion::expand2(kind, orders, out, 0);
+    }
+    expansion::expand(kind, orders, out, 0)
+}
+
+// The refusal of the request's roll by way of the buffer; none where the roll is written out.
+fn answer(second: bool, kind: u8, orders: [u8; Kind::ORDERS], out: &mut [u8]) -> u8 {
+    match expanded(second, kind, orders, out) {
+        Expanded::Roll(n, _) => {
+            write_roll(out, n);
+            0
+        }
+        Expanded::Refused(refusal) => refusal,
     }
 }
 
@@ -139,40 +161,55 @@ fn large_bytes() -> [u8; LARGE] {
     [0; LARGE]
 }
 
-fn in_usual(kind: u8, orders: [u8; Kind::ORDERS]) {
+fn in_usual(second: bool, kind: u8, orders: [u8; Kind::ORDERS]) -> u8 {
     let mut out = usual_bytes();
-    answer(kind, orders, &mut out);
+    answer(second, kind, orders, &mut out)
 }
 
-// The answer by way of the larger buffer, to a request whose roll has so many bytes. It stands on the stack only here: the
-// compiler puts no function that calls itself into its caller, unless that call comes last. No roll is longer than the buffer,
-// so the call is not made.
-fn in_large(kind: u8, orders: [u8; Kind::ORDERS], long: usize) {
+// The answer by way of the larger buffer, to a request whose roll has so many bytes in form 1. It stands on the stack only
+// here: the compiler puts no function that calls itself into its caller, unless that call comes last. No roll is longer than
+// the buffer, so the call is not made.
+fn in_large(second: bool, kind: u8, orders: [u8; Kind::ORDERS], long: usize) {
     if LARGE < long {
-        in_large(kind, orders, long - LARGE);
+        in_large(second, kind, orders, long - LARGE);
     }
     let mut out = large_bytes();
-    answer(kind, orders, &mut out);
+    let refusal = answer(second, kind, orders, &mut out);
+    if refusal != 0 {
+        say_refused(refusal);
+    }
 }
 
-fn expand(kind: u8, orders: [u8; Kind::ORDERS]) {
+// The roll goes through the larger buffer where it has no room in the usual one.
+fn expand(second: bool, kind: u8, orders: [u8; Kind::ORDERS]) {
     match expansion::roll_size(kind, orders) {
         Expanded::Roll(long, _) => {
-            if long <= ROOM {
-                in_usual(kind, orders);
-            } else {
-                in_large(kind, orders, long);
+            if in_usual(second, kind, orders) != 0 {
+                in_large(second, kind, orders, long);
             }
         }
         Expanded::Refused(refusal) => say_refused(refusal),
     }
 }
 
-fn with_kind(kind: u8, n: usize) {
+fn with_kind(second: bool, at: u8, kind: u8, n: usize) {
     let mut orders = [0u8; Kind::ORDERS];
     if fits(kind, n) {
-        if read_orders(n, &mut orders) {
-            expand(kind, orders);
+        if read_orders(at, n, &mut orders) {
+            expand(second, kind, orders);
+            return;
+        }
+    }
+    usage();
+}
+
+// The request whose kind is argument `at`.
+fn called(second: bool, at: u8) {
+    let count = os::arg_count();
+    let before = at as usize + 1;
+    if before < count {
+        if let Byte::Is(kind) = argument(at as usize) {
+            with_kind(second, at, kind, count - before);
             return;
         }
     }
@@ -180,12 +217,9 @@ fn with_kind(kind: u8, n: usize) {
 }
 
 fn main() {
-    let count = os::arg_count();
-    if BEFORE < count {
-        if let Byte::Is(kind) = argument(1) {
-            with_kind(kind, count - BEFORE);
-            return;
-        }
+    if is_form2() {
+        called(true, 2);
+    } else {
+        called(false, 1);
     }
-    usage();
 }
