@@ -39,8 +39,11 @@ fn usage() {
     );
 }
 
-// A refusal's line, with the words of document 01 and of the requests.
+// A refusal's line, with the words of document 01 and of the requests; 0 is none.
 fn say_refused(refusal: u8) {
+    if refusal == 0 {
+        return;
+    }
     say(b"refused ");
     io::print_decimal(STDERR_FILENO, refusal as u64);
     say_why(refusal);
@@ -98,8 +101,8 @@ fn is_form2() -> bool {
     off == 0
 }
 
-// Reads so many orders after the kind, which is argument `at`, and answers whether each is a number.
-fn read_orders(at: u8, n: usize, orders: &mut [u8]) -> bool
+// Reads so many orders from argument `first` on, and answers whether each is a number.
+fn read_orders(first: u8, n: usize, orders: &mut [u8]) -> bool
     requires { ⌜ length (now orders) ≡ requestOrders ⌝ }
 {
     if Kind::ORDERS < n {
@@ -107,7 +110,7 @@ fn read_orders(at: u8, n: usize, orders: &mut [u8]) -> bool
     }
     let mut i = 0;
     while i < n {
-        match argument(at as usize + 1 + i) {
+        match argument(first as usize + i) {
             Byte::Is(order) => orders[i] = order,
             Byte::Not => return false,
         }
@@ -175,9 +178,7 @@ fn in_large(second: bool, kind: u8, orders: [u8; Kind::ORDERS], long: usize) {
     }
     let mut out = large_bytes();
     let refusal = answer(second, kind, orders, &mut out);
-    if refusal != 0 {
-        say_refused(refusal);
-    }
+    say_refused(refusal);
 }
 
 // The roll goes through the larger buffer where it has no room in the usual one.
@@ -192,10 +193,10 @@ fn expand(second: bool, kind: u8, orders: [u8; Kind::ORDERS]) {
     }
 }
 
-fn with_kind(second: bool, at: u8, kind: u8, n: usize) {
+fn with_kind(second: bool, first: u8, kind: u8, n: usize) {
     let mut orders = [0u8; Kind::ORDERS];
     if fits(kind, n) {
-        if read_orders(at, n, &mut orders) {
+        if read_orders(first, n, &mut orders) {
             expand(second, kind, orders);
             return;
         }
@@ -203,13 +204,13 @@ fn with_kind(second: bool, at: u8, kind: u8, n: usize) {
     usage();
 }
 
-// The request whose kind is argument `at`.
-fn called(second: bool, at: u8) {
+// The request whose kind is argument `at`, and whose first order argument `first`.
+fn called(second: bool, at: u8, first: u8) {
     let count = os::arg_count();
-    let before = at as usize + 1;
+    let before = first as usize;
     if before < count {
         if let Byte::Is(kind) = argument(at as usize) {
-            with_kind(second, at, kind, count - before);
+            with_kind(second, first, kind, count - before);
             return;
         }
     }
@@ -218,8 +219,8 @@ fn called(second: bool, at: u8) {
 
 fn main() {
     if is_form2() {
-        called(true, 2);
+        called(true, 2, 3);
     } else {
-        called(false, 1);
+        called(false, 1, 2);
     }
 }

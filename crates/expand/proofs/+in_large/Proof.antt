@@ -9,11 +9,12 @@ use Rattle.expand.proofs.in_large.Kinds as in-large-kinds
 use Rattle.expand.proofs.+in_large.Lts-in_large as in-large-lts
 use Rattle.expand.proofs.answer.Reads as answer-reads
 use Rattle.expand.proofs.large_bytes.Reads as large-bytes-reads
+use Rattle.expand.proofs.say_refused.Reads as say-refused-reads
 use Rattle.expand.proofs.+in_large.{statement}
 use Rattle.expand.proofs.+in_large.Tie.{close}
 
 abbrev μ-in-large : Measures 0 in-large-kinds.ps ℕ
-μ-in-large κs a = a .1 .1 .0
+μ-in-large κs a = a .1 .1 .1 .0
 
 abbrev in-large-at : ℕ → In 0 in-large-kinds.ps
 in-large-at t = and 0 in-large-kinds.ps (is 0 in-large-kinds.ps μ-in-large t) in-large.Pre
@@ -23,7 +24,7 @@ in-large-below t = and 0 in-large-kinds.ps (falls 0 in-large-kinds.ps _<_ μ-in-
 
 -- what it may ask and learns of the functions that it calls
 abbrev claims : ℕ → in-large-lts.Claims
-claims t = (in-large-below t, in-large.Post, large-bytes-reads.Asked, large-bytes-reads.Learnt, answer-reads.Asked, answer-reads.Learnt)
+claims t = (in-large-below t, in-large.Post, large-bytes-reads.Asked, large-bytes-reads.Learnt, answer-reads.Asked, answer-reads.Learnt, say-refused-reads.Asked, say-refused-reads.Learnt)
 
 sub-in-large : (t : ℕ) → in-large-lts.Need-sub-in-large (claims t) (in-large-at t) in-large.Post
 sub-in-large t c = search needs
@@ -40,10 +41,13 @@ slice-aggregate-answer t c = search needs
 answer-requires : (t : ℕ) → in-large-lts.Need-answer-requires (claims t) (in-large-at t) in-large.Post
 answer-requires t c κs = search needs
 
+say-refused-requires : (t : ℕ) → in-large-lts.Need-say-refused-requires (claims t) (in-large-at t) in-large.Post
+say-refused-requires t c κs = search needs
+
 returns : (t : ℕ) → in-large-lts.Need-returns (claims t) (in-large-at t) in-large.Post
 returns t c = search needs
 
 pub +in-large-spec : {M : Type 1} → statement M
 +in-large-spec =
     close μ-in-large
-    λ t. in-large-lts.spec (claims t) (in-large-at t) in-large.Post (sub-in-large t) (in-large-requires t) (large-bytes-requires t) (slice-aggregate-answer t) (answer-requires t) (returns t)
+    λ t. in-large-lts.spec (claims t) (in-large-at t) in-large.Post (sub-in-large t) (in-large-requires t) (large-bytes-requires t) (slice-aggregate-answer t) (answer-requires t) (say-refused-requires t) (returns t)

@@ -8,10 +8,10 @@ use Rattle.expand.proofs.read_orders.Statement.{statement}
 use Rattle.expand.proofs.read_orders.Tie as tie
 
 abbrev Inv-loop : tie.InvT-loop
-Inv-loop n orders₀ i₀ orders i = (length orders ≡ length orders₀) × (i ≤ n)
+Inv-loop first n orders₀ i₀ orders i = (length orders ≡ length orders₀) × (i ≤ n)
 
 abbrev μ-loop : tie.MeasureT-loop
-μ-loop n orders₀ i₀ orders i = n - i
+μ-loop first n orders₀ i₀ orders i = n - i
 
 returns : tie.Need-returns Inv-loop μ-loop
 returns c = search needs
