@@ -96,21 +96,24 @@ static double primitive(int kind, const uint8_t *roll, size_t length, const xew_
     return answer.value;
 }
 
-/* One integral over basis functions: its roll is made once and summed for every choice of primitives. */
+/* One integral over basis functions: its roll is made once, as one would be stored, and summed for every choice of
+ * primitives. */
 static double integral(int kind, const int *f, int count)
 {
     uint8_t orders[XEW_ORDERS] = {0};
     int l = 0, choices = 1;
     for (int i = 0; i < count; i++, choices *= PRIMITIVES)
         if (basis[f[i]].axis >= 0) orders[3 * i + basis[f[i]].axis] = 1, l++;
-    xew_written size = xew_measure(kind, &orders); /* what the roll takes is lent, and no more */
+    xew_written size = xew_measure(kind, &orders);
     accept(size.refusal, 0);
-    uint8_t *roll = malloc(size.length);
-    if (roll == NULL) perror("water"), exit(1);
-    xew_written written = xew_expand(kind, &orders, roll, size.length, 0);
+    size_t room = size.length + size.terms; /* what the roll takes at most in form 2 */
+    uint8_t *stored = malloc(room), *roll = malloc(size.length);
+    if (stored == NULL || roll == NULL) perror("water"), exit(1);
+    xew_written written = xew_expand2(kind, &orders, stored, room, 0);
     accept(written.refusal, 0);
-    xew_opened judged = xew_check(roll, written.length); /* as for a roll that was stored */
-    accept(judged.refusal, judged.place);
+    xew_moved moved = xew_to_form1(stored, written.length, roll, size.length, 0); /* judged, and back in form 1 */
+    accept(moved.refusal, moved.place);
+    free(stored);
     double sum = 0;
     for (int choice = 0; choice < choices; choice++) {
         xew_centre c[4] = {{0}};
@@ -123,7 +126,7 @@ static double integral(int kind, const int *f, int count)
         }
         for (int a = 0; a < (kind == NUCLEAR ? ATOMS : 1); a++) {
             if (kind == NUCLEAR) c[2] = atoms[a];
-            sum += factor * (kind == NUCLEAR ? charges[a] : 1) * primitive(kind, roll, written.length, c, l);
+            sum += factor * (kind == NUCLEAR ? charges[a] : 1) * primitive(kind, roll, moved.length, c, l);
         }
     }
     free(roll);

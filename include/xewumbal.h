@@ -30,6 +30,12 @@
  *
  * Kinds: 0 overlap, 1 kinetic, 2 nuclear, 3 moment, 4 Coulomb. Orders stand by centre, x y z each: A, B; for kind 3
  * then the operator; for kind 4 then C, D. L is the sum of all orders. docs/01-scope.md defines terms and rolls.
+ *
+ * A roll is in form 1 unless form 2 is named. Form 2 is for storing: its first number is the kind + 16, and of a term's
+ * prefactors it leaves out the beginning that they share with those of the term before. A form 2 term is scale, Boys
+ * order, the length of the longest shared beginning (0 for the first term), the number of further prefactors, and those;
+ * all else is as in form 1. Each form's calls refuse a roll of the other with 7 at place 0. What a roll says has one
+ * writing in each form, so moving it there and back returns the same bytes. docs/requests/Q-7.md has its rules.
  */
 #ifndef XEWUMBAL_H
 #define XEWUMBAL_H
@@ -110,6 +116,37 @@ typedef struct {
     uint8_t boys, count, prefactors[XEW_PREFACTORS], found, refusal; /* found: 0 refused, 1 term, 2 end */
 } xew_step;
 
+/* Where a reader of a form 2 roll stands: a cursor, whose kind is 0 to 4, and the prefactors of the term before in the
+ * first count places of earlier, zeros after them; none before the first term. */
+typedef struct {
+    xew_cursor cursor;
+    uint8_t count, earlier[XEW_PREFACTORS];
+} xew_cursor2;
+
+/* As xew_opened, of a form 2 roll. */
+typedef struct {
+    xew_cursor2 cursor;
+    size_t place;
+    uint8_t orders[XEW_ORDERS];
+    uint8_t refusal;
+} xew_opened2;
+
+/* As xew_step, of a form 2 roll: the term has all its prefactors, shared ones too. */
+typedef struct {
+    xew_cursor2 next;
+    size_t place;
+    uint32_t scale;
+    uint8_t boys, count, prefactors[XEW_PREFACTORS], found, refusal; /* found: 0 refused, 1 term, 2 end */
+} xew_step2;
+
+/* What a move wrote from the start place on: the bytes of the roll in its new form, and its terms. place is that of 7 and
+ * 14 in the roll that was moved. */
+typedef struct {
+    size_t length, place;
+    uint32_t terms;
+    uint8_t refusal;
+} xew_moved;
+
 /* What the scales of a request's terms add up to. claimed is 1 beside a total; it is 0 for kinetic and Coulomb, whose
  * totals do not go by the summed orders, and beside a refusal. */
 typedef struct {
@@ -134,6 +171,10 @@ xew_written xew_expand(uint8_t kind, const uint8_t (*orders)[12], uint8_t *out, 
  * room for so many bytes. Refusals: 1, 2, 3, 4. */
 xew_written xew_measure(uint8_t kind, const uint8_t (*orders)[12]);
 
+/* Writes the roll of a request in form 2, as xew_expand does in form 1. The length plus the terms that xew_measure tells
+ * always hold it. Refusals: 1, 2, 3, 5, 4, 6. */
+xew_written xew_expand2(uint8_t kind, const uint8_t (*orders)[12], uint8_t *out, size_t out_len, size_t start);
+
 /* Writes the triples of a shell, three bytes each, x descending, then y. Refusals: 2, 5, 6. */
 xew_written xew_shell_list(uint8_t order, uint8_t *out, size_t out_len, size_t start); /* terms: triples */
 
@@ -154,6 +195,25 @@ xew_opened xew_check(const uint8_t *roll, size_t roll_len);
 /* The term at a cursor of xew_open or xew_check, and the cursor for the next call. A cursor that was made up is
  * answered too: by what stands at its place, or by 7. Refusals: 7 or 14. */
 xew_step xew_next(xew_cursor cursor, const uint8_t *roll, size_t roll_len);
+
+/* The header of a form 2 roll alone, as xew_open. The cursor's kind is told without the 16. Refusals: 7 or 14. */
+xew_opened2 xew_open2(const uint8_t *roll, size_t roll_len);
+
+/* A whole form 2 roll judged, as xew_check. Refusals: 7 or 14. */
+xew_opened2 xew_check2(const uint8_t *roll, size_t roll_len);
+
+/* The term at a cursor of xew_open2 or xew_check2, and the cursor for the next call, as xew_next. A cursor that was made
+ * up is answered too: by what stands at its place after the term before that it names, or by 7, also where no term of its
+ * kind and L has such prefactors. Refusals: 7 or 14. */
+xew_step2 xew_next2(xew_cursor2 cursor, const uint8_t *roll, size_t roll_len);
+
+/* Moves a form 1 roll to form 2: reads the whole of it and writes what it says into out from start on. roll_len plus the
+ * terms of the roll (cursor.left of xew_check) always hold it. Refusals: 7 or 14, 5, 6. */
+xew_moved xew_to_form2(const uint8_t *roll, size_t roll_len, uint8_t *out, size_t out_len, size_t start);
+
+/* Moves a form 2 roll back to form 1. roll_len plus L for each term (cursor.cursor.left * cursor.cursor.l of xew_check2)
+ * always hold it; a move into less may fit, and is refused 6 where it does not. Refusals: 7 or 14, 5, 6. */
+xew_moved xew_to_form1(const uint8_t *roll, size_t roll_len, uint8_t *out, size_t out_len, size_t start);
 
 /* What the scales of a request's terms add up to, worked out from the orders alone (docs/BY-HAND.md): for overlap, nuclear
  * and moment xew_roll_total of the roll that xew_expand writes is the same number. Refusals: 1, 2, 3. */

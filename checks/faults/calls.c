@@ -136,6 +136,8 @@ static void play_large(uint64_t number)
     if (number < LARGEST) {
         struct slice roll = try_expand(&largest[number], largest[number].length, 0);
         try_evaluate(roll, expected_open(roll.mine, roll.length));
+        try_to_form2(roll, expected_open(roll.mine, roll.length));
+        try_expand2(&largest[number]);
         return;
     }
     for (uint32_t more = 0; more < 2; more++) {
@@ -144,7 +146,32 @@ static void play_large(uint64_t number)
         hold(same_opened(opened, checked), "xew_open and xew_check disagree");
         try_evaluate(roll, checked);
         try_roll_total(roll, checked);
+        try_to_form2(roll, checked);
     }
+}
+
+/* Calls on a roll of form 2, and moves. */
+static void play_forms(void)
+{
+    struct slice roll = lend_copy(&roll_arena, "roll", bytes, any_roll2(bytes), 1);
+    xew_opened2 opened = try_open2(roll), checked = try_check2(roll);
+    hold(checked.refusal || same_opened2(opened, checked), "xew_open2 and xew_check2 disagree");
+    xew_cursor2 cursor = { .cursor = { below(roll.length + 1), 1, 0, 2 * XEW_MOST_ORDER } };
+    if (!opened.refusal)
+        cursor = step_through2(roll, opened, checked);
+    try_next2(roll, cursor);
+    for (int i = 0; i < 3; i++)
+        try_next2(roll, any_cursor2(cursor, roll.length));
+    try_to_form1(roll, checked);
+    if (once_in(8)) { /* in the other form's calls */
+        try_open(roll);
+        try_to_form2(roll, try_check(roll));
+    }
+    if (once_in(100))
+        try_cuts2(bytes, good_roll2(bytes, 400));
+    struct request request;
+    any_request(&request);
+    try_expand2(call.scene % 60 == 9 ? &over[call.scene / 60 % OVER] : once_in(2) ? known_request() : &request);
 }
 
 static void play(void)
@@ -161,6 +188,7 @@ static void play(void)
     try_roll_total(roll, checked);
     try_evaluate(roll, checked);
     try_evaluate(roll, checked);
+    try_to_form2(roll, checked);
 
     if (once_in(100))
         try_cuts(bytes, good_roll(bytes, 400));
@@ -216,6 +244,8 @@ int main(int words, char **word)
         alarm(is_large ? 120 : 10);
         if (is_large)
             play_large(large_scene());
+        else if (call.scene % 3 == 0)
+            play_forms();
         else
             play();
     } while (words == 4 && call.number < calls);

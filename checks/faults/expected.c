@@ -52,9 +52,7 @@ xew_component expected_component(const uint8_t *shells, int count, uint32_t numb
     return answer;
 }
 
-/* Reads a number from least to most and moves on. Where there is none it stays, and answers 14 if the roll ends before
- * the number does, else 7: not the shortest form, 2^32 and above (a fifth byte above 15), or out of the limits. */
-static uint8_t number(const uint8_t *roll, size_t length, size_t *at, uint64_t least, uint64_t most, uint64_t *value)
+uint8_t number(const uint8_t *roll, size_t length, size_t *at, uint64_t least, uint64_t most, uint64_t *value)
 {
     uint64_t sum = 0;
     for (size_t i = 0; i < length - *at; i++) {
@@ -73,14 +71,14 @@ static uint8_t number(const uint8_t *roll, size_t length, size_t *at, uint64_t l
     return 14;
 }
 
-xew_opened expected_open(const uint8_t *roll, size_t length)
+xew_opened expected_header(const uint8_t *roll, size_t length, uint8_t first)
 {
     xew_opened opened = { 0 }, refused = { 0 };
     size_t at = 0;
     uint64_t value, room = 0;
-    uint8_t bad = number(roll, length, &at, 0, 4, &value);
+    uint8_t bad = number(roll, length, &at, first, first + 4u, &value);
     if (!bad)
-        opened.cursor.kind = (uint8_t)value;
+        opened.cursor.kind = (uint8_t)(value - first);
     for (int i = 0; !bad && i < orders_used[opened.cursor.kind]; i++) {
         room = i % 3 ? room : XEW_MOST_ORDER;
         bad = number(roll, length, &at, 0, room, &value);
@@ -101,6 +99,16 @@ xew_opened expected_open(const uint8_t *roll, size_t length)
     return opened;
 }
 
+xew_opened expected_open(const uint8_t *roll, size_t length)
+{
+    return expected_header(roll, length, 0);
+}
+
+bool forged(xew_cursor cursor, size_t length)
+{
+    return cursor.kind > 4 || cursor.l > orders_used[cursor.kind] / 3 * XEW_MOST_ORDER || cursor.place > length;
+}
+
 xew_step expected_next(xew_cursor cursor, const uint8_t *roll, size_t length)
 {
     xew_step step = { 0 }, refused = { 0 };
@@ -108,9 +116,7 @@ xew_step expected_next(xew_cursor cursor, const uint8_t *roll, size_t length)
     uint64_t value;
     refused.refusal = 7;
     refused.place = at;
-    if (cursor.kind > 4 || cursor.l > orders_used[cursor.kind] / 3 * XEW_MOST_ORDER)
-        return refused;
-    if (at > length || (cursor.left == 0 && at < length))
+    if (forged(cursor, length) || (cursor.left == 0 && at < length))
         return refused;
     if (cursor.left == 0) {
         step.found = 2;

@@ -65,8 +65,11 @@ void any_request(struct request *request);
 size_t any_roll(uint8_t *out); /* at most MOST_BYTES */
 size_t good_roll(uint8_t *out, size_t most); /* one that reads, of at most so many bytes */
 size_t most_terms_roll(uint8_t *out, uint32_t terms); /* so many terms in as few bytes as can be */
+size_t any_roll2(uint8_t *out); /* the same in form 2 */
+size_t good_roll2(uint8_t *out, size_t most);
 size_t any_start(size_t length, size_t need);
 xew_cursor any_cursor(xew_cursor cursor, size_t length);
+xew_cursor2 any_cursor2(xew_cursor2 cursor, size_t length);
 
 /* inputs.c: floats. */
 double any_float(void);
@@ -80,6 +83,11 @@ uint8_t expected_request(uint8_t kind, const uint8_t *orders);
 uint64_t expected_terms(uint8_t kind, const uint8_t *orders); /* histories.c: of a request that keeps the limits */
 size_t expected_list(uint8_t order, uint8_t *out); /* its bytes; 0 where there is none */
 xew_component expected_component(const uint8_t *shells, int count, uint32_t number);
+/* Reads a number from least to most and moves on. Where there is none it stays, and answers 14 if the roll ends before
+ * the number does, else 7: not the shortest form, 2^32 and above (a fifth byte above 15), or out of the limits. */
+uint8_t number(const uint8_t *roll, size_t length, size_t *at, uint64_t least, uint64_t most, uint64_t *value);
+xew_opened expected_header(const uint8_t *roll, size_t length, uint8_t first); /* first: what stands for kind 0 */
+bool forged(xew_cursor cursor, size_t length);
 xew_opened expected_open(const uint8_t *roll, size_t length);
 xew_opened expected_check(const uint8_t *roll, size_t length);
 xew_step expected_next(xew_cursor cursor, const uint8_t *roll, size_t length);
@@ -91,5 +99,17 @@ uint8_t expected_value(xew_opened checked, const xew_centre *centres, double aux
 /* 0: j and k, of 256 each, have the sums */
 uint8_t expected_jk(size_t n, const double *i, const double *d, const size_t lengths[4], double *j, double *k);
 bool all_finite(const double *floats, size_t count);
+
+/* expected2.c: the same of form 2, and which of its own faults was met last. */
+enum fault { NO_FAULT, SHARES_BEYOND, TOO_MANY, NOT_THE_LONGEST, FAULTS };
+extern enum fault fault;
+xew_opened2 expected_open2(const uint8_t *roll, size_t length);
+xew_opened2 expected_check2(const uint8_t *roll, size_t length);
+xew_step2 expected_next2(xew_cursor2 cursor, const uint8_t *roll, size_t length);
+size_t put(uint8_t *out, uint64_t number); /* writes a number; answers its bytes */
+/* What a roll that reads is in form 2, into at most MOST_BYTES; answers its length. odd is the number of a term whose
+ * shared length is so much more than the longest, with the further prefactors that then follow; UINT32_MAX for none. */
+size_t in_form2(const uint8_t *roll, size_t length, uint8_t *out, uint32_t odd, int more);
+size_t in_form1(const uint8_t *roll, size_t length, uint8_t *out); /* the way back */
 
 #endif

@@ -157,15 +157,6 @@ size_t any_start(size_t length, size_t need)
     }
 }
 
-static size_t put(uint8_t *out, uint64_t number)
-{
-    size_t at = 0;
-    for (; number >= 128; number /= 128)
-        out[at++] = (uint8_t)(128 + number % 128);
-    out[at++] = (uint8_t)number;
-    return at;
-}
-
 /* A legal roll that no expansion gives; if it need not be good, with numbers beyond their limits now and then. */
 static size_t made_up(uint8_t *out, bool good)
 {
@@ -216,7 +207,7 @@ static size_t noise(uint8_t *out)
 
 static size_t mutated(uint8_t *out, size_t length)
 {
-    static const uint8_t bytes[] = { 0, 1, 4, 5, 6, 7, 8, 22, 23, 24, 25, 127, 128, 129, 255 };
+    static const uint8_t bytes[] = { 0, 1, 4, 5, 6, 7, 8, 16, 20, 21, 22, 23, 24, 25, 127, 128, 129, 255 };
     size_t at = length ? below(once_in(2) && length > 30 ? 30 : length) : 0;
     size_t more = 1 + below(5);
     switch (length ? below(8) : 5) {
@@ -291,6 +282,51 @@ xew_cursor any_cursor(xew_cursor cursor, size_t length)
         cursor.left = once_in(4) ? (uint32_t)bits() : ONE_OF(lefts);
     if (once_in(2))
         cursor.place = once_in(2) ? below(length + 1) : length > 20 && once_in(2) ? length - below(20) : ONE_OF(places);
+    return cursor;
+}
+
+/* A roll of form 2, often with a term whose shared length is not the longest or beyond it. */
+size_t any_roll2(uint8_t *out)
+{
+    static uint8_t form1[MOST_BYTES];
+    uint64_t which = below(16);
+    if (which == 0)
+        return any_roll(out); /* of form 1, mostly */
+    if (which == 1) {
+        size_t length = once_in(4) ? 0 : noise(out);
+        out[0] = (uint8_t)(length ? 16 + below(6) : 0);
+        return length;
+    }
+    size_t length = good_roll(form1, MOST_BYTES);
+    uint32_t terms = expected_open(form1, length).cursor.left;
+    static const int mores[] = { -1, 1, 1, -2, 2, 25 };
+    length = in_form2(form1, length, out, which < 8 ? (uint32_t)below(terms) : UINT32_MAX, ONE_OF(mores));
+    for (uint64_t times = which < 12 ? 0 : 1 + below(3); times > 0; times--)
+        length = mutated(out, length);
+    return length;
+}
+
+size_t good_roll2(uint8_t *out, size_t most)
+{
+    static uint8_t form1[MOST_BYTES];
+    for (;;) {
+        size_t length = in_form2(form1, good_roll(form1, most), out, UINT32_MAX, 0);
+        if (length <= most)
+            return length;
+    }
+}
+
+xew_cursor2 any_cursor2(xew_cursor2 cursor, size_t length)
+{
+    static const uint8_t counts[] = { 0, 1, 2, 3, 12, 13, 18, 23, 24, 25, 26, 128, 255 };
+    static const uint8_t prefactors[] = { 0, 6, 7, 8, 10, 11, 12, 22, 23, 128, 255 };
+    cursor.cursor = any_cursor(cursor.cursor, length);
+    if (once_in(3))
+        cursor.count = once_in(2) ? ONE_OF(counts) : (uint8_t)(cursor.cursor.l + below(3));
+    if (once_in(3))
+        cursor.earlier[below(XEW_PREFACTORS)] = ONE_OF(prefactors);
+    for (int i = cursor.count; i < XEW_PREFACTORS && once_in(2); i++)
+        cursor.earlier[i] = (uint8_t)bits(); /* behind the term before nothing is looked at */
     return cursor;
 }
 

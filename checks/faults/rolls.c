@@ -3,7 +3,7 @@
 #include <math.h>
 #include <string.h>
 
-static bool same_cursor(xew_cursor a, xew_cursor b)
+bool same_cursor(xew_cursor a, xew_cursor b)
 {
     return a.place == b.place && a.left == b.left && a.kind == b.kind && a.l == b.l;
 }
@@ -62,7 +62,7 @@ void try_next(struct slice roll, xew_cursor cursor)
         count(NEXT, answer.refusal, again);
         hold(same_step(answer, expected), "xew_next: another answer than the documents'");
     }
-    count_found(expected.found);
+    count_found(NEXT, expected.found);
 }
 
 /* Steps from the first term to the last: as many as the header says and then the end, or the place that check tells.

@@ -20,8 +20,9 @@ static const uint8_t most_terms[XEW_KINDS][XEW_ORDERS] = {
 static const uint8_t deepest[XEW_ORDERS] = { 2, 0, 0, 3, 1, 1, 4, 1, 1, 1, 0, 0 };
 static const uint8_t most_orders[XEW_ORDERS] = { 6, 0, 0, 6, 0, 0, 6, 0, 0, 6, 0, 0 };
 static uint8_t *rolls[XEW_KINDS], out[MOST_BYTES];
+static uint8_t *rolls2[XEW_KINDS]; /* in form 2 */
 static xew_opened opened[XEW_KINDS];
-static size_t lengths[XEW_KINDS];
+static size_t lengths[XEW_KINDS], lengths2[XEW_KINDS];
 static uint8_t triples[TRIPLES][3];
 static double floats[65536], matrices[3][256];
 static const xew_centre a = { 0, 0, 0, 1 }, b = { 1, 0, 0, 2 }, c = { 0, 1, 0, 3 }, d = { 0, 0, 1, 4 };
@@ -92,6 +93,12 @@ CALLER xew_written expand_one(const uint8_t (*orders)[12])
     return xew_expand(kind, orders, out, sizeof out, 0);
 }
 
+CALLER xew_written expand2_one(const uint8_t (*orders)[12])
+{
+    FROM_HERE;
+    return xew_expand2(kind, orders, out, sizeof out, 0);
+}
+
 CALLER xew_written measure_one(const uint8_t (*orders)[12])
 {
     FROM_HERE;
@@ -103,6 +110,11 @@ static void expand(void)
     each_request(expand_one);
 }
 
+static void expand2(void)
+{
+    each_request(expand2_one);
+}
+
 static void measure(void)
 {
     each_request(measure_one);
@@ -111,6 +123,11 @@ static void measure(void)
 static void expand_deepest(void)
 {
     note(expand_one(&deepest).refusal);
+}
+
+static void expand2_deepest(void)
+{
+    note(expand2_one(&deepest).refusal);
 }
 
 static void expand_most_orders(void)
@@ -160,6 +177,45 @@ CALLER void next(void)
     FROM_HERE;
     for (int k = 0; k < XEW_KINDS; k++)
         note(xew_next(opened[k].cursor, rolls[k], lengths[k]).refusal);
+}
+
+CALLER void open2_rolls(void)
+{
+    FROM_HERE;
+    for (int k = 0; k < XEW_KINDS; k++)
+        note(xew_open2(rolls2[k], lengths2[k]).refusal);
+}
+
+CALLER void check2(void)
+{
+    FROM_HERE;
+    for (int k = 0; k < XEW_KINDS; k++)
+        note(xew_check2(rolls2[k], lengths2[k]).refusal);
+}
+
+/* The second term, which has one before it. */
+CALLER void next2(void)
+{
+    FROM_HERE;
+    for (int k = 0; k < XEW_KINDS; k++) {
+        xew_cursor2 cursor = xew_open2(rolls2[k], lengths2[k]).cursor;
+        cursor = xew_next2(cursor, rolls2[k], lengths2[k]).next;
+        note(xew_next2(cursor, rolls2[k], lengths2[k]).refusal);
+    }
+}
+
+CALLER void move_to_form2(void)
+{
+    FROM_HERE;
+    for (int k = 0; k < XEW_KINDS; k++)
+        note(xew_to_form2(rolls[k], lengths[k], out, sizeof out, 0).refusal);
+}
+
+CALLER void move_to_form1(void)
+{
+    FROM_HERE;
+    for (int k = 0; k < XEW_KINDS; k++)
+        note(xew_to_form1(rolls2[k], lengths2[k], out, sizeof out, 0).refusal);
 }
 
 CALLER void scale_total(void)
@@ -234,6 +290,11 @@ int main(int words, char **word)
         if (!rolls[k] || xew_expand(k, &most_terms[k], rolls[k], lengths[k], 0).refusal)
             abort();
         opened[k] = xew_open(rolls[k], lengths[k]);
+        lengths2[k] = xew_expand2(k, &most_terms[k], out, sizeof out, 0).length;
+        rolls2[k] = malloc(lengths2[k]);
+        if (!rolls2[k] || lengths2[k] == 0)
+            abort();
+        memcpy(rolls2[k], out, lengths2[k]);
     }
     printf("bytes of stack below the caller's frame\n");
     for (uint8_t k = 0; k < XEW_KINDS; k++)
@@ -243,12 +304,20 @@ int main(int words, char **word)
     for (uint8_t k = 0; k < XEW_KINDS; k++)
         row_of_kind("xew_measure", k, measure);
     row("xew_measure, Coulomb x6,x6,x6,x6", measure_most_orders);
+    for (uint8_t k = 0; k < XEW_KINDS; k++)
+        row_of_kind("xew_expand2", k, expand2);
+    row("xew_expand2, Coulomb, the deepest", expand2_deepest);
     row("xew_shell_list, order 6", shell_list);
     row("xew_shell2, the last component", shell2);
     row("xew_shell4, the last component", shell4);
     row("xew_open, the most terms of each kind", open_rolls);
     row("xew_check, the most terms of each kind", check);
     row("xew_next, the most terms of each kind", next);
+    row("xew_open2, the most terms of each kind", open2_rolls);
+    row("xew_check2, the most terms of each kind", check2);
+    row("xew_next2, the most terms of each kind", next2);
+    row("xew_to_form2, the most terms of each kind", move_to_form2);
+    row("xew_to_form1, the most terms of each kind", move_to_form1);
     row("xew_scale_total, each kind", scale_total);
     row("xew_roll_total, the most terms of each kind", roll_total);
     row("xew_prefactors, each kind", prefactors);

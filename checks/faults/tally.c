@@ -11,12 +11,18 @@ static const struct {
 } functions[FUNCTIONS] = {
     [EXPAND] = { "xew_expand", { 1, 2, 3, 5, 4, 6 } },
     [MEASURE] = { "xew_measure", { 1, 2, 3, 4 } },
+    [EXPAND2] = { "xew_expand2", { 1, 2, 3, 5, 4, 6 } },
     [SHELL_LIST] = { "xew_shell_list", { 2, 5, 6 } },
     [SHELL2] = { "xew_shell2", { 2, 13 } },
     [SHELL4] = { "xew_shell4", { 2, 13 } },
     [OPEN] = { "xew_open", { 7, 14 } },
     [CHECK] = { "xew_check", { 7, 14 } },
     [NEXT] = { "xew_next", { 7, 14 } },
+    [OPEN2] = { "xew_open2", { 7, 14 } },
+    [CHECK2] = { "xew_check2", { 7, 14 } },
+    [NEXT2] = { "xew_next2", { 7, 14 } },
+    [TO_FORM2] = { "xew_to_form2", { 7, 14, 5, 6 } },
+    [TO_FORM1] = { "xew_to_form1", { 7, 14, 5, 6 } },
     [SCALE_TOTAL] = { "xew_scale_total", { 1, 2, 3 } },
     [ROLL_TOTAL] = { "xew_roll_total", { 7, 14 } },
     [PREFACTORS] = { "xew_prefactors", { 1, 8, 9, 11 } },
@@ -29,10 +35,18 @@ static const struct {
     const char *slice;
 } nulls[EMPTIES] = {
     [EXPAND_OUT] = { EXPAND, "out" },
+    [EXPAND2_OUT] = { EXPAND2, "out" },
     [LIST_OUT] = { SHELL_LIST, "out" },
     [OPEN_ROLL] = { OPEN, "roll" },
     [CHECK_ROLL] = { CHECK, "roll" },
     [NEXT_ROLL] = { NEXT, "roll" },
+    [OPEN2_ROLL] = { OPEN2, "roll" },
+    [CHECK2_ROLL] = { CHECK2, "roll" },
+    [NEXT2_ROLL] = { NEXT2, "roll" },
+    [TO_FORM2_ROLL] = { TO_FORM2, "roll" },
+    [TO_FORM2_OUT] = { TO_FORM2, "out" },
+    [TO_FORM1_ROLL] = { TO_FORM1, "roll" },
+    [TO_FORM1_OUT] = { TO_FORM1, "out" },
     [TOTAL_ROLL] = { ROLL_TOTAL, "roll" },
     [EVALUATE_ROLL] = { EVALUATE, "roll" },
     [EVALUATE_BOYS] = { EVALUATE, "boys" },
@@ -52,8 +66,11 @@ static const struct {
 };
 enum { REFUSALS = 15, LARGE = sizeof large / sizeof *large }; /* no refusal, and 1 to 14 */
 
+static const char *const fault_names[FAULTS] = { "", "shares beyond", "too many", "not the longest" };
+
 uint64_t further_calls;
-static uint64_t answers[FUNCTIONS][REFUSALS], found[3], rolls[LARGE], just_over, most_histories, empties[EMPTIES];
+static uint64_t answers[FUNCTIONS][REFUSALS], found[FUNCTIONS][3], faults[FAULTS], rolls[LARGE], empties[EMPTIES];
+static uint64_t just_over, most_histories;
 
 void begin(enum function f, const char *labels, size_t words_count, const uint64_t *words)
 {
@@ -93,9 +110,14 @@ void count(enum function f, uint8_t refusal, int again)
     call.number++;
 }
 
-void count_found(uint8_t which)
+void count_found(enum function f, uint8_t which)
 {
-    found[which]++;
+    found[f][which]++;
+}
+
+void count_fault(enum fault met)
+{
+    faults[met]++;
 }
 
 void count_roll(xew_written written)
@@ -150,10 +172,12 @@ bool report(void)
             show(name, "1,048,576 histories", just_over);
             show(name, "905,995,238,216 histories", most_histories);
         }
-        if (f == NEXT) {
-            show(name, "term", found[1]);
-            show(name, "end", found[2]);
+        if (f == NEXT || f == NEXT2) {
+            show(name, "term", found[f][1]);
+            show(name, "end", found[f][2]);
         }
+        for (int i = 1; f == CHECK2 && i < FAULTS; i++)
+            show(name, fault_names[i], faults[i]);
         for (const uint8_t *refusal = functions[f].refusals; *refusal; refusal++) {
             snprintf(label, sizeof label, "refused %d", *refusal);
             show(name, label, answers[f][*refusal]);

@@ -5,13 +5,14 @@
 #include "faults.h"
 
 enum function {
-    EXPAND, MEASURE, SHELL_LIST, SHELL2, SHELL4, OPEN, CHECK, NEXT, SCALE_TOTAL, ROLL_TOTAL, PREFACTORS, EVALUATE, JK,
-    FUNCTIONS
+    EXPAND, MEASURE, EXPAND2, SHELL_LIST, SHELL2, SHELL4, OPEN, CHECK, NEXT, OPEN2, CHECK2, NEXT2, TO_FORM2, TO_FORM1,
+    SCALE_TOTAL, ROLL_TOTAL, PREFACTORS, EVALUATE, JK, FUNCTIONS
 };
 
 /* Slices that may be of length 0 and null. */
 enum empty {
-    EXPAND_OUT, LIST_OUT, OPEN_ROLL, CHECK_ROLL, NEXT_ROLL, TOTAL_ROLL, EVALUATE_ROLL, EVALUATE_BOYS, JK_I, JK_D, JK_J,
+    EXPAND_OUT, EXPAND2_OUT, LIST_OUT, OPEN_ROLL, CHECK_ROLL, NEXT_ROLL, OPEN2_ROLL, CHECK2_ROLL, NEXT2_ROLL,
+    TO_FORM2_ROLL, TO_FORM2_OUT, TO_FORM1_ROLL, TO_FORM1_OUT, TOTAL_ROLL, EVALUATE_ROLL, EVALUATE_BOYS, JK_I, JK_D, JK_J,
     JK_K, EMPTIES
 };
 
@@ -26,7 +27,8 @@ void with_slice(const struct slice *slice);
 void with_floats(const double *floats, size_t count);
 void hold(bool good, const char *what);
 void count(enum function f, uint8_t refusal, int again); /* again: 1 for the second call with the same arguments */
-void count_found(uint8_t found);
+void count_found(enum function f, uint8_t found); /* of xew_next or xew_next2 */
+void count_fault(enum fault met); /* of a form 2 roll */
 void count_roll(xew_written written);
 void count_histories(uint64_t histories); /* of a request over the cap */
 void maybe_null(struct slice *slice, enum empty which); /* where the length is 0, half of the time */
@@ -34,6 +36,7 @@ bool same_written(xew_written a, xew_written b);
 bool report(void); /* false where something that should come up did not */
 
 /* rolls.c: calls on rolls, each made twice */
+bool same_cursor(xew_cursor a, xew_cursor b);
 bool same_opened(xew_opened a, xew_opened b);
 xew_opened try_open(struct slice roll);
 xew_opened try_check(struct slice roll);
@@ -43,5 +46,16 @@ uint64_t try_roll_total(struct slice roll, xew_opened checked); /* the sum */
 void try_evaluate(struct slice roll, xew_opened checked);
 void try_cuts(const uint8_t *bytes, size_t length); /* of a roll that reads */
 struct slice try_expand(const struct request *request, size_t length, size_t start);
+
+/* forms.c: calls on rolls of form 2, and moves, each made twice */
+bool same_opened2(xew_opened2 a, xew_opened2 b);
+xew_opened2 try_open2(struct slice roll);
+xew_opened2 try_check2(struct slice roll);
+void try_next2(struct slice roll, xew_cursor2 cursor);
+xew_cursor2 step_through2(struct slice roll, xew_opened2 opened, xew_opened2 checked);
+void try_cuts2(const uint8_t *bytes, size_t length); /* of a roll that reads */
+void try_to_form2(struct slice roll, xew_opened checked);
+void try_to_form1(struct slice roll, xew_opened2 checked);
+void try_expand2(const struct request *request);
 
 #endif

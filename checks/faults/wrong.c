@@ -110,6 +110,108 @@ xew_value __wrap_xew_evaluate(const uint8_t *roll, size_t roll_len, xew_centre a
     return value;
 }
 
+xew_written __real_xew_expand2(uint8_t kind, const uint8_t (*orders)[12], uint8_t *out, size_t out_len, size_t start);
+xew_written __wrap_xew_expand2(uint8_t kind, const uint8_t (*orders)[12], uint8_t *out, size_t out_len, size_t start)
+{
+    if (is("expands-in-form-1"))
+        return __real_xew_expand(kind, orders, out, out_len, start);
+    xew_written written = __real_xew_expand2(kind, orders, out, out_len, start);
+    if (is("measures-form-2-as-form-1") && !written.refusal
+        && __real_xew_measure(kind, orders).length > out_len - start)
+        written = (xew_written){ 0, 0, 6 };
+    return written;
+}
+
+/* The whole roll judged, where a shared length need not be the longest: a term that is refused is read again after as
+ * much of the term before as it shares. */
+static xew_opened2 not_the_longest(const uint8_t *roll, size_t roll_len)
+{
+    xew_opened2 opened = xew_open2(roll, roll_len);
+    xew_step2 step = { .next = opened.cursor, .found = 1 };
+    while (step.found == 1) {
+        xew_cursor2 cursor = step.next;
+        step = xew_next2(cursor, roll, roll_len);
+        while (step.found == 0 && cursor.count > 0) {
+            cursor.count--;
+            step = xew_next2(cursor, roll, roll_len);
+        }
+    }
+    return step.found == 2 ? opened : (xew_opened2){ .place = step.place, .refusal = step.refusal };
+}
+
+xew_opened2 __real_xew_check2(const uint8_t *roll, size_t roll_len);
+xew_opened2 __wrap_xew_check2(const uint8_t *roll, size_t roll_len)
+{
+    if (is("reads-form-2-past-the-end") && roll)
+        seen = roll[roll_len];
+    xew_opened2 opened = __real_xew_check2(roll, roll_len);
+    xew_opened form1 = __real_xew_check(roll, roll_len);
+    if (is("takes-form-1-for-form-2") && !form1.refusal)
+        opened.cursor.cursor = form1.cursor, opened.refusal = 0;
+    if (is("takes-a-length-not-the-longest") && opened.refusal == 7 && !xew_open2(roll, roll_len).refusal)
+        opened = not_the_longest(roll, roll_len);
+    if (is("tells-the-kind-with-16") && !opened.refusal)
+        opened.cursor.cursor.kind = (uint8_t)(opened.cursor.cursor.kind + 16);
+    return opened;
+}
+
+xew_step2 __real_xew_next2(xew_cursor2 cursor, const uint8_t *roll, size_t roll_len);
+xew_step2 __wrap_xew_next2(xew_cursor2 cursor, const uint8_t *roll, size_t roll_len)
+{
+    xew_step2 step = __real_xew_next2(cursor, roll, roll_len);
+    if (is("forgets-the-term-before") && step.found == 1)
+        step.next.count = 0;
+    if (is("takes-a-forged-term-before") && step.refusal == 7 && step.place == cursor.cursor.place) {
+        cursor.count = 0;
+        step = __real_xew_next2(cursor, roll, roll_len);
+    }
+    if (is("leaves-the-shared-ones-out") && step.found == 1 && cursor.count > 0
+        && step.prefactors[0] == cursor.earlier[0])
+        step.prefactors[0] = 0;
+    return step;
+}
+
+/* Where the last term of a form 2 roll begins. */
+static size_t last_term(const uint8_t *roll, size_t roll_len)
+{
+    xew_cursor2 cursor = xew_open2(roll, roll_len).cursor;
+    while (cursor.cursor.left > 1)
+        cursor = __real_xew_next2(cursor, roll, roll_len).next;
+    return cursor.cursor.place;
+}
+
+xew_moved __real_xew_to_form2(const uint8_t *roll, size_t roll_len, uint8_t *out, size_t out_len, size_t start);
+xew_moved __wrap_xew_to_form2(const uint8_t *roll, size_t roll_len, uint8_t *out, size_t out_len, size_t start)
+{
+    if (is("writes-before-it-has-read") && start < out_len)
+        out[start] = (uint8_t)(roll_len ? *roll + 16 : 0);
+    if (is("judges-the-room-first") && start > out_len)
+        return (xew_moved){ 0, 0, 0, 5 };
+    xew_moved moved = __real_xew_to_form2(roll, roll_len, out, out_len, start);
+    if (is("forgets-the-last-term") && !moved.refusal && moved.terms > 1) {
+        moved.length = last_term(out + start, moved.length);
+        moved.terms--;
+    }
+    if (is("moves-beyond-the-output") && !moved.refusal && start + moved.length < out_len)
+        out[start + moved.length] ^= 1;
+    return moved;
+}
+
+xew_moved __real_xew_to_form1(const uint8_t *roll, size_t roll_len, uint8_t *out, size_t out_len, size_t start);
+xew_moved __wrap_xew_to_form1(const uint8_t *roll, size_t roll_len, uint8_t *out, size_t out_len, size_t start)
+{
+    xew_moved moved = __real_xew_to_form1(roll, roll_len, out, out_len, start);
+    if (is("keeps-the-kind-with-16") && !moved.refusal)
+        out[start] = (uint8_t)(out[start] + 16);
+    if (is("moves-without-its-place") && moved.refusal == 7)
+        moved.place = 0;
+    if (is("moves-a-cut-roll-as-7") && moved.refusal == 14)
+        moved.refusal = 7;
+    if (is("writes-and-then-refuses") && moved.refusal == 6 && start < out_len)
+        out[start] ^= 1;
+    return moved;
+}
+
 xew_total __real_xew_scale_total(uint8_t kind, const uint8_t (*orders)[12]);
 xew_total __wrap_xew_scale_total(uint8_t kind, const uint8_t (*orders)[12])
 {

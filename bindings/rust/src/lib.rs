@@ -26,7 +26,7 @@ mod raw;
 #[allow(missing_docs)]
 mod refusal;
 
-pub use raw::{Centre, Cursor};
+pub use raw::{Centre, Cursor, Cursor2};
 pub use refusal::Refusal;
 
 /// The version of include/xewumbal.h.
@@ -62,7 +62,7 @@ pub const MOMENT: u8 = 3;
 /// Kind 4.
 pub const COULOMB: u8 = 4;
 
-/// The answer of [`expand`] and [`measure`].
+/// The answer of [`expand`], [`expand2`] and [`measure`].
 #[derive(Clone, Copy, Debug, PartialEq, Eq)]
 pub enum Expanded {
     /// The roll has `length` bytes, from the start place on where it was written, and `terms` terms.
@@ -128,6 +128,38 @@ pub enum Step {
     /// No term is left, and nothing follows.
     End,
     /// By 7 or 14.
+    Refused(Refusal),
+}
+
+/// The answer of [`open2`] and [`check2`].
+#[derive(Clone, Copy, Debug, PartialEq, Eq)]
+pub enum Opened2 {
+    /// The cursor at the first term, and the roll's orders, zeros after those that its kind uses.
+    #[allow(missing_docs)]
+    Roll { cursor: Cursor2, orders: [u8; ORDERS] },
+    /// By 7 or 14.
+    Refused(Refusal),
+}
+
+/// The answer of [`Cursor2::next`].
+#[derive(Clone, Copy, Debug, PartialEq, Eq)]
+pub enum Step2 {
+    /// The term at the cursor with all its prefactors, and the cursor one term further on.
+    #[allow(missing_docs)]
+    Term { term: Term, next: Cursor2 },
+    /// No term is left, and nothing follows.
+    End,
+    /// By 7 or 14.
+    Refused(Refusal),
+}
+
+/// The answer of [`to_form2`] and [`to_form1`].
+#[derive(Clone, Copy, Debug, PartialEq, Eq)]
+pub enum Moved {
+    /// The roll has `length` bytes in its new form, from the start place on, and `terms` terms.
+    #[allow(missing_docs)]
+    Roll { length: usize, terms: u32 },
+    /// By 7 or 14, 5 or 6.
     Refused(Refusal),
 }
 
@@ -197,6 +229,12 @@ pub fn measure(kind: u8, orders: &[u8; ORDERS]) -> Expanded {
     expanded(raw::measure(kind, orders))
 }
 
+/// Writes the roll of a request in form 2, the shorter stored one. The length plus the terms that [`measure`] tells
+/// always hold it.
+pub fn expand2(kind: u8, orders: &[u8; ORDERS], out: &mut [u8], start: usize) -> Expanded {
+    expanded(raw::expand2(kind, orders, out, start))
+}
+
 /// Writes the triples of a shell into `out` from `start` on, three bytes each, x descending, then y.
 pub fn shell_list(order: u8, out: &mut [u8], start: usize) -> Listed {
     let answer = raw::shell_list(order, out, start);
@@ -253,6 +291,54 @@ impl Cursor {
             None => Step::End,
         }
     }
+}
+
+fn opened2(answer: raw::Opened2) -> Opened2 {
+    match Refusal::of(answer.refusal, answer.place) {
+        Some(refusal) => Opened2::Refused(refusal),
+        None => Opened2::Roll { cursor: answer.cursor, orders: answer.orders },
+    }
+}
+
+/// Reads the header of a form 2 roll alone, as [`open`]. Each form's reader refuses the other by 7 at place 0.
+pub fn open2(roll: &[u8]) -> Opened2 {
+    opened2(raw::open2(roll))
+}
+
+/// Judges a whole form 2 roll, as [`check`].
+pub fn check2(roll: &[u8]) -> Opened2 {
+    opened2(raw::check2(roll))
+}
+
+impl Cursor2 {
+    /// The term here with all its prefactors, and the cursor for the next call.
+    pub fn next(self, roll: &[u8]) -> Step2 {
+        let answer = raw::next2(self, roll);
+        let raw::Step2 { next, scale, boys, count, prefactors, found, .. } = answer;
+        match Refusal::of(answer.refusal, answer.place) {
+            Some(refusal) => Step2::Refused(refusal),
+            None if found == 1 => Step2::Term { term: Term { scale, boys, count, prefactors }, next },
+            None => Step2::End,
+        }
+    }
+}
+
+fn moved(answer: raw::Moved) -> Moved {
+    match Refusal::of(answer.refusal, answer.place) {
+        Some(refusal) => Moved::Refused(refusal),
+        None => Moved::Roll { length: answer.length, terms: answer.terms },
+    }
+}
+
+/// Moves a form 1 roll to form 2, into `out` from `start` on. The roll's bytes plus its terms always hold it.
+pub fn to_form2(roll: &[u8], out: &mut [u8], start: usize) -> Moved {
+    moved(raw::to_form2(roll, out, start))
+}
+
+/// Moves a form 2 roll back to form 1, into `out` from `start` on. The roll's bytes plus its L for each term always hold
+/// it.
+pub fn to_form1(roll: &[u8], out: &mut [u8], start: usize) -> Moved {
+    moved(raw::to_form1(roll, out, start))
 }
 
 /// What the scales of a request's terms add up to, worked out from the orders alone: for overlap, nuclear and moment

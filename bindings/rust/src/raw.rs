@@ -71,6 +71,44 @@ pub struct Step {
     pub refusal: u8,
 }
 
+/// Where a reader of a form 2 roll stands: a cursor, whose kind is told without the 16, and the prefactors of the term
+/// before in the first `count` places of `earlier`. `open2` and `check2` give one; one that was made up is answered too.
+#[repr(C)]
+#[derive(Clone, Copy, Debug, Default, PartialEq, Eq)]
+pub struct Cursor2 {
+    pub cursor: Cursor,
+    pub count: u8,
+    pub earlier: [u8; PREFACTORS],
+}
+
+#[repr(C)]
+pub struct Opened2 {
+    pub cursor: Cursor2,
+    pub place: usize,
+    pub orders: [u8; ORDERS],
+    pub refusal: u8,
+}
+
+#[repr(C)]
+pub struct Step2 {
+    pub next: Cursor2,
+    pub place: usize,
+    pub scale: u32,
+    pub boys: u8,
+    pub count: u8,
+    pub prefactors: [u8; PREFACTORS],
+    pub found: u8,
+    pub refusal: u8,
+}
+
+#[repr(C)]
+pub struct Moved {
+    pub length: usize,
+    pub place: usize,
+    pub terms: u32,
+    pub refusal: u8,
+}
+
 #[repr(C)]
 pub struct Total {
     pub total: u64,
@@ -90,18 +128,26 @@ const _: () = assert!(size_of::<Centre>() == 32 && size_of::<Cursor>() == 16);
 const _: () = assert!(size_of::<Written>() == 16 && size_of::<Value>() == 24);
 const _: () = assert!(size_of::<Component>() == 13 && size_of::<Table>() == 192);
 const _: () = assert!(size_of::<Opened>() == 40 && size_of::<Step>() == 56);
+const _: () = assert!(size_of::<Cursor2>() == 48 && size_of::<Opened2>() == 72);
+const _: () = assert!(size_of::<Step2>() == 88 && size_of::<Moved>() == 24);
 const _: () = assert!(size_of::<Total>() == 16 && size_of::<Scales>() == 24);
 
 #[rustfmt::skip]
 extern "C" {
     fn xew_expand(kind: u8, orders: *const [u8; ORDERS], out: *mut u8, out_len: usize, start: usize) -> Written;
     fn xew_measure(kind: u8, orders: *const [u8; ORDERS]) -> Written;
+    fn xew_expand2(kind: u8, orders: *const [u8; ORDERS], out: *mut u8, out_len: usize, start: usize) -> Written;
     fn xew_shell_list(order: u8, out: *mut u8, out_len: usize, start: usize) -> Written;
     fn xew_shell2(a: u8, b: u8, number: u32) -> Component;
     fn xew_shell4(a: u8, b: u8, c: u8, d: u8, number: u32) -> Component;
     fn xew_open(roll: *const u8, roll_len: usize) -> Opened;
     fn xew_check(roll: *const u8, roll_len: usize) -> Opened;
     fn xew_next(cursor: Cursor, roll: *const u8, roll_len: usize) -> Step;
+    fn xew_open2(roll: *const u8, roll_len: usize) -> Opened2;
+    fn xew_check2(roll: *const u8, roll_len: usize) -> Opened2;
+    fn xew_next2(cursor: Cursor2, roll: *const u8, roll_len: usize) -> Step2;
+    fn xew_to_form2(roll: *const u8, roll_len: usize, out: *mut u8, out_len: usize, start: usize) -> Moved;
+    fn xew_to_form1(roll: *const u8, roll_len: usize, out: *mut u8, out_len: usize, start: usize) -> Moved;
     fn xew_scale_total(kind: u8, orders: *const [u8; ORDERS]) -> Total;
     fn xew_roll_total(roll: *const u8, roll_len: usize) -> Scales;
     fn xew_prefactors(kind: u8, a: Centre, b: Centre, c: Centre, d: Centre) -> Table;
@@ -117,6 +163,10 @@ pub fn expand(kind: u8, orders: &[u8; ORDERS], out: &mut [u8], start: usize) -> 
 
 pub fn measure(kind: u8, orders: &[u8; ORDERS]) -> Written {
     unsafe { xew_measure(kind, orders) }
+}
+
+pub fn expand2(kind: u8, orders: &[u8; ORDERS], out: &mut [u8], start: usize) -> Written {
+    unsafe { xew_expand2(kind, orders, out.as_mut_ptr(), out.len(), start) }
 }
 
 pub fn shell_list(order: u8, out: &mut [u8], start: usize) -> Written {
@@ -141,6 +191,26 @@ pub fn check(roll: &[u8]) -> Opened {
 
 pub fn next(cursor: Cursor, roll: &[u8]) -> Step {
     unsafe { xew_next(cursor, roll.as_ptr(), roll.len()) }
+}
+
+pub fn open2(roll: &[u8]) -> Opened2 {
+    unsafe { xew_open2(roll.as_ptr(), roll.len()) }
+}
+
+pub fn check2(roll: &[u8]) -> Opened2 {
+    unsafe { xew_check2(roll.as_ptr(), roll.len()) }
+}
+
+pub fn next2(cursor: Cursor2, roll: &[u8]) -> Step2 {
+    unsafe { xew_next2(cursor, roll.as_ptr(), roll.len()) }
+}
+
+pub fn to_form2(roll: &[u8], out: &mut [u8], start: usize) -> Moved {
+    unsafe { xew_to_form2(roll.as_ptr(), roll.len(), out.as_mut_ptr(), out.len(), start) }
+}
+
+pub fn to_form1(roll: &[u8], out: &mut [u8], start: usize) -> Moved {
+    unsafe { xew_to_form1(roll.as_ptr(), roll.len(), out.as_mut_ptr(), out.len(), start) }
 }
 
 pub fn scale_total(kind: u8, orders: &[u8; ORDERS]) -> Total {

@@ -7,6 +7,10 @@ const HEADER: &str = include_str!("../../../include/xewumbal.h");
 const ROLL: [u8; 17] = [0, 1, 0, 0, 1, 0, 0, 2, 1, 0, 2, 0, 1, 1, 0, 1, 7];
 const ROLL_ORDERS: [u8; ORDERS] = [1, 0, 0, 1, 0, 0, 0, 0, 0, 0, 0, 0];
 
+/// Document 01's roll of overlap Ax3 in form 2: [0,0,0], then [0,6], which shares one prefactor, then 2[6,0].
+const FORM2: [u8; 26] = [16, 3, 0, 0, 0, 0, 0, 3, 1, 0, 0, 3, 0, 0, 0, 1, 0, 1, 1, 6, 2, 0, 0, 2, 6, 0];
+const FORM2_ORDERS: [u8; ORDERS] = [3, 0, 0, 0, 0, 0, 0, 0, 0, 0, 0, 0];
+
 const UNIT: Centre = Centre { x: 0.0, y: 0.0, z: 0.0, exponent: 1.0 };
 const UNTOUCHED: u8 = 0xa5;
 
@@ -76,6 +80,93 @@ fn terms_of_the_printed_cases() {
     assert_eq!(terms(&expanded(MOMENT, one_at(&[0, 6]))), [(1, 0, vec![0, 6]), (1, 0, vec![11])]);
     let coulomb = [(1, 0, vec![0, 2]), (1, 1, vec![0, 5]), (1, 1, vec![4, 2]), (1, 2, vec![4, 5]), (1, 1, vec![22])];
     assert_eq!(terms(&expanded(COULOMB, one_at(&[0, 6]))), coulomb);
+}
+
+#[test]
+fn the_form_2_roll_stands_where_it_was_asked_for() {
+    let mut room = [UNTOUCHED; 29];
+    assert_eq!(expand2(OVERLAP, &FORM2_ORDERS, &mut room, 2), Expanded::Roll { length: 26, terms: 3 });
+    assert_eq!(room[..2], [UNTOUCHED; 2]);
+    assert_eq!(room[2..28], FORM2);
+    assert_eq!(room[28], UNTOUCHED);
+    let mut room = [UNTOUCHED; 25];
+    assert_eq!(expand2(OVERLAP, &FORM2_ORDERS, &mut room, 0), Expanded::Refused(Refusal::NoRoom));
+    assert_eq!(expand2(OVERLAP, &FORM2_ORDERS, &mut room, 26), Expanded::Refused(Refusal::StartBeyondEnd));
+    assert_eq!(expand2(5, &FORM2_ORDERS, &mut room, 0), Expanded::Refused(Refusal::Kind));
+    assert_eq!(room, [UNTOUCHED; 25]);
+}
+
+#[test]
+fn there_and_back() {
+    let form1 = expanded(OVERLAP, FORM2_ORDERS);
+    let mut room = [UNTOUCHED; 27];
+    assert_eq!(to_form2(&form1, &mut room, 1), Moved::Roll { length: 26, terms: 3 });
+    assert_eq!((room[0], &room[1..]), (UNTOUCHED, &FORM2[..]));
+    let mut back = vec![UNTOUCHED; form1.len()];
+    assert_eq!(to_form1(&FORM2, &mut back, 0), Moved::Roll { length: form1.len(), terms: 3 });
+    assert_eq!(back, form1);
+    assert_eq!(to_form1(&FORM2, &mut back[1..], 0), Moved::Refused(Refusal::NoRoom));
+    assert_eq!(to_form2(&form1, &mut room, 28), Moved::Refused(Refusal::StartBeyondEnd));
+    assert_eq!(to_form2(&form1[..23], &mut [], 1), Moved::Refused(Refusal::CutRoll { place: 23 }));
+    assert_eq!((back, &room[1..]), (form1, &FORM2[..]));
+}
+
+#[test]
+fn terms_of_a_form_2_roll() {
+    let cursor = Cursor { place: 8, left: 3, kind: OVERLAP, l: 3 };
+    let mut cursor = Cursor2 { cursor, ..Cursor2::default() };
+    assert_eq!(check2(&FORM2), Opened2::Roll { cursor, orders: FORM2_ORDERS });
+    assert_eq!(open2(&FORM2[..8]), check2(&FORM2));
+    let mut found = vec![];
+    while let Step2::Term { term, next } = cursor.next(&FORM2) {
+        assert_eq!(next.earlier[..usize::from(next.count)], *term.prefactors());
+        found.push((term.scale, term.boys, term.prefactors().to_vec()));
+        cursor = next;
+    }
+    assert_eq!(cursor.next(&FORM2), Step2::End);
+    assert_eq!(found, terms(&expanded(OVERLAP, FORM2_ORDERS)));
+}
+
+#[test]
+fn each_form_refuses_the_other() {
+    let (form1, wrong) = (expanded(OVERLAP, FORM2_ORDERS), Refusal::BadRoll { place: 0 });
+    assert_eq!((open(&FORM2), check(&FORM2)), (Opened::Refused(wrong), Opened::Refused(wrong)));
+    assert_eq!((open2(&form1), check2(&form1)), (Opened2::Refused(wrong), Opened2::Refused(wrong)));
+    assert_eq!(to_form2(&FORM2, &mut [0; 99], 0), Moved::Refused(wrong));
+    assert_eq!(to_form1(&form1, &mut [0; 99], 0), Moved::Refused(wrong));
+}
+
+/// Document 02's faults, each at its place.
+#[test]
+fn faults_of_form_2() {
+    let with = |place: usize, byte: u8| {
+        let mut roll = FORM2;
+        roll[place] = byte;
+        check2(&roll)
+    };
+    let wrong = |place| Opened2::Refused(Refusal::BadRoll { place });
+    assert_eq!(with(10, 1), wrong(10)); // the first term shares nothing
+    assert_eq!(with(17, 4), wrong(17)); // the term before has three prefactors
+    assert_eq!(with(18, 3), wrong(18)); // one and three are more than L
+    assert_eq!(with(19, 0), wrong(19)); // the one that follows in the term before
+    for cut in 0..FORM2.len() {
+        assert_eq!(check2(&FORM2[..cut]), Opened2::Refused(Refusal::CutRoll { place: cut }));
+    }
+}
+
+#[test]
+fn a_form_2_cursor_that_was_made_up() {
+    let made_up = |count, prefactor| {
+        let cursor = Cursor { place: 15, left: 2, kind: OVERLAP, l: 3 };
+        Cursor2 { cursor, count, earlier: [prefactor; PREFACTORS] }.next(&FORM2)
+    };
+    let wrong = |place| Step2::Refused(Refusal::BadRoll { place });
+    assert_eq!((made_up(4, 0), made_up(1, 8)), (wrong(15), wrong(15))); // no term has these
+    assert_eq!((made_up(0, 0), made_up(2, 6)), (wrong(17), wrong(19)));
+    match made_up(1, 7) {
+        Step2::Term { term, .. } => assert_eq!(term.prefactors(), [7, 6]),
+        other => panic!("{other:?}"),
+    }
 }
 
 /// Document 02's examples, and that of a roll the scales add up to the same.

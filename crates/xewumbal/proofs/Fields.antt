@@ -8,7 +8,7 @@ use Rattle.kind.specs.Kinds.{kindOf}
 use Rattle.term.specs.declared.Term.{Term as Held}
 use Rattle.expansion.specs.declared.Expanded.{Expanded}
 use Rattle.expansion.specs.declared.Expanded.the-variants as expanded
-use Rattle.expansion.specs.Expanding.{ExpandTold, namedMeasured}
+use Rattle.expansion.specs.Expanding.{ExpandTold, Expand2Told, namedMeasured}
 use Rattle.shell.specs.declared.Listed.{Listed}
 use Rattle.shell.specs.declared.Listed.the-variants as listed
 use Rattle.shell.specs.declared.Sought.{Sought}
@@ -22,6 +22,14 @@ use Rattle.roll.specs.declared.header.Opening.the-variants as opening
 use Rattle.roll.specs.declared.header.Opened.{Opened}
 use Rattle.roll.specs.Header.{openOf, checkOf}
 use Rattle.roll.specs.Cursor.{stepOf}
+use Rattle.form2.specs.declared.cursor.Cursor2.{Cursor2}
+use Rattle.form2.specs.declared.cursor.Step2.{Step2}
+use Rattle.form2.specs.declared.header.Opened2.{Opened2}
+use Rattle.form2.specs.declared.moves.Moved.{Moved}
+use Rattle.form2.specs.declared.moves.Moved.the-variants as moved
+use Rattle.form2.specs.Header.{open2Of, check2Of}
+use Rattle.form2.specs.Cursor.{step2Of}
+use Rattle.form2.specs.Moves.{ToForm2Told, ToForm1Told}
 use Rattle.totals.specs.declared.Total.{Total}
 use Rattle.totals.specs.declared.Total.the-variants as total
 use Rattle.totals.specs.declared.RollTotal.{RollTotal}
@@ -45,10 +53,15 @@ use Rattle.xewumbal.specs.declared.xew_table.{«xew_table»}
 use Rattle.xewumbal.specs.declared.xew_cursor.{«xew_cursor»}
 use Rattle.xewumbal.specs.declared.xew_opened.{«xew_opened»}
 use Rattle.xewumbal.specs.declared.xew_step.{«xew_step»}
+use Rattle.xewumbal.specs.declared.xew_cursor2.{«xew_cursor2»}
+use Rattle.xewumbal.specs.declared.xew_opened2.{«xew_opened2»}
+use Rattle.xewumbal.specs.declared.xew_step2.{«xew_step2»}
+use Rattle.xewumbal.specs.declared.xew_moved.{«xew_moved»}
 use Rattle.xewumbal.specs.declared.xew_total.{«xew_total»}
 use Rattle.xewumbal.specs.declared.xew_scales.{«xew_scales»}
 use Rattle.xewumbal.specs.Answers.{ExpandCallTold, ListCallTold, JkCallTold, centreIn, cursorIn, hostExpanded, hostListed, hostComponent, hostCursor, hostOpened, foundStep, hostStep, hostTotal, hostScales, hostTable, hostValue}
-use Rattle.xewumbal.specs.Answers.{measureAnswer, shell2Answer, shell4Answer, openAnswer, checkAnswer, nextAnswer, scaleTotalAnswer, rollTotalAnswer, prefactorsAnswer, evaluateAnswer}
+use Rattle.xewumbal.specs.Answers.{Expand2CallTold, ToForm2CallTold, ToForm1CallTold, cursor2In, hostCursor2, hostOpened2, foundStep2, hostStep2, hostMoved}
+use Rattle.xewumbal.specs.Answers.{measureAnswer, shell2Answer, shell4Answer, openAnswer, checkAnswer, nextAnswer, open2Answer, check2Answer, next2Answer, scaleTotalAnswer, rollTotalAnswer, prefactorsAnswer, evaluateAnswer}
 
 -- ---- the cases in fields
 
@@ -94,6 +107,36 @@ step-term s x is answer = simp is answer
 pub step-end : (s : Step) (x : «xew_step») → s .found ≡ found.End → x ≡ foundStep s 2 0 0 → x ≡ hostStep s
 step-end s x is answer = simp is answer
 
+pub cursor2-in : (c : «xew_cursor2») (b : Cursor) → b ≡ cursorIn (c .cursor) → record { cursor = b; count = c .count; earlier = c .earlier } ≡ cursor2In c
+cursor2-in c b at = cc at
+
+pub cursor2-fields : (c : Cursor2) (x : «xew_cursor») → x ≡ hostCursor (c .cursor) → record { cursor = x; count = c .count; earlier = c .earlier } ≡ hostCursor2 c
+cursor2-fields c x at = cc at
+
+pub roll2-opened : (o : Opened2) (c : «xew_cursor2») → o .found ≡ opening.Roll → c ≡ hostCursor2 (o .cursor) → record { cursor = c; place = 0; orders = o .orders; refusal = 0 } ≡ hostOpened2 o
+roll2-opened o c is at = simp is (cc at)
+
+pub roll2-unopened : (o : Opened2) (n place : ℕ) (c : «xew_cursor2») → o .found ≡ opening.Refused n place → c ≡ hostCursor2 (o .cursor) → record { cursor = c; place = place; orders = o .orders; refusal = n } ≡ hostOpened2 o
+roll2-unopened o n place c is at = simp is (cc at)
+
+pub step2-fields : (s : Step2) (c : «xew_cursor2») (code place number : ℕ) → c ≡ hostCursor2 (s .next) → record { next = c; place = place; scale = s .term .scale; boys = s .term .boys; count = s .term .count; prefactors = s .term .prefactors; found = code; refusal = number } ≡ foundStep2 s code place number
+step2-fields s c code place number at = cc at
+
+pub step2-refused : (s : Step2) (n place : ℕ) (x : «xew_step2») → s .found ≡ found.Refused n place → x ≡ foundStep2 s 0 place n → x ≡ hostStep2 s
+step2-refused s n place x is answer = simp is answer
+
+pub step2-term : (s : Step2) (x : «xew_step2») → s .found ≡ found.Term → x ≡ foundStep2 s 1 0 0 → x ≡ hostStep2 s
+step2-term s x is answer = simp is answer
+
+pub step2-end : (s : Step2) (x : «xew_step2») → s .found ≡ found.End → x ≡ foundStep2 s 2 0 0 → x ≡ hostStep2 s
+step2-end s x is answer = simp is answer
+
+pub move-written : (m : Moved) (long terms : ℕ) → m ≡ moved.Roll long terms → record { length = long; place = 0; terms = terms; refusal = 0 } ≡ hostMoved m
+move-written m long terms is = sym (ap hostMoved is)
+
+pub move-refused : (m : Moved) (n place : ℕ) → m ≡ moved.Refused n place → record { length = 0; place = place; terms = 0; refusal = n } ≡ hostMoved m
+move-refused m n place is = sym (ap hostMoved is)
+
 pub total-given : (t : Total) (n : ℕ) → t ≡ total.Is n → record { total = n; claimed = 1; refusal = 0 } ≡ hostTotal t
 total-given t n is = sym (ap hostTotal is)
 
@@ -119,6 +162,9 @@ value-refused v n place is = sym (ap hostValue is)
 
 pub expand-answered : (kind : ℕ) (orders before : List ℕ) (start : ℕ) (e : Expanded) (after : List ℕ) (x : «xew_written») → ExpandTold kind orders before start e after → x ≡ hostExpanded e → ExpandCallTold kind orders before start x after
 expand-answered kind orders before start e after x told is = record { answer = is ∙ ap hostExpanded (told .answer); out = told .out }
+
+pub expand2-answered : (kind : ℕ) (orders before : List ℕ) (start : ℕ) (e : Expanded) (after : List ℕ) (x : «xew_written») → Expand2Told kind orders before start e after → x ≡ hostExpanded e → Expand2CallTold kind orders before start x after
+expand2-answered kind orders before start e after x told is = record { answer = is ∙ ap hostExpanded (told .answer); out = told .out }
 
 pub list-answered : (order : ℕ) (before : List ℕ) (start : ℕ) (l : Listed) (after : List ℕ) (x : «xew_written») → ListTold order before start l after → x ≡ hostListed l → ListCallTold order before start x after
 list-answered order before start l after x told is = record { answer = is ∙ ap hostListed (told .answer); out = told .out }
@@ -154,6 +200,24 @@ roll-total-answered roll t x below is = is ∙ ap hostScales below
 pub next-answered : (c : «xew_cursor») (roll : List ℕ) (below : Cursor) (s : Step) (x : «xew_step») → below ≡ cursorIn c → s ≡ stepOf below roll → x ≡ hostStep s → x ≡ nextAnswer c roll
 unfolding nextAnswer
 next-answered c roll below s x at told is = is ∙ ap hostStep (told ∙ ap (λ (b : Cursor). stepOf b roll) at)
+
+pub open2-answered : (roll : List ℕ) (o : Opened2) (x : «xew_opened2») → o ≡ open2Of roll → x ≡ hostOpened2 o → x ≡ open2Answer roll
+unfolding open2Answer
+open2-answered roll o x told is = is ∙ ap hostOpened2 told
+
+pub check2-answered : (roll : List ℕ) (o : Opened2) (x : «xew_opened2») → o ≡ check2Of roll → x ≡ hostOpened2 o → x ≡ check2Answer roll
+unfolding check2Answer
+check2-answered roll o x told is = is ∙ ap hostOpened2 told
+
+pub next2-answered : (c : «xew_cursor2») (roll : List ℕ) (below : Cursor2) (s : Step2) (x : «xew_step2») → below ≡ cursor2In c → s ≡ step2Of below roll → x ≡ hostStep2 s → x ≡ next2Answer c roll
+unfolding next2Answer
+next2-answered c roll below s x at told is = is ∙ ap hostStep2 (told ∙ ap (λ (b : Cursor2). step2Of b roll) at)
+
+pub to-form2-answered : (roll before : List ℕ) (start : ℕ) (m : Moved) (after : List ℕ) (x : «xew_moved») → ToForm2Told roll before start m after → x ≡ hostMoved m → ToForm2CallTold roll before start x after
+to-form2-answered roll before start m after x told is = record { answer = is ∙ ap hostMoved (told .answer); out = told .bytes }
+
+pub to-form1-answered : (roll before : List ℕ) (start : ℕ) (m : Moved) (after : List ℕ) (x : «xew_moved») → ToForm1Told roll before start m after → x ≡ hostMoved m → ToForm1CallTold roll before start x after
+to-form1-answered roll before start m after x told is = record { answer = is ∙ ap hostMoved (told .answer); out = told .bytes }
 
 module _ (a b c d : «xew_centre») (p q r s : Centre) where
   pub prefactors-answered : (kind : ℕ) (t : Table) (x : «xew_table») → p ≡ centreIn a → q ≡ centreIn b → r ≡ centreIn c → s ≡ centreIn d → t ≡ prefactorTableOf kind p q r s → x ≡ hostTable t → x ≡ prefactorsAnswer kind a b c d

@@ -4,22 +4,34 @@ use mathlib.Core.List.{List}
 use lib.Ieee.{Float}
 use contract.Lifetimes.{Lfts}
 use Rattle.kind.specs.Kinds.{kindOf}
-use Rattle.expansion.specs.Expanding.{namedTold, namedOut}
+use Rattle.expansion.specs.Expanding.{namedTold, namedOut, namedTold2, namedOut2}
 use Rattle.shell.specs.Shells.{listedAt, listedOut}
+use Rattle.roll.specs.Reading.{rollAt}
+use Rattle.form2.specs.Reading.{rollAt2}
+use Rattle.form2.specs.Moves.{inForm1, inForm2, movedOf, outOf}
 use Rattle.jk.specs.Outcome.{jkOf, refusalOf as jkRefusal}
 use Rattle.laws.proofs.Contract.{Alone, alone, Lent, _then_, _▸_, end}
 use Rattle.xewumbal.specs.declared.xew_centre.{«xew_centre»}
 use Rattle.xewumbal.specs.declared.xew_written.{«xew_written»}
 use Rattle.xewumbal.specs.declared.xew_cursor.{«xew_cursor»}
-use Rattle.xewumbal.specs.Answers.{hostExpanded, hostListed, measureAnswer, shell2Answer, shell4Answer, openAnswer, checkAnswer, nextAnswer, scaleTotalAnswer, rollTotalAnswer, prefactorsAnswer, evaluateAnswer}
+use Rattle.xewumbal.specs.declared.xew_cursor2.{«xew_cursor2»}
+use Rattle.xewumbal.specs.declared.xew_moved.{«xew_moved»}
+use Rattle.xewumbal.specs.Answers.{hostExpanded, hostListed, hostMoved, measureAnswer, shell2Answer, shell4Answer, openAnswer, checkAnswer, nextAnswer, open2Answer, check2Answer, next2Answer}
+use Rattle.xewumbal.specs.Answers.{scaleTotalAnswer, rollTotalAnswer, prefactorsAnswer, evaluateAnswer}
 use Rattle.xewumbal.proofs.xew_expand.Reads.{Post as Expand}
 use Rattle.xewumbal.proofs.xew_measure.Reads.{Post as Measure}
+use Rattle.xewumbal.proofs.xew_expand2.Reads.{Post as Expand2}
 use Rattle.xewumbal.proofs.xew_shell_list.Reads.{Post as ShellList}
 use Rattle.xewumbal.proofs.xew_shell2.Reads.{Post as Shell2}
 use Rattle.xewumbal.proofs.xew_shell4.Reads.{Post as Shell4}
 use Rattle.xewumbal.proofs.xew_open.Reads.{Post as Open}
 use Rattle.xewumbal.proofs.xew_check.Reads.{Post as Check}
 use Rattle.xewumbal.proofs.xew_next.Reads.{Post as Next}
+use Rattle.xewumbal.proofs.xew_open2.Reads.{Post as Open2}
+use Rattle.xewumbal.proofs.xew_check2.Reads.{Post as Check2}
+use Rattle.xewumbal.proofs.xew_next2.Reads.{Post as Next2}
+use Rattle.xewumbal.proofs.xew_to_form2.Reads.{Post as ToForm2}
+use Rattle.xewumbal.proofs.xew_to_form1.Reads.{Post as ToForm1}
 use Rattle.xewumbal.proofs.xew_scale_total.Reads.{Post as ScaleTotal}
 use Rattle.xewumbal.proofs.xew_roll_total.Reads.{Post as RollTotal}
 use Rattle.xewumbal.proofs.xew_prefactors.Reads.{Post as Prefactors}
@@ -31,6 +43,11 @@ module _ (κs : Lfts 2) (kind : ℕ) (orders out : Lent ℕ) (start : ℕ) where
       Alone {A = «xew_written» × List ℕ} (λ x. Expand κs (kind ▸ orders ▸ out ▸ start ▸ end) (x .0) (kind ▸ orders ▸ out then (x .1) ▸ start ▸ end))
       (hostExpanded (namedTold (kindOf kind) (orders .now) (out .now) start), namedOut (namedTold (kindOf kind) (orders .now) (out .now) start) (kindOf kind) (orders .now) (out .now) start)
   expand-only = alone (λ x p i. (p .answer i, p .out i))
+
+  pub expand2-only :
+      Alone {A = «xew_written» × List ℕ} (λ x. Expand2 κs (kind ▸ orders ▸ out ▸ start ▸ end) (x .0) (kind ▸ orders ▸ out then (x .1) ▸ start ▸ end))
+      (hostExpanded (namedTold2 (kindOf kind) (orders .now) (out .now) start), namedOut2 (namedTold2 (kindOf kind) (orders .now) (out .now) start) (kindOf kind) (orders .now) (out .now) start)
+  expand2-only = alone (λ x p i. (p .answer i, p .out i))
 
 pub measure-only : (κs : Lfts 1) (kind : ℕ) (orders : Lent ℕ) → let g = kind ▸ orders ▸ end in Alone (λ r. Measure κs g r g) (measureAnswer kind (orders .now))
 measure-only κs kind orders = alone (λ r p. p)
@@ -54,6 +71,26 @@ check-only κs roll = alone (λ r p. p)
 
 pub next-only : (κs : Lfts 1) (cursor : «xew_cursor») (roll : Lent ℕ) → let g = cursor ▸ roll ▸ end in Alone (λ r. Next κs g r g) (nextAnswer cursor (roll .now))
 next-only κs cursor roll = alone (λ r p. p)
+
+pub open2-only : (κs : Lfts 1) (roll : Lent ℕ) → let g = roll ▸ end in Alone (λ r. Open2 κs g r g) (open2Answer (roll .now))
+open2-only κs roll = alone (λ r p. p)
+
+pub check2-only : (κs : Lfts 1) (roll : Lent ℕ) → let g = roll ▸ end in Alone (λ r. Check2 κs g r g) (check2Answer (roll .now))
+check2-only κs roll = alone (λ r p. p)
+
+pub next2-only : (κs : Lfts 1) (cursor : «xew_cursor2») (roll : Lent ℕ) → let g = cursor ▸ roll ▸ end in Alone (λ r. Next2 κs g r g) (next2Answer cursor (roll .now))
+next2-only κs cursor roll = alone (λ r p. p)
+
+module _ (κs : Lfts 2) (roll out : Lent ℕ) (start : ℕ) where
+  pub to-form2-only :
+      Alone {A = «xew_moved» × List ℕ} (λ x. ToForm2 κs (roll ▸ out ▸ start ▸ end) (x .0) (roll ▸ out then (x .1) ▸ start ▸ end))
+      (hostMoved (movedOf inForm2 (rollAt (roll .now)) (out .now) start), outOf inForm2 (rollAt (roll .now)) (out .now) start)
+  to-form2-only = alone (λ x p i. (p .answer i, p .out i))
+
+  pub to-form1-only :
+      Alone {A = «xew_moved» × List ℕ} (λ x. ToForm1 κs (roll ▸ out ▸ start ▸ end) (x .0) (roll ▸ out then (x .1) ▸ start ▸ end))
+      (hostMoved (movedOf inForm1 (rollAt2 (roll .now)) (out .now) start), outOf inForm1 (rollAt2 (roll .now)) (out .now) start)
+  to-form1-only = alone (λ x p i. (p .answer i, p .out i))
 
 pub scale-total-only : (κs : Lfts 1) (kind : ℕ) (orders : Lent ℕ) → let g = kind ▸ orders ▸ end in Alone (λ r. ScaleTotal κs g r g) (scaleTotalAnswer kind (orders .now))
 scale-total-only κs kind orders = alone (λ r p. p)

@@ -6,7 +6,7 @@ use mathlib.Core.List.{List}
 use lib.Ieee.{Float}
 use Rattle.kind.specs.Kinds.{kindOf}
 use Rattle.expansion.specs.declared.Expanded.{Expanded}
-use Rattle.expansion.specs.Expanding.{namedTold, namedMeasured, namedOut, lengthIn as rollLength, countIn, refusalOf as expandedRefusal}
+use Rattle.expansion.specs.Expanding.{namedTold, namedMeasured, namedOut, namedTold2, namedOut2, lengthIn as rollLength, countIn, refusalOf as expandedRefusal}
 use Rattle.shell.specs.declared.Listed.{Listed}
 use Rattle.shell.specs.declared.Component.{Component}
 use Rattle.shell.specs.Shells.{listedAt, listedOut, lengthIn, triplesIn, listedRefusalOf, shell2Of, shell4Of, refusalOf as soughtRefusal}
@@ -17,6 +17,15 @@ use Rattle.roll.specs.declared.cursor.Step.{Step}
 use Rattle.roll.specs.declared.header.Opened.{Opened}
 use Rattle.roll.specs.Header.{openOf, checkOf, refusalOf as openedRefusal, placeOf as openedPlace}
 use Rattle.roll.specs.Cursor.{stepOf, refusalOf as foundRefusal, placeOf as foundPlace}
+use Rattle.roll.specs.Reading.{Reading, Roll, rollAt}
+use Rattle.form2.specs.declared.cursor.Cursor2.{Cursor2}
+use Rattle.form2.specs.declared.cursor.Step2.{Step2}
+use Rattle.form2.specs.declared.header.Opened2.{Opened2}
+use Rattle.form2.specs.declared.moves.Moved.{Moved}
+use Rattle.form2.specs.Reading.{rollAt2}
+use Rattle.form2.specs.Header.{open2Of, check2Of}
+use Rattle.form2.specs.Cursor.{step2Of}
+use Rattle.form2.specs.Moves.{inForm1, inForm2, movedOf, outOf, lengthIn as movedLength, placeOf as movedPlace, countIn as movedCount, refusalOf as movedRefusal}
 use Rattle.totals.specs.declared.Total.{Total}
 use Rattle.totals.specs.declared.Total.the-variants as total
 use Rattle.totals.specs.declared.RollTotal.{RollTotal}
@@ -35,6 +44,10 @@ use Rattle.xewumbal.specs.declared.xew_table.{«xew_table»}
 use Rattle.xewumbal.specs.declared.xew_cursor.{«xew_cursor»}
 use Rattle.xewumbal.specs.declared.xew_opened.{«xew_opened»}
 use Rattle.xewumbal.specs.declared.xew_step.{«xew_step»}
+use Rattle.xewumbal.specs.declared.xew_cursor2.{«xew_cursor2»}
+use Rattle.xewumbal.specs.declared.xew_opened2.{«xew_opened2»}
+use Rattle.xewumbal.specs.declared.xew_step2.{«xew_step2»}
+use Rattle.xewumbal.specs.declared.xew_moved.{«xew_moved»}
 use Rattle.xewumbal.specs.declared.xew_total.{«xew_total»}
 use Rattle.xewumbal.specs.declared.xew_scales.{«xew_scales»}
 
@@ -45,6 +58,9 @@ centreIn c = record { x = c .x; y = c .y; z = c .z; exponent = c .exponent }
 
 abbrev pub cursorIn : «xew_cursor» → Cursor
 cursorIn c = record { place = c .place; left = c .left; kind = c .kind; l = c .l }
+
+abbrev pub cursor2In : «xew_cursor2» → Cursor2
+cursor2In c = record { cursor = cursorIn (c .cursor); count = c .count; earlier = c .earlier }
 
 -- ---- xew_expand: the length, the term count and the refusal of the answer
 
@@ -59,6 +75,12 @@ pub record ExpandCallTold (kind : ℕ) (orders before : List ℕ) (start : ℕ) 
 
 unfoldable pub measureAnswer : ℕ → List ℕ → «xew_written»
 measureAnswer kind orders = hostExpanded (namedMeasured (kindOf kind) orders)
+
+-- ---- xew_expand2: as xew_expand, in form 2
+
+pub record Expand2CallTold (kind : ℕ) (orders before : List ℕ) (start : ℕ) (r : «xew_written») (after : List ℕ) : Type 0 where
+  pub answer : r ≡ hostExpanded (namedTold2 (kindOf kind) orders before start)
+  pub out : after ≡ namedOut2 (namedTold2 (kindOf kind) orders before start) (kindOf kind) orders before start
 
 -- ---- xew_shell_list: the length, the triples and the refusal
 
@@ -111,6 +133,47 @@ hostStep s = foundStep s (foundCode (s .found)) (foundPlace (s .found)) (foundRe
 
 unfoldable pub nextAnswer : «xew_cursor» → List ℕ → «xew_step»
 nextAnswer c roll = hostStep (stepOf (cursorIn c) roll)
+
+-- ---- xew_open2 and xew_check2: the same of a form 2 roll; the cursor also holds the prefactors of the term before
+
+abbrev pub hostCursor2 : Cursor2 → «xew_cursor2»
+hostCursor2 c = record { cursor = hostCursor (c .cursor); count = c .count; earlier = c .earlier }
+
+abbrev pub hostOpened2 : Opened2 → «xew_opened2»
+hostOpened2 o = record { cursor = hostCursor2 (o .cursor); place = openedPlace (o .found); orders = o .orders; refusal = openedRefusal (o .found) }
+
+unfoldable pub open2Answer : List ℕ → «xew_opened2»
+open2Answer roll = hostOpened2 (open2Of roll)
+
+unfoldable pub check2Answer : List ℕ → «xew_opened2»
+check2Answer roll = hostOpened2 (check2Of roll)
+
+-- ---- xew_next2: the term with all its prefactors, the cursor one term further on, and a refusal with its place
+
+abbrev pub foundStep2 : Step2 → ℕ → ℕ → ℕ → «xew_step2»
+foundStep2 s code place number =
+    record { next = hostCursor2 (s .next); place = place; scale = s .term .scale; boys = s .term .boys; count = s .term .count; prefactors = s .term .prefactors; found = code; refusal = number }
+
+abbrev pub hostStep2 : Step2 → «xew_step2»
+hostStep2 s = foundStep2 s (foundCode (s .found)) (foundPlace (s .found)) (foundRefusal (s .found))
+
+unfoldable pub next2Answer : «xew_cursor2» → List ℕ → «xew_step2»
+next2Answer c roll = hostStep2 (step2Of (cursor2In c) roll)
+
+-- ---- xew_to_form2 and xew_to_form1: the length, the term count, and a refusal with its place
+
+abbrev pub hostMoved : Moved → «xew_moved»
+hostMoved m = record { length = movedLength m; place = movedPlace m; terms = movedCount m; refusal = movedRefusal m }
+
+pub record MoveCallTold (form : Roll → List ℕ) (reading : Reading Roll) (before : List ℕ) (start : ℕ) (r : «xew_moved») (after : List ℕ) : Type 0 where
+  pub answer : r ≡ hostMoved (movedOf form reading before start)
+  pub out : after ≡ outOf form reading before start
+
+abbrev pub ToForm2CallTold : List ℕ → List ℕ → ℕ → «xew_moved» → List ℕ → Type 0
+ToForm2CallTold roll before start r after = MoveCallTold inForm2 (rollAt roll) before start r after
+
+abbrev pub ToForm1CallTold : List ℕ → List ℕ → ℕ → «xew_moved» → List ℕ → Type 0
+ToForm1CallTold roll before start r after = MoveCallTold inForm1 (rollAt2 roll) before start r after
 
 -- ---- xew_scale_total: the number, whether one is claimed, and the refusal
 

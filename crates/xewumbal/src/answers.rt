@@ -1,18 +1,27 @@
 // The structs of the exported functions from those of the crates below, and back.
 ghost use mathlib.Core.Path.{_≡_};
 ghost use Rattle.jk.specs.Outcome.{refusalOf};
-ghost use Rattle.xewumbal.specs.Answers.{centreIn, cursorIn, hostExpanded, hostListed, hostComponent, hostCursor, hostOpened, foundStep, hostStep, hostTotal, hostScales, hostTable, hostValue};
+ghost use Rattle.xewumbal.specs.Answers.{centreIn, cursorIn, cursor2In, hostExpanded, hostListed, hostComponent, hostCursor, hostOpened, foundStep, hostStep};
+ghost use Rattle.xewumbal.specs.Answers.{hostCursor2, hostOpened2, foundStep2, hostStep2, hostMoved, hostTotal, hostScales, hostTable, hostValue};
 use crate::xew_centre;
 use crate::xew_component;
 use crate::xew_cursor;
+use crate::xew_cursor2;
+use crate::xew_moved;
 use crate::xew_opened;
+use crate::xew_opened2;
 use crate::xew_scales;
 use crate::xew_step;
+use crate::xew_step2;
 use crate::xew_table;
 use crate::xew_total;
 use crate::xew_value;
 use crate::xew_written;
 use expansion::Expanded;
+use form2::Cursor2;
+use form2::Moved;
+use form2::Opened2;
+use form2::Step2;
 use geometry::Centre;
 use geometry::Table;
 use integrals::Value;
@@ -56,6 +65,28 @@ fn cursor(c: Cursor) -> xew_cursor
         left: c.left,
         kind: c.kind,
         l: c.l,
+    }
+}
+
+pub(crate) fn cursor2_in(c: xew_cursor2) -> Cursor2
+    ensures { λ r. ⌜ r ≡ cursor2In c ⌝ }
+{
+    let earlier = c.earlier;
+    Cursor2 {
+        cursor: cursor_in(c.cursor),
+        count: c.count,
+        earlier,
+    }
+}
+
+fn cursor2(at: Cursor2) -> xew_cursor2
+    ensures { λ r. ⌜ r ≡ hostCursor2 at ⌝ }
+{
+    let earlier = at.earlier;
+    xew_cursor2 {
+        cursor: cursor(at.cursor),
+        count: at.count,
+        earlier,
     }
 }
 
@@ -166,6 +197,76 @@ pub(crate) fn step(s: Step) -> xew_step
         roll::Found::Refused(refusal, place) => found_step(s, 0, place, refusal),
         roll::Found::Term => found_step(s, 1, 0, 0),
         roll::Found::End => found_step(s, 2, 0, 0),
+    }
+}
+
+pub(crate) fn opened2(opened: Opened2) -> xew_opened2
+    ensures { λ r. ⌜ r ≡ hostOpened2 opened ⌝ }
+{
+    let found = opened.found;
+    let orders = opened.orders;
+    let cursor = cursor2(opened.cursor);
+    match found {
+        Opening::Roll => xew_opened2 {
+            cursor,
+            place: 0,
+            orders,
+            refusal: 0,
+        },
+        Opening::Refused(refusal, place) => xew_opened2 {
+            cursor,
+            place,
+            orders,
+            refusal,
+        },
+    }
+}
+
+// A step's answer in form 2, whatever was found.
+fn found_step2(s: Step2, found: u8, place: usize, refusal: u8) -> xew_step2
+    ensures { λ r. ⌜ r ≡ foundStep2 s found place refusal ⌝ }
+{
+    let term = s.term;
+    let prefactors = term.prefactors;
+    xew_step2 {
+        next: cursor2(s.next),
+        place,
+        scale: term.scale,
+        boys: term.boys,
+        count: term.count,
+        prefactors,
+        found,
+        refusal,
+    }
+}
+
+pub(crate) fn step2(s: Step2) -> xew_step2
+    ensures { λ r. ⌜ r ≡ hostStep2 s ⌝ }
+{
+    let found = s.found;
+    match found {
+        roll::Found::Refused(refusal, place) => found_step2(s, 0, place, refusal),
+        roll::Found::Term => found_step2(s, 1, 0, 0),
+        roll::Found::End => found_step2(s, 2, 0, 0),
+    }
+}
+
+pub(crate) fn moved(answer: Moved) -> xew_moved
+    ensures { λ r. ⌜ r ≡ hostMoved answer ⌝ }
+{
+    match answer {
+        Moved::Roll(length, terms) => xew_moved {
+            length,
+            place: 0,
+            terms,
+            refusal: 0,
+        },
+        Moved::Refused(refusal, place) => xew_moved {
+            length: 0,
+            place,
+            terms: 0,
+            refusal,
+        },
     }
 }
 

@@ -3,8 +3,8 @@
 mod answers;
 
 ghost use mathlib.Core.Path.{_≡_};
-ghost use Rattle.xewumbal.specs.Answers.{ExpandCallTold, ListCallTold, JkCallTold};
-ghost use Rattle.xewumbal.specs.Answers.{measureAnswer, shell2Answer, shell4Answer, openAnswer, checkAnswer, nextAnswer};
+ghost use Rattle.xewumbal.specs.Answers.{ExpandCallTold, Expand2CallTold, ListCallTold, ToForm2CallTold, ToForm1CallTold, JkCallTold};
+ghost use Rattle.xewumbal.specs.Answers.{measureAnswer, shell2Answer, shell4Answer, openAnswer, checkAnswer, nextAnswer, open2Answer, check2Answer, next2Answer};
 ghost use Rattle.xewumbal.specs.Answers.{scaleTotalAnswer, rollTotalAnswer, prefactorsAnswer, evaluateAnswer};
 use kind::Kind;
 
@@ -74,6 +74,43 @@ pub struct xew_step {
     pub refusal: u8,
 }
 
+// `earlier` has the prefactors of the term before in its first `count` places.
+#[repr(C)]
+pub struct xew_cursor2 {
+    pub cursor: xew_cursor,
+    pub count: u8,
+    pub earlier: [u8; Kind::PREFACTORS],
+}
+
+#[repr(C)]
+pub struct xew_opened2 {
+    pub cursor: xew_cursor2,
+    pub place: usize,
+    pub orders: [u8; Kind::ORDERS],
+    pub refusal: u8,
+}
+
+// `found` is as that of `xew_step`.
+#[repr(C)]
+pub struct xew_step2 {
+    pub next: xew_cursor2,
+    pub place: usize,
+    pub scale: u32,
+    pub boys: u8,
+    pub count: u8,
+    pub prefactors: [u8; Kind::PREFACTORS],
+    pub found: u8,
+    pub refusal: u8,
+}
+
+#[repr(C)]
+pub struct xew_moved {
+    pub length: usize,
+    pub place: usize,
+    pub terms: u32,
+    pub refusal: u8,
+}
+
 // `claimed` is 1 beside a total, 0 for a kind of which none is claimed and beside a refusal (D-90).
 #[repr(C)]
 pub struct xew_total {
@@ -106,6 +143,18 @@ pub extern "C" fn xew_measure(kind: u8, orders: &[u8; Kind::ORDERS]) -> xew_writ
     ensures { λ r. ⌜ r ≡ measureAnswer kind (now (orders .entry)) ⌝ }
 {
     answers::expanded(expansion::roll_size(kind, *orders))
+}
+
+#[no_mangle]
+pub extern "C" fn xew_expand2(
+    kind: u8,
+    orders: &[u8; Kind::ORDERS],
+    out: &mut [u8],
+    start: usize,
+) -> xew_written
+    ensures { λ r. ⌜ Expand2CallTold kind (now (orders .entry)) (now (out .entry)) start r (now (out .exit)) ⌝ }
+{
+    answers::expanded(expansion::expand2(kind, *orders, out, start))
 }
 
 #[no_mangle]
@@ -148,6 +197,41 @@ pub extern "C" fn xew_next(cursor: xew_cursor, roll: &[u8]) -> xew_step
     ensures { λ r. ⌜ r ≡ nextAnswer cursor (now (roll .entry)) ⌝ }
 {
     answers::step(answers::cursor_in(cursor).next(roll))
+}
+
+#[no_mangle]
+pub extern "C" fn xew_open2(roll: &[u8]) -> xew_opened2
+    ensures { λ r. ⌜ r ≡ open2Answer (now (roll .entry)) ⌝ }
+{
+    answers::opened2(form2::open2(roll))
+}
+
+#[no_mangle]
+pub extern "C" fn xew_check2(roll: &[u8]) -> xew_opened2
+    ensures { λ r. ⌜ r ≡ check2Answer (now (roll .entry)) ⌝ }
+{
+    answers::opened2(form2::check2(roll))
+}
+
+#[no_mangle]
+pub extern "C" fn xew_next2(cursor: xew_cursor2, roll: &[u8]) -> xew_step2
+    ensures { λ r. ⌜ r ≡ next2Answer cursor (now (roll .entry)) ⌝ }
+{
+    answers::step2(answers::cursor2_in(cursor).next(roll))
+}
+
+#[no_mangle]
+pub extern "C" fn xew_to_form2(roll: &[u8], out: &mut [u8], start: usize) -> xew_moved
+    ensures { λ r. ⌜ ToForm2CallTold (now (roll .entry)) (now (out .entry)) start r (now (out .exit)) ⌝ }
+{
+    answers::moved(form2::to_form2(roll, out, start))
+}
+
+#[no_mangle]
+pub extern "C" fn xew_to_form1(roll: &[u8], out: &mut [u8], start: usize) -> xew_moved
+    ensures { λ r. ⌜ ToForm1CallTold (now (roll .entry)) (now (out .entry)) start r (now (out .exit)) ⌝ }
+{
+    answers::moved(form2::to_form1(roll, out, start))
 }
 
 #[no_mangle]
