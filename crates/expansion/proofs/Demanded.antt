@@ -257,15 +257,10 @@ cut out at long after bytes h l e =
     ∙ take-at bytes (drop (at + length bytes) out) long (sym l)
 
 -- the bytes that a call has written are the request's roll
-pub written-is : (kind : ℕ) (orders before : List ℕ) (begin long count : ℕ) (after : List ℕ) (of : Known kind orders before begin (Roll long count) after) → writtenAt after begin long ≡ rollOf (of .k) orders
+pub written-is : (kind : ℕ) (orders before : List ℕ) (begin long count : ℕ) (after : List ℕ) (of : Known rollOf kind orders before begin (Roll long count) after) → writtenAt after begin long ≡ rollOf (of .k) orders
 written-is kind orders before begin long count after of =
-    let a = answered (of .k) orders before begin long count (of .answer) in cut before begin long after (rollOf (of .k) orders) (ltb-false (length before) begin (a .five)) (a .long-is) (of .out)
-  where
-    cut : (out : List ℕ) (at long : ℕ) (after bytes : List ℕ) → at ≤ length out → long ≡ length bytes → after ≡ placed out at bytes → writtenAt after at long ≡ bytes
-    cut out at long after bytes h l e =
-        ap (λ (x : List ℕ). take long (drop at x)) e
-        ∙ ap (take long) (drop-at (take at out) (bytes ++ drop (at + length bytes) out) at (length-take at out ∙ omega arith))
-        ∙ take-at bytes (drop (at + length bytes) out) long (sym l)
+    let a = answered rollOf (of .k) orders before begin long count (of .answer) in
+    cut before begin long after (rollOf (of .k) orders) (ltb-false (length before) begin (a .five)) (a .long-is) (of .out)
 
 module _ (kind : ℕ) (orders before : List ℕ) (begin : ℕ) (in-full : length orders ≡ requestOrders) where
   read-again : (long count : ℕ) (after : List ℕ) → Known rollOf kind orders before begin (Roll long count) after → ReadsBack kind orders before begin long count after

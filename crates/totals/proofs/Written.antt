@@ -31,9 +31,9 @@ module _ (k : Kind) (orders : List ℕ) (within : RequestWithin k orders) (is : 
 
 pub same-written : SameWritten
 same-written kind orders before begin long count after in-full told =
-    let of = known kind orders before begin (Roll long count) after told (λ f. omega arith) in
+    let of = known rollOf kind orders before begin (Roll long count) after told (λ f. omega arith) in
     let k = of .k in
-    let a = answered k orders before begin long count (of .answer) in
+    let a = answered rollOf k orders before begin long count (of .answer) in
     let within : RequestWithin k orders = record { low-sums = a .two; none-unused = a .three; in-full = in-full } in
     let few : length (termsOf k orders) ≤ mostTerms = ltb-false mostTerms (length (termsOf k orders)) (a .four) in
     record {
