@@ -12,7 +12,9 @@ pub mod MovesLaws
 pub mod Only
 pub mod Places
 pub mod PutsLaws
+pub mod Round
 pub mod Sharing
 pub mod ShorterLaws
+pub mod Steps
 pub mod TermsLaws
 pub mod Written

@@ -5,6 +5,7 @@ ghost use mathlib.Core.List.{[]};
 ghost use lib.ListN.{length};
 ghost use lib.Seq.{sets};
 ghost use Rattle.kind.specs.Limits.{mostL·any};
+ghost use Rattle.roll.specs.Header.{checkOf};
 ghost use Rattle.roll.specs.Reading.{rollAt};
 ghost use Rattle.roll.specs.inner.Again.{between};
 ghost use Rattle.form2.specs.Bytes.{shared};
@@ -129,11 +130,18 @@ fn write(roll: &[u8], opened: Opened, out: &mut [u8], start: usize) -> Moved
     Moved::Refused(6, 0)
 }
 
+// The whole roll is read before anything is written.
+fn judged(roll: &[u8]) -> Opened
+    ensures { λ r. ⌜ r ≡ checkOf (now (roll .entry)) ⌝ }
+{
+    roll::check(roll)
+}
+
 // Moves a roll from form 1 to form 2: nothing is written before the whole roll has been judged and measured.
 pub fn to_form2(roll: &[u8], out: &mut [u8], start: usize) -> Moved
     ensures { λ r. ⌜ ToForm2Told (now (roll .entry)) (now (out .entry)) start r (now (out .exit)) ⌝ }
 {
-    let opened = roll::check(roll);
+    let opened = judged(roll);
     let found = opened.found;
     match found {
         Opening::Roll => write(roll, opened, out, start),

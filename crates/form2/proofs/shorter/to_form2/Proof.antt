@@ -6,14 +6,14 @@ use Rattle.form2.proofs.MovedLaws.{judged-may2, refused2}
 use Rattle.form2.proofs.shorter.to_form2.Statement.{statement}
 use Rattle.form2.proofs.shorter.to_form2.Tie as tie
 
-check-requires : tie.Need-check-requires
-check-requires c κs = search needs
+judged-requires : tie.Need-judged-requires
+judged-requires c κs = search needs
 
 enum-told : tie.Need-enum-told
 enum-told c = search needs
 
 write-requires : tie.Need-write-requires
-write-requires c κs = judged-may2 _ _ (λ (i : ℕ). omega (arith, c .before .before .before .before .before .shared-slice-known .given i)) (c .before .before .before .check .ensures) (c .before .enum-told .given .1)
+write-requires c κs = judged-may2 _ _ (λ (i : ℕ). omega (arith, c .before .before .before .before .before .shared-slice-known .given i)) (c .before .before .before .judged .ensures) (c .before .enum-told .given .1)
 
 enum-known-found : tie.Need-enum-known-found
 enum-known-found c = search needs
@@ -31,7 +31,7 @@ pub to-form2-spec : {M : Type 1} → statement M
 to-form2-spec =
     tie.close
     (tie.spec
-    check-requires
+    judged-requires
     enum-told
     write-requires
     enum-known-found
