@@ -101,7 +101,7 @@ xew_value __wrap_xew_evaluate(const uint8_t *roll, size_t roll_len, xew_centre a
     if (is("reads-a-float-too-many") && boys)
         seen = boys[boys_len] > 0;
     xew_value value = __real_xew_evaluate(roll, roll_len, a, b, c, d, aux, boys, boys_len);
-    if (is("remembers") && ++calls % 1000 == 0 && !value.refusal)
+    if (is("remembers") && ++calls % 100 == 0 && !value.refusal)
         value.value += 1;
     if (is("another-place") && value.refusal == 7)
         value.place++;
