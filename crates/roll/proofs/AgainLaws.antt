@@ -20,7 +20,7 @@ use Rattle.number.specs.declared.Number.the-variants as number
 use Rattle.number.specs.declared.Number.the-variants.{Is, Ended, NotShortest, TooLarge}
 use Rattle.number.specs.Numbers.{oneByte, readAt, Bytes, bytesOf}
 use Rattle.number.proofs.Laws.{reads-only}
-use Rattle.number.proofs.Reading.{read-one}
+use Rattle.number.proofs.Reading.{read-one, read-inside}
 use Rattle.number.proofs.Writing.{bytes-last, length-last}
 use Rattle.roll.specs.declared.again.Seen.{Seen}
 use Rattle.roll.specs.declared.again.Head.{Head}
@@ -62,6 +62,25 @@ head-made s at a b c end e f g h = rw (h, g, f, e)
 pub head-inside : (s : List ℕ) (at : ℕ) (h : Head) → h ≡ headAt s at → h .end ≤ length s
 unfolding headAt
 head-inside s at h e = rw e (min-le-right _ (length s))
+
+-- a number and a term that are seen end inside, and no earlier than they begin
+pub seen-forward : (s : List ℕ) (at : ℕ) → at ≤ length s → (at ≤ seenAt s at .next) × (seenAt s at .next ≤ length s)
+unfolding seenAt seenOf
+seen-forward s at inside = by (readAt s at) refl
+  where
+    by : (n : Number) → readAt s at ≡ n → (at ≤ seenOf at n .next) × (seenOf at n .next ≤ length s)
+    by (Is n next) e = let r = read-inside s at n next e in (omega (arith, r .0), r .1)
+    by Ended e = (omega arith, inside)
+    by NotShortest e = (omega arith, inside)
+    by TooLarge e = (omega arith, inside)
+
+pub end-forward : (s : List ℕ) (at : ℕ) → at ≤ length s → at ≤ headAt s at .end
+unfolding headAt
+end-forward s at inside =
+    let a = seen-forward s at inside in
+    let b = seen-forward s (seenAt s at .next) (a .1) in
+    let c = seen-forward s (seenAt s (seenAt s at .next) .next) (b .1) in
+    omega arith
 
 -- ---- the short way
 

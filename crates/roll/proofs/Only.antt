@@ -7,7 +7,8 @@ use Rattle.roll.specs.declared.cursor.Cursor.{Cursor}
 use Rattle.roll.specs.Cursor.{noCursor, stepOf}
 use Rattle.roll.specs.Header.{refusedOpened, openKindOf, openOf, checkOf}
 use Rattle.roll.specs.Reading.{withinAt, mostBoys}
-use Rattle.roll.specs.inner.Again.{headAt, boysAt, endAt}
+use Rattle.roll.specs.inner.Again.{seenAt, headAt, boysAt, endAt}
+use Rattle.roll.proofs.again.number_at.Reads.{Post as NumberAt}
 use Rattle.roll.proofs.again.head_at.Reads.{Post as HeadAt}
 use Rattle.roll.proofs.again.boys_at.Reads.{Post as BoysAt}
 use Rattle.roll.proofs.again.end_at.Reads.{Post as EndAt}
@@ -35,6 +36,9 @@ module _ (κs : Lfts 1) (roll : Lent ℕ) where
 
   pub open-kind-only : (at : ℕ) (k : Kind) → let g = roll ▸ at ▸ k ▸ end in Alone (λ r. OpenKind κs g r g) (openKindOf (roll .now) at k)
   open-kind-only at k = alone (λ r p. p)
+
+  pub number-only : (at : ℕ) → let g = roll ▸ at ▸ end in Alone (λ r. NumberAt κs g r g) (seenAt (roll .now) at)
+  number-only at = alone (λ r p. p)
 
   pub head-only : (at : ℕ) → let g = roll ▸ at ▸ end in Alone (λ r. HeadAt κs g r g) (headAt (roll .now) at)
   head-only at = alone (λ r p. p)

@@ -43,7 +43,7 @@ prefactors-bytes (suc count) table s at ps next bytes some e =
     let below = t .below in
     rw (b .2) (drop-then s (bytesOf (o .0)) (numbersBytes (b .0)) at (o .1) next (taken-bytes s at 0 (table - 1) (o .0) (o .1) bytes t) (rest .0), (omega arith, rest .1))
 
-term-bytes : (k : Kind) (l : ℕ) (s : List ℕ) (at : ℕ) (t : Term) (next : ℕ) → Bytes s → termAt s at k l ≡ got t next → (drop at s ≡ termBytes t ++ drop next s) × TermFits k l t
+pub term-bytes : (k : Kind) (l : ℕ) (s : List ℕ) (at : ℕ) (t : Term) (next : ℕ) → Bytes s → termAt s at k l ≡ got t next → (drop at s ≡ termBytes t ++ drop next s) × TermFits k l t
 unfolding termBytes
 term-bytes k l s at t next bytes e =
     let r = term-read k l s at t next e in

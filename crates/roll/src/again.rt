@@ -8,9 +8,9 @@ use number::one_byte;
 use number::wide;
 
 // A number of a roll and the place after it.
-struct Seen {
-    value: u32,
-    next: usize,
+pub struct Seen {
+    pub value: u32,
+    pub next: usize,
 }
 
 // A term of a roll; its prefactors are the bytes from one place to another.
@@ -22,7 +22,7 @@ pub struct Head {
 }
 
 // The number at a place; where none reads, 0 and the same place.
-fn number_at(roll: &[u8], at: usize) -> Seen
+pub fn number_at(roll: &[u8], at: usize) -> Seen
     ensures { λ r. ⌜ r ≡ seenAt (now (roll .entry)) at ⌝ }
 {
     match number::read(roll, at) {

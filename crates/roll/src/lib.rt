@@ -8,9 +8,11 @@ mod over;
 mod terms;
 
 pub use again::Head;
+pub use again::Seen;
 pub use again::boys_at;
 pub use again::end_at;
 pub use again::head_at;
+pub use again::number_at;
 pub use cursor::Cursor;
 pub use cursor::Found;
 pub use cursor::Step;
