@@ -10,15 +10,15 @@ use native.Mathlib.Omega.{arith}
 use borrow.Author.Tests.{eq-eqb, ne-eqb, le-leb, lt-leb}
 use lib.Dec.{eqb}
 use lib.Ieee.{Float, nan}
-use lib.ListN.{length, getD}
-use lib.Seq.{drop-cons}
+use lib.ListN.{length, getD, drop, length-drop}
+use lib.Seq.{drop-cons, take-all}
 use Rattle.term.specs.Terms.{Term}
 use Rattle.laws.proofs.Counting.{left-one, left-none}
 use Rattle.geometry.specs.Floats.{_⊕_, _⊗_, zero as 0·0, one}
 use Rattle.roll.specs.declared.again.Head.{Head}
 use Rattle.roll.specs.inner.Again.{headAt, between, headTerm, termsAgain}
 use Rattle.integrals.specs.Sums.{scaleOf, boysNumber, productOf, staysKinetic, gOf, kineticG, plainOf, kineticOf, nuclearOf, coulombOf, sumFrom, ofOrder, runOrders}
-use Rattle.integrals.specs.inner.Stored.{addOrderOf, startOf, addendOf}
+use Rattle.integrals.specs.inner.Stored.{addOrderOf, startOf, addendOf, ownOrderOf}
 use Rattle.integrals.specs.declared.sums.Adds.{Adds}
 use Rattle.integrals.specs.declared.sums.Adds.the-variants.{Plain, Kinetic, Nuclear}
 
@@ -120,6 +120,23 @@ module _ (table : List Float) (s : Float) (boys : List Float) (ts : List Term) (
 pub added-term : (roll : List ℕ) (h : Head) (b : Float) (table : List Float) (sum g : Float) → g ≡ productOf table (between roll (h .from) (h .end)) one → sum ⊕ scaleOf (h .scale) ⊗ b ⊗ g ≡ sum ⊕ coulombOf table b (headTerm roll h)
 unfolding headTerm coulombOf gOf
 added-term roll h b table sum g f = rw f
+
+-- a term that stands by its Boys order
+pub product-one : (table : List Float) (bytes : List ℕ) (from end : ℕ) (g : Float) → g ≡ productOf table (between bytes from end) one → g ≡ gOf table (between bytes from end)
+unfolding gOf
+product-one table bytes from end g e = e
+
+between-all : (bytes : List ℕ) (from end : ℕ) → length bytes ≤ end → between bytes from (length bytes) ≡ between bytes from end
+unfolding between
+between-all bytes from end past = take-all (length bytes - from) (drop from bytes) (omega (arith, length-drop from bytes)) ∙ sym (take-all (end - from) (drop from bytes) (omega (arith, length-drop from bytes)))
+
+pub product-whole : (table : List Float) (bytes : List ℕ) (from end : ℕ) (g : Float) → length bytes < end → g ≡ productOf table (between bytes from (length bytes)) one → g ≡ gOf table (between bytes from end)
+unfolding gOf
+product-whole table bytes from end g past e = e ∙ ap (λ (ps : List ℕ). productOf table ps one) (between-all bytes from end (omega arith))
+
+pub own-order : (table : List Float) (s : Float) (boys : List Float) (bytes : List ℕ) (h : Head) (f g : Float) → f ≡ boysNumber boys (h .boys) → g ≡ gOf table (between bytes (h .from) (h .end)) → scaleOf (h .scale) ⊗ (f ⊗ s) ⊗ g ≡ ownOrderOf table s boys (headTerm bytes h)
+unfolding ownOrderOf coulombOf headTerm
+own-order table s boys bytes h f g e p = rw (e, p)
 
 module _ (roll : List ℕ) (at order : ℕ) (b : Float) (table : List Float) (sum : Float) (boys : ℕ) where
   pub of-order : (h : Head) (v : Float) → boys ≡ headAt roll at .boys → boys ≡ order → h ≡ headAt roll at → v ≡ sum ⊕ coulombOf table b (headTerm roll h) → v ≡ addOrderOf order b table (headTerm roll (headAt roll at)) sum

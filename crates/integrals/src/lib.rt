@@ -3,6 +3,7 @@ ghost use mathlib.Core.Path.{_≡_};
 ghost use Rattle.integrals.specs.Sums.{kineticStart, totalOf};
 ghost use Rattle.integrals.specs.Values.{inputsFinite, boysCounted, resultOf, valueOf};
 ghost use Rattle.integrals.specs.inner.Stored.{ofCursor, againFrom};
+ghost use Rattle.integrals.specs.inner.Ready.{barredReady, readyOf};
 ghost use Rattle.integrals.specs.Evaluation.{evaluateOf};
 ghost use Rattle.kind.specs.Kinds.{kindOf};
 use geometry::Centre;
@@ -14,10 +15,18 @@ use sums::Terms;
 
 mod sums;
 
+pub use sums::coulomb_term;
+
 // The integral, or a refusal's number and place (D-72).
 pub enum Value {
     Is(f64),
     Refused(u8, usize),
+}
+
+// What the checks before a sum leave: the prefactor table, or a refusal with zeros beside it.
+pub struct Ready {
+    pub refusal: u8,
+    pub table: [f64; Kind::TABLE],
 }
 
 // Where g of a kinetic term starts that stays kinetic.
@@ -78,13 +87,52 @@ fn boys_counted(kind: Kind, l: u8, count: usize) -> bool
 }
 
 // Check 11 of the result.
-fn result(x: f64) -> Value
+pub fn result(x: f64) -> Value
     ensures { λ r. ⌜ r ≡ resultOf x ⌝ }
 {
     if geometry::finite(x) {
         return Value::Is(x);
     }
     Value::Refused(11, 0)
+}
+
+// A refusal before the sum.
+fn barred(refusal: u8) -> Ready
+    ensures { λ r. ⌜ r ≡ barredReady refusal ⌝ }
+{
+    Ready {
+        refusal,
+        table: [0.0; Kind::TABLE],
+    }
+}
+
+// Checks 8, 9 and 10, and 11 of the geometry; refusal 0 is none.
+pub fn prepare(
+    kind: Kind,
+    l: u8,
+    a: Centre,
+    b: Centre,
+    c: Centre,
+    d: Centre,
+    aux: f64,
+    boys: &[f64],
+) -> Ready
+    ensures { λ r. ⌜ r ≡ readyOf kind l a b c d aux (now (boys .entry)) ⌝ }
+{
+    if !inputs_finite(kind, a, b, c, d, aux, boys) {
+        return barred(8);
+    }
+    if !geometry::exponents_above_zero(kind, a, b, c, d) {
+        return barred(9);
+    }
+    if !boys_counted(kind, l, boys.len()) {
+        return barred(10);
+    }
+    let table = geometry::prefac(kind, a, b, c, d);
+    if !geometry::geometry_finite(kind, a, b, c, d, &table) {
+        return barred(11);
+    }
+    Ready { refusal: 0, table }
 }
 
 // Checks 8, 9, 10 and 11 of a roll's terms, and their sum.
@@ -102,24 +150,16 @@ fn judged(
 {
     let kind = terms.kind;
     let cursor = terms.cursor;
-    if !inputs_finite(kind, a, b, c, d, aux, boys) {
-        return Value::Refused(8, 0);
+    let made = prepare(kind, cursor.l, a, b, c, d, aux, boys);
+    if made.refusal != 0 {
+        return Value::Refused(made.refusal, 0);
     }
-    if !geometry::exponents_above_zero(kind, a, b, c, d) {
-        return Value::Refused(9, 0);
-    }
-    if !boys_counted(kind, cursor.l, boys.len()) {
-        return Value::Refused(10, 0);
-    }
-    let table = geometry::prefac(kind, a, b, c, d);
-    if !geometry::geometry_finite(kind, a, b, c, d, &table) {
-        return Value::Refused(11, 0);
-    }
+    let table = made.table;
     result(integral(terms, a, b, &table, aux, boys, roll))
 }
 
 // The terms of a roll that was judged, from its cursor on.
-fn from_cursor(
+pub fn from_cursor(
     cursor: Cursor,
     a: Centre,
     b: Centre,

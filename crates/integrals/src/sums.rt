@@ -3,9 +3,9 @@ ghost use Prim.Native.Nat.{_+_, _≤_};
 ghost use mathlib.Core.Path.{_≡_};
 ghost use lib.ListN.{length, getD};
 ghost use Rattle.geometry.specs.Floats.{_⊕_, _⊗_, zero};
-ghost use Rattle.integrals.specs.Sums.{boysNumber, productOf, staysKinetic, plainOf, kineticOf, nuclearOf, coulombOf, sumFrom, ofOrder, runOrders, totalOf};
+ghost use Rattle.integrals.specs.Sums.{boysNumber, productOf, gOf, staysKinetic, plainOf, kineticOf, nuclearOf, coulombOf, sumFrom, ofOrder, runOrders, totalOf};
 ghost use Rattle.roll.specs.inner.Again.{headAt, between, headTerm, termsAgain};
-ghost use Rattle.integrals.specs.inner.Stored.{addOrderOf, startOf, addendOf, againFrom};
+ghost use Rattle.integrals.specs.inner.Stored.{addOrderOf, startOf, addendOf, ownOrderOf, againFrom};
 use kind::Kind;
 use number::wide;
 use roll::Cursor;
@@ -180,6 +180,25 @@ fn pass(
         left -= 1;
     }
     sum
+}
+
+// The product of a term's entries, wherever it says that it ends.
+fn product_of(table: &[f64], bytes: &[u8], from: usize, end: usize) -> f64
+    ensures { λ r. ⌜ r ≡ gOf (now (table .entry)) (between (now (bytes .entry)) from end) ⌝ }
+{
+    if end <= bytes.len() {
+        return product(table, bytes, from, end, 1.0);
+    }
+    product(table, bytes, from, bytes.len(), 1.0)
+}
+
+// What a term adds that stands among those of its own Boys order: scale·(F(order)·s)·g.
+pub fn coulomb_term(table: &[f64], s: f64, boys: &[f64], bytes: &[u8], h: Head) -> f64
+    ensures { λ r. ⌜ r ≡ ownOrderOf (now (table .entry)) s (now (boys .entry)) (headTerm (now (bytes .entry)) h) ⌝ }
+{
+    let b = float_at(boys, h.boys as usize) * s;
+    let g = product_of(table, bytes, h.from, h.end);
+    h.scale as f64 * b * g
 }
 
 fn get_overlap(table: &[f64], aux: f64, boys: &[f64], roll: &[u8], start: usize, terms: u32) -> f64

@@ -5,13 +5,13 @@ use mathlib.Core.Bool.{cond}
 use lib.Dec.{eqb}
 use lib.Ieee.{Float}
 use Rattle.term.specs.Terms.{Term}
-use Rattle.geometry.specs.Floats.{_⊕_, one}
+use Rattle.geometry.specs.Floats.{_⊕_, _⊗_, one}
 use Rattle.kind.specs.declared.Named.{Named}
 use Rattle.kind.specs.declared.Named.the-variants as named
 use Rattle.geometry.specs.declared.Centre.{Centre}
 use Rattle.roll.specs.declared.cursor.Cursor.{Cursor}
 use Rattle.roll.specs.inner.Again.{termsAgain}
-use Rattle.integrals.specs.Sums.{staysKinetic, plainOf, kineticOf, nuclearOf, coulombOf}
+use Rattle.integrals.specs.Sums.{boysNumber, staysKinetic, plainOf, kineticOf, nuclearOf, coulombOf}
 use Rattle.integrals.specs.Values.{valueOf}
 use Rattle.integrals.specs.declared.Value.{Value}
 use Rattle.integrals.specs.declared.Value.the-variants.{Refused}
@@ -33,6 +33,10 @@ unfoldable pub addendOf : Adds → Float → List Float → Float → List Float
 addendOf Plain kinetic table aux boys t = plainOf table aux t
 addendOf Kinetic kinetic table aux boys t = kineticOf kinetic table aux t
 addendOf Nuclear kinetic table aux boys t = nuclearOf table aux boys t
+
+-- what one term adds where the terms stand by Boys order, each with b = F(order)·s of its own order
+unfoldable pub ownOrderOf : List Float → Float → List Float → Term → Float
+ownOrderOf table s boys t = coulombOf table (boysNumber boys (t .boys) ⊗ s) t
 
 -- the terms from a cursor on
 abbrev pub againFrom : List ℕ → Cursor → List Term
