@@ -1,0 +1,3 @@
+pub mod Grouping
+pub mod Evaluation
+pub mod inner
