@@ -83,6 +83,7 @@ fn answer(question: Question, out: &mut Vec<u8>) -> Result<(), Refusal> {
             start,
         } => moved(out, to, &roll, buffer, start),
         Question::Eval(evaluation) => eval(out, &evaluation),
+        Question::Grouped { buffer, evaluation } => grouped(out, buffer, &evaluation),
         Question::Table(kind, centres) => table(out, kind, &centres),
         Question::JK { n, lengths, i, d } => jk(out, n, &lengths, &i, &d),
     }
@@ -238,19 +239,48 @@ pub fn way(header: &Header, terms: &[Term], evaluation: &Evaluation) -> Way {
 }
 
 fn eval(out: &mut Vec<u8>, evaluation: &Evaluation) -> Result<(), Refusal> {
+    let (header, terms) = second::NOW.check(&evaluation.roll)?;
+    let (value, _) = value_and_table(&header, &terms, evaluation)?;
+    write_value(out, value)
+}
+
+/// As `eval`, with 6 right after the roll is read. The second reading groups the terms of a
+/// Coulomb roll and must sum the same, as for a table.
+fn grouped(out: &mut Vec<u8>, buffer: usize, evaluation: &Evaluation) -> Result<(), Refusal> {
+    let (header, terms) = second::NOW.check(&evaluation.roll)?;
+    second::check_grouping(&header, buffer)?;
+    let (value, table) = value_and_table(&header, &terms, evaluation)?;
+    if header.kind == 4 {
+        let entries = second::grouped(header.l, &terms);
+        let value2 = second::sum_of_groups(&entries, &table, evaluation.aux, &evaluation.boys);
+        assert!(
+            same(&[value], &[value2]),
+            "the Rust and the second reading differ: the groups of {:?}",
+            evaluation
+        );
+    }
+    write_value(out, value)
+}
+
+/// The Rust's value, on which 11 is still to be decided, and its table.
+fn value_and_table(
+    header: &Header,
+    terms: &[Term],
+    evaluation: &Evaluation,
+) -> Result<(f64, Vec<f64>), Refusal> {
     let Evaluation {
-        roll,
-        centres,
-        aux,
-        boys,
+        centres, aux, boys, ..
     } = evaluation;
-    let (header, terms) = second::NOW.check(roll)?;
-    second::check_evaluation(&header, centres, *aux, boys)?;
-    table_of(header.kind, centres)?;
-    let value = match way(&header, &terms, evaluation) {
-        Way::Unchanged => rust_side::value(&header, centres, boys),
-        Way::SumLoops => rust_side::value_of_terms(&header, &terms, centres, *aux, boys),
+    second::check_evaluation(header, centres, *aux, boys)?;
+    let table = table_of(header.kind, centres)?;
+    let value = match way(header, terms, evaluation) {
+        Way::Unchanged => rust_side::value(header, centres, boys),
+        Way::SumLoops => rust_side::value_of_terms(header, terms, centres, *aux, boys),
     };
+    Ok((value, table))
+}
+
+fn write_value(out: &mut Vec<u8>, value: f64) -> Result<(), Refusal> {
     second::check_results(&[&[value]])?;
     write(out, "value ");
     parse::write_float(out, value);

@@ -85,7 +85,7 @@ pub fn compare(
 
 fn note(tally: &mut Tally, kind: &str, question: &[u8], answer: &[u8]) {
     *tally.answers.entry(class(answer)).or_insert(0) += 1;
-    if kind != "eval" {
+    if !is_evaluation(kind) {
         return;
     }
     if answer.starts_with(b"refused") {
@@ -98,14 +98,18 @@ fn note(tally: &mut Tally, kind: &str, question: &[u8], answer: &[u8]) {
     }
 }
 
+fn is_evaluation(kind: &str) -> bool {
+    kind == "eval" || kind == "grouped"
+}
+
 fn way(question: &[u8]) -> Option<Way> {
-    match parse::line(question) {
-        Line::Asks(Question::Eval(evaluation)) => {
-            let (header, terms) = second::NOW.check(&evaluation.roll).ok()?;
-            Some(answer::way(&header, &terms, &evaluation))
-        }
-        _ => None,
-    }
+    let evaluation = match parse::line(question) {
+        Line::Asks(Question::Eval(evaluation)) => evaluation,
+        Line::Asks(Question::Grouped { evaluation, .. }) => evaluation,
+        _ => return None,
+    };
+    let (header, terms) = second::NOW.check(&evaluation.roll).ok()?;
+    Some(answer::way(&header, &terms, &evaluation))
 }
 
 /// The first word; a refusal with its number, and a total apart from none.
@@ -130,7 +134,7 @@ fn report(kind: &str, tally: &Tally, count: u64) {
     for (class, number) in &tally.answers {
         println!("  {:<14} {:>8}", class, number);
     }
-    if kind == "eval" {
+    if is_evaluation(kind) {
         println!(
             "  values: (a) the unchanged get_ functions {}, (b) the sum loops with given terms {}; (c) refusals {}",
             tally.unchanged, tally.sum_loops, tally.refused

@@ -1,7 +1,8 @@
 //! The parts of a question's line: numbers, floats, rolls, centres, and the room for an output.
 
-use crate::parse::{self, Centre, LARGEST_BUFFER};
+use crate::parse::{self, Centre, LARGEST_BUFFER, LARGEST_GROUPING};
 use crate::random::Random;
+use crate::second::BYTES_OF_AN_ENTRY;
 
 pub fn numbers(word: &str, first: u64, rest: &[u8]) -> Vec<u8> {
     let mut line = format!("{} {}", word, first);
@@ -78,6 +79,26 @@ pub fn append_room(random: &mut Random, line: &mut Vec<u8>, need: u64) {
     };
     append(line, buffer);
     append(line, start);
+}
+
+/// BUFFER around every boundary for the groups of so many terms. Once in five hundred it is about
+/// the largest that a question lends.
+pub fn grouping_buffer(random: &mut Random, terms: u64) -> u64 {
+    let need = BYTES_OF_AN_ENTRY as u64 * terms;
+    if random.once_in(500) {
+        let largest = LARGEST_GROUPING as u64;
+        return random.from_to(largest - 2, largest + 2);
+    }
+    match random.below(20) {
+        0..=7 => need,
+        8..=10 => need.saturating_sub(1),
+        11 => 0,
+        12 => need - terms,
+        13 => need + 1,
+        14 | 15 => need + random.below(4 * BYTES_OF_AN_ENTRY as u64),
+        16..=18 => random.below(2 * need + 2),
+        _ => random.below(USUAL_BUFFER + 1),
+    }
 }
 
 pub fn append_floats(random: &mut Random, line: &mut Vec<u8>, floats: &[f64]) {

@@ -1,8 +1,10 @@
 //! Lines at the edges of the question language: malformed ones and the longest.
 
 use crate::lines::with_roll;
+use crate::parse::{self, LONGEST_LINE};
 use crate::random::Random;
-use crate::rust_side;
+use crate::second::{BYTES_OF_AN_ENTRY, NOW};
+use crate::{rolls, rust_side};
 
 /// Spoils a line, or puts another one in its place.
 pub fn malformed(random: &mut Random, mut line: Vec<u8>) -> Vec<u8> {
@@ -97,10 +99,32 @@ pub fn longest(kind: &str, length: usize) -> Vec<u8> {
     line
 }
 
-/// An evaluation of overlap s,s with this many Boys numbers, where none belong.
-pub fn with_boys(count: usize) -> Vec<u8> {
-    let mut line = with_roll("eval", &rust_side::roll(0, &[0; 12]));
-    line.extend_from_slice(" 3ff0000000000000".repeat(17).as_bytes());
-    line.extend_from_slice(" 0".repeat(count).as_bytes());
+/// Four centres and aux, all 1.0.
+fn ones() -> Vec<u8> {
+    b" 3ff0000000000000".repeat(17)
+}
+
+/// An evaluation of overlap s,s, by the words before its roll, with this many Boys numbers, where
+/// none belong.
+pub fn with_boys(words: &str, count: usize) -> Vec<u8> {
+    let mut line = with_roll(words, &rust_side::roll(0, &[0; 12]));
+    line.extend(ones());
+    line.extend(b" 0".repeat(count));
+    line
+}
+
+/// A Coulomb roll of as many terms as fit into a line, with just the buffer for its groups.
+pub fn most_grouped() -> Vec<u8> {
+    let mut floats = ones();
+    for order in 0..=NOW.l(4) {
+        floats.push(b' ');
+        parse::write_float(&mut floats, 1.0 / (2.0 * f64::from(order) + 1.0));
+    }
+    let words = |buffer: usize| format!("grouped {:08}", buffer);
+    let room = LONGEST_LINE - words(0).len() - 1 - floats.len();
+    let roll = rolls::of_most_terms(room / 2);
+    let count = NOW.open(&roll).expect("it reads").count;
+    let mut line = with_roll(&words(BYTES_OF_AN_ENTRY * count as usize), &roll);
+    line.extend(floats);
     line
 }

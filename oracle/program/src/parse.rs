@@ -6,6 +6,8 @@ use crate::second::Form;
 pub const LONGEST_LINE: usize = 2_097_152;
 /// The largest buffer that a question lends, and what the short forms lend.
 pub const LARGEST_BUFFER: usize = 16_777_216;
+/// The largest grouping buffer that a question lends.
+pub const LARGEST_GROUPING: usize = 67_108_864;
 /// The most Boys numbers of a question.
 pub const MOST_BOYS: usize = 65_536;
 /// The most prefactors of the term before that a question's cursor holds.
@@ -86,6 +88,10 @@ pub enum Question {
         start: u64,
     },
     Eval(Evaluation),
+    Grouped {
+        buffer: usize,
+        evaluation: Evaluation,
+    },
     Table(u8, [Centre; 4]),
     JK {
         n: u64,
@@ -217,7 +223,11 @@ fn question(bytes: &[u8]) -> Option<Question> {
         b"next2" => next(&mut words, Form::Two)?,
         b"form1" => moved(&mut words, Form::One)?,
         b"form2" => moved(&mut words, Form::Two)?,
-        b"eval" => eval(&mut words)?,
+        b"eval" => Question::Eval(evaluation(&mut words)?),
+        b"grouped" => Question::Grouped {
+            buffer: words.number(LARGEST_GROUPING as u64)? as usize,
+            evaluation: evaluation(&mut words)?,
+        },
         b"table" => Question::Table(words.byte()?, words.centres()?),
         b"jk" => jk(&mut words)?,
         b"jkl" => jkl(&mut words)?,
@@ -300,7 +310,7 @@ fn component(words: &mut Words) -> Option<Question> {
     Some(Question::Component { shells, number })
 }
 
-fn eval(words: &mut Words) -> Option<Question> {
+fn evaluation(words: &mut Words) -> Option<Evaluation> {
     let roll = words.roll()?;
     let centres = words.centres()?;
     let aux = words.float()?;
@@ -311,12 +321,12 @@ fn eval(words: &mut Words) -> Option<Question> {
         }
         boys.push(words.float()?);
     }
-    Some(Question::Eval(Evaluation {
+    Some(Evaluation {
         roll,
         centres,
         aux,
         boys,
-    }))
+    })
 }
 
 /// The lengths are those that n asks for; where n is out of range there are no floats.

@@ -3,7 +3,7 @@
 use crate::cursors::{self, Walk};
 use crate::floats::{self, Taste};
 use crate::lines::{append, append_centres, append_float, append_floats, append_room};
-use crate::lines::{numbers, with_roll};
+use crate::lines::{grouping_buffer, numbers, with_roll};
 use crate::parse::{LONGEST_LINE, MOST_BOYS};
 use crate::random::Random;
 use crate::second::{self, Form, NOW};
@@ -11,7 +11,7 @@ use crate::{form2_rolls, matrices, odd_lines, requests, rolls, runs, rust_side};
 use std::io::{self, Write};
 
 /// The kinds of question, as `oracle/ask-both` names them.
-pub const KINDS: [&str; 20] = [
+pub const KINDS: [&str; 21] = [
     "shell",
     "component",
     "expand",
@@ -29,6 +29,7 @@ pub const KINDS: [&str; 20] = [
     "form2",
     "form1",
     "eval",
+    "grouped",
     "table",
     "jk",
     "jkl",
@@ -51,7 +52,7 @@ pub fn write_all(kind: &str, count: u64, seed: u64, out: &mut dyn Write) -> io::
         runs::every_component(4, out)?;
     }
     let one_by_one = match kind {
-        "list" | "open" | "check" | "scales" | "next" | "eval" | "form2" => {
+        "list" | "open" | "check" | "scales" | "next" | "eval" | "grouped" | "form2" => {
             rolls::tried_one_by_one()
         }
         "open2" | "check2" | "next2" | "form1" => form2_rolls::tried_one_by_one(),
@@ -89,11 +90,14 @@ fn fixed_kind(kind: &str) -> Option<u8> {
 /// The last lines but one of a run stand at a limit of the language and one beyond it.
 fn at_a_limit(kind: &str, from_end: u64) -> Option<Vec<u8>> {
     match from_end {
+        6 if kind == "grouped" => Some(odd_lines::most_grouped()),
         5 => Some(odd_lines::longest(kind, LONGEST_LINE)),
         4 => Some(odd_lines::longest(kind, LONGEST_LINE + 1)),
-        3 if kind == "eval" => Some(odd_lines::with_boys(MOST_BOYS)),
+        3 if kind == "eval" => Some(odd_lines::with_boys("eval", MOST_BOYS)),
+        3 if kind == "grouped" => Some(odd_lines::with_boys("grouped 0", MOST_BOYS)),
         3 if kind == "scales" => Some(with_roll(kind, &rolls::of_largest_scales(ROLL_OF_A_LINE))),
-        2 if kind == "eval" => Some(odd_lines::with_boys(MOST_BOYS + 1)),
+        2 if kind == "eval" => Some(odd_lines::with_boys("eval", MOST_BOYS + 1)),
+        2 if kind == "grouped" => Some(odd_lines::with_boys("grouped 0", MOST_BOYS + 1)),
         _ => None,
     }
 }
@@ -118,6 +122,7 @@ fn question(random: &mut Random, kind: &str, at: u64) -> Vec<u8> {
             about_roll(random, kind, &roll, Walk::Anywhere)
         }
         "eval" => eval(random),
+        "grouped" => grouped(random),
         "table" => table(random),
         "jk" => jk(random, at),
         "jkl" => jkl(random, at),
@@ -137,7 +142,8 @@ fn about_roll(random: &mut Random, kind: &str, roll: &[u8], walk: Walk) -> Vec<u
         "next2" => cursors::next(random, Form::Two, roll, walk),
         "form1" => moved(random, Form::One, roll),
         "form2" => moved(random, Form::Two, roll),
-        "eval" => eval_of(random, roll, Taste::Ordinary, true),
+        "eval" => evaluation(random, "eval", roll, Taste::Ordinary, true),
+        "grouped" => grouped_of(random, roll, Taste::Ordinary, true),
         _ => with_roll(kind, roll),
     }
 }
@@ -269,11 +275,45 @@ fn eval(random: &mut Random) -> Vec<u8> {
     if way <= 10 && random.once_in(2) {
         taste = Taste::Ordinary;
     }
-    eval_of(random, &roll, taste, way <= 10)
+    evaluation(random, "eval", &roll, taste, way <= 10)
 }
 
-/// An evaluation of a roll, mostly with the Rust's own aux where that is wanted.
-fn eval_of(random: &mut Random, roll: &[u8], taste: Taste, own: bool) -> Vec<u8> {
+/// An evaluation with a grouping buffer: mostly a Coulomb roll, of the Rust's own list or another.
+fn grouped(random: &mut Random) -> Vec<u8> {
+    let mut taste = floats::taste(random);
+    let way = random.below(20);
+    let roll = match way {
+        0..=6 if random.once_in(200) => rolls::fresh_and_long(random),
+        0..=6 => rolls::fresh_of(random, 4),
+        7 => rolls::fresh(random),
+        8..=11 => rolls::rearranged(random),
+        12..=14 => rolls::legal_of(random, 4),
+        15 => rolls::legal(random),
+        16 => {
+            let roll = rolls::fresh_of(random, 4);
+            rolls::damaged(random, roll)
+        }
+        _ => rolls::any(random),
+    };
+    if way <= 11 && random.once_in(2) {
+        taste = Taste::Ordinary;
+    }
+    grouped_of(random, &roll, taste, way <= 11)
+}
+
+/// One of a roll, with a buffer around each boundary.
+fn grouped_of(random: &mut Random, roll: &[u8], taste: Taste, own: bool) -> Vec<u8> {
+    let terms = match NOW.open(roll) {
+        Ok(header) => header.count.into(),
+        Err(_) => random.from_to(1, 6),
+    };
+    let words = format!("grouped {}", grouping_buffer(random, terms));
+    evaluation(random, &words, roll, taste, own)
+}
+
+/// An evaluation of a roll, by the words before it, mostly with the Rust's own aux where that is
+/// wanted.
+fn evaluation(random: &mut Random, words: &str, roll: &[u8], taste: Taste, own: bool) -> Vec<u8> {
     let (kind, l) = match NOW.open(roll) {
         Ok(header) => (header.kind, header.l),
         Err(_) => (random.below(5) as u8, random.below(26) as u8),
@@ -295,7 +335,7 @@ fn eval_of(random: &mut Random, roll: &[u8], taste: Taste, own: bool) -> Vec<u8>
         2 => random.index(20),
         _ => right,
     };
-    let mut line = with_roll("eval", roll);
+    let mut line = with_roll(words, roll);
     append_centres(random, &mut line, &centres);
     append_float(random, &mut line, aux);
     let boys_taste = if random.once_in(2) {

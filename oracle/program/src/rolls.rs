@@ -8,6 +8,10 @@ use crate::second::{self, Form, Term, BEFORE, NOW};
 /// The numbers of a legal roll, in order; what the terms say is left to chance.
 fn numbers(random: &mut Random) -> Vec<u32> {
     let kind = random.below(5) as u8;
+    numbers_of(random, kind)
+}
+
+fn numbers_of(random: &mut Random, kind: u8) -> Vec<u32> {
     let orders = requests::any(random, kind);
     let l: u32 = orders.iter().map(|&o| u32::from(o)).sum();
     let count = match random.below(10) {
@@ -86,9 +90,17 @@ pub fn legal(random: &mut Random) -> Vec<u8> {
     write(&numbers(random))
 }
 
+pub fn legal_of(random: &mut Random, kind: u8) -> Vec<u8> {
+    write(&numbers_of(random, kind))
+}
+
 /// A roll of the Rust's own terms.
 pub fn fresh(random: &mut Random) -> Vec<u8> {
     let kind = random.below(5) as u8;
+    fresh_of(random, kind)
+}
+
+pub fn fresh_of(random: &mut Random, kind: u8) -> Vec<u8> {
     let orders = requests::short(random, kind);
     rust_side::roll(kind, &orders)
 }
@@ -97,6 +109,25 @@ pub fn fresh(random: &mut Random) -> Vec<u8> {
 pub fn fresh_and_long(random: &mut Random) -> Vec<u8> {
     let orders = requests::any_of(random, 4, 1..=LONG);
     rust_side::roll(4, &orders)
+}
+
+/// A Coulomb roll of the Rust's own terms in another order, one in three with a term twice.
+pub fn rearranged(random: &mut Random) -> Vec<u8> {
+    let orders = requests::short(random, 4);
+    let mut terms = rust_side::terms(4, &orders);
+    let count = terms.len();
+    match random.below(5) {
+        0 => terms.reverse(),
+        1 => terms.sort_by_key(|term| term.boys),
+        2 => terms.sort_by_key(|term| u8::MAX - term.boys),
+        3 => terms.swap(random.index(count), random.index(count)),
+        _ => (1..count).for_each(|at| terms.swap(at, random.index(at + 1))),
+    }
+    if random.once_in(3) {
+        let twice = terms[random.index(count)].clone();
+        terms.insert(random.index(count + 1), twice);
+    }
+    second::write_roll(4, &orders, &terms)
 }
 
 /// A legal roll of many short terms.
@@ -118,6 +149,24 @@ pub fn of_largest_scales(most: usize) -> Vec<u8> {
         ..Term::default()
     };
     let of = |count: usize| second::write_roll(0, &[0; 12], &vec![term.clone(); count]);
+    let each = of(2).len() - of(1).len();
+    // The count of so many takes three bytes, that of one term a byte.
+    let header = of(1).len() - each + 2;
+    of((most - header) / each)
+}
+
+/// A Coulomb roll of at most this length, which is large, with as many terms as fit: all Boys
+/// orders in turn, from the highest down.
+pub fn of_most_terms(most: usize) -> Vec<u8> {
+    let orders = [6, 0, 0, 6, 0, 0, 6, 0, 0, 6, 0, 0];
+    let l = NOW.l(4);
+    let term = |at: usize| Term {
+        scale: 1 + at as u32 % 127,
+        boys: l - (at % (usize::from(l) + 1)) as u8,
+        prefactors: Vec::new(),
+    };
+    let of =
+        |count: usize| second::write_roll(4, &orders, &(0..count).map(term).collect::<Vec<_>>());
     let each = of(2).len() - of(1).len();
     // The count of so many takes three bytes, that of one term a byte.
     let header = of(1).len() - each + 2;

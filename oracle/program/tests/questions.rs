@@ -79,6 +79,16 @@ fn every_kind_of_answer_comes_up() {
                 "refused 11",
                 "refused 14",
             ],
+            "grouped" => &[
+                "value",
+                "refused  6",
+                "refused  7",
+                "refused  8",
+                "refused  9",
+                "refused 10",
+                "refused 11",
+                "refused 14",
+            ],
             "table" => &[
                 "table",
                 "refused  1",

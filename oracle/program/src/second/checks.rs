@@ -162,6 +162,18 @@ pub fn check_evaluation(
     Ok(())
 }
 
+/// What a term takes of the grouping buffer.
+pub const BYTES_OF_AN_ENTRY: usize = 40;
+
+/// Grouping after 7 and 14, before 8: 6 where the buffer is too short for a Coulomb roll's terms.
+/// For other kinds it is not looked at.
+pub fn check_grouping(header: &Header, buffer: usize) -> Result<(), Refusal> {
+    if header.kind == 4 && buffer < BYTES_OF_AN_ENTRY * header.count as usize {
+        return Err(refusal(6));
+    }
+    Ok(())
+}
+
 /// Prefactor table: 1, 8, 9. 11 is for geometry and table.
 pub fn check_table(kind: u8, centres: &[Centre; 4]) -> Result<(), Refusal> {
     if kind > 4 {

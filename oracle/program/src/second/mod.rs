@@ -2,14 +2,15 @@
 //!
 //! Everything that os86.rs, shell.rs and basis.rs do not know stands here: limits and
 //! refusals, the roll in its two forms, the reader and the cursor, the moves, the listing, the
-//! capped count of histories and the checks of an evaluation. Nothing here calls the unchanged
-//! Rust. The step rules, the geometry and the sums of J and K are here too, so that the two can
-//! be held against each other.
+//! capped count of histories, the checks of an evaluation and the grouping of terms. Nothing here
+//! calls the unchanged Rust. The step rules, the geometry and the sums of J and K are here too, so
+//! that the two can be held against each other.
 
 mod census;
 mod checks;
 mod form;
 mod geometry;
+mod grouping;
 mod limits;
 mod listing;
 mod matrices;
@@ -20,10 +21,12 @@ mod steps;
 mod totals;
 
 pub use census::{facts, totals, Facts};
-pub use checks::{check_component, check_evaluation, check_matrices, check_measured};
-pub use checks::{check_request, check_results, check_room, check_shell, check_table, check_total};
+pub use checks::{check_component, check_evaluation, check_grouping, check_matrices};
+pub use checks::{check_measured, check_request, check_results, check_room};
+pub use checks::{check_shell, check_table, check_total, BYTES_OF_AN_ENTRY};
 pub use form::{shared_length, Form};
 pub use geometry::geometry_and_table;
+pub use grouping::{grouped, sum_of_groups, Entry};
 pub use limits::{orders_used, table_size, Limits, BEFORE, NOW};
 pub use listing::listing;
 pub use matrices::j_and_k;
