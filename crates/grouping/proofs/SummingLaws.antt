@@ -1,18 +1,20 @@
 -- The functions of src/summing.rt: entries summed one after the other; and the sum over a grouping is the sum of the Boys orders one after the other.
-use Prim.Native.Nat.{ℕ, zero, suc, _+_, _-_, _^_, _≤_, _<_}
+use Prim.Native.Nat.{ℕ, zero, suc, _+_, _*_, _-_, _%_, _^_, _≤_, _<_}
 use mathlib.Core.Path.{_≡_, refl, sym, ap, ap₂, _∙_}
 use mathlib.Core.Bool.{Bool, true, false, cond}
 use mathlib.Core.List.{List, [], _∷_, _++_, append-assoc}
 use native.Mathlib.Omega.{arith}
-use borrow.Author.Tests.{eqb-true}
+use borrow.Author.Tests.{eqb-true, ltb-true, ltb-false}
 use lib.Dec.{eqb}
 use lib.Ieee.{Float}
-use lib.ListN.{length, drop}
+use lib.ListN.{length, getD, drop}
 use Rattle.laws.proofs.Lists.{drop-after}
 use Rattle.kind.specs.Kinds.{mostL}
 use Rattle.kind.specs.declared.Kind.the-variants.{Coulomb}
-use Rattle.number.specs.Numbers.{Bytes, bytesOf, lengthOf, readAt}
+use Rattle.number.specs.Numbers.{Bytes, oneByte, bytesOf, lengthOf, higher, readAt}
+use Rattle.number.specs.declared.Number.the-variants.{Is}
 use Rattle.number.proofs.Laws.{reads-back-from}
+use Rattle.number.proofs.Reading.{read-one, read-more, higher-last, higher-more}
 use Rattle.term.specs.Terms.{Term}
 use Rattle.geometry.specs.Floats.{_⊕_, _⊗_, zero as 0·0}
 use Rattle.roll.specs.declared.again.Head.{Head}
@@ -25,13 +27,51 @@ use Rattle.roll.proofs.Back.{term-back}
 use Rattle.integrals.specs.Sums.{boysNumber, coulombOf, sumFrom, ofOrder, runOrders}
 use Rattle.integrals.specs.inner.Stored.{ownOrderOf}
 use Rattle.grouping.specs.Grouping.{Entry, numberedFrom, groupOf, groupsFrom, entryBytes, entriesBytes}
-use Rattle.grouping.specs.inner.Laying.{entryHead, entriesAgain}
+use Rattle.grouping.specs.inner.Laying.{entryHead, entriesAgain, ShortTold}
 
 -- ---- one entry after the other
 
-pub entry-is : (b : List ℕ) (at : ℕ) (n : Seen) (h : Head) → n ≡ seenAt b at → h ≡ headAt b (n .next) → h ≡ entryHead b at
+-- a number of one, two or three bytes, by its bytes
+pub short-not : (b : List ℕ) (at : ℕ) → ShortTold b at 0
+short-not b at = record { end = λ some. absurd (some refl) }
+
+module _ (b : List ℕ) (at x : ℕ) (inside : at < length b) (first : x ≡ getD b at 0) where
+  seen-is : (n next : ℕ) → Is n next ≡ readAt b at → seenAt b at .next ≡ next
+  unfolding seenAt seenOf
+  seen-is n next e = rw (← e)
+
+  pub short-one : (t : Bool) → t ≡ oneByte x → t ≡ true → ShortTold b at 1
+  short-one t e p = record { end = λ some. (seen-is x (at + 1) (read-one b at x inside first (ltb-true x 128 (sym e ∙ p))), omega arith) }
+
+  module _ (t : Bool) (e : t ≡ oneByte x) (p : t ≡ false) (room : 3 ≤ length b - at) (y : ℕ) (second : y ≡ getD b (at + 1) 0) (some : y ≡ 0 → ⊥) where
+    pub short-two : (u : Bool) → u ≡ oneByte y → u ≡ true → ShortTold b at 2
+    short-two u f q =
+        let more : Is y (at + 1 + 1) ≡ higher (drop (at + 1) b) (at + 1) 3 = higher-last b (at + 1) 3 y (omega arith) second (λ z. omega (arith, z)) some (ltb-true y 128 (sym f ∙ q)) in
+        let two : at + 1 + 1 ≡ at + 2 = omega arith in
+        record { end = λ z. (seen-is (x % 128 + 128 * y) (at + 1 + 1) (read-more b at x (at + 1) t (Is (x % 128 + 128 * y) (at + 1 + 1)) (Is y (at + 1 + 1)) inside first refl e p more refl) ∙ two, omega arith) }
+
+    pub short-three : (u : Bool) (w : ℕ) (v : Bool) → w ≡ getD b (at + 2) 0 → u ≡ oneByte y → u ≡ false → (w ≡ 0 → ⊥) → v ≡ oneByte w → v ≡ true → ShortTold b at 3
+    short-three u w v third f q some-too g r =
+        let two : at + 1 + 1 ≡ at + 2 = omega arith in
+        let here : w ≡ getD b (at + 1 + 1) 0 = third ∙ ap (λ (n : ℕ). getD b n 0) (sym two) in
+        let last : Is w (at + 1 + 1 + 1) ≡ higher (drop (at + 1 + 1) b) (at + 1 + 1) 2 = higher-last b (at + 1 + 1) 2 w (omega arith) here (λ z. omega (arith, z)) some-too (ltb-true w 128 (sym g ∙ r)) in
+        let high : 128 ≤ y = ltb-false y 128 (sym f ∙ q) in
+        let more : Is (y % 128 + 128 * w) (at + 1 + 1 + 1) ≡ higher (drop (at + 1) b) (at + 1) 3 = higher-more b (at + 1) 3 2 y (Is (y % 128 + 128 * w) (at + 1 + 1 + 1)) (Is w (at + 1 + 1 + 1)) (omega arith) second (λ z. omega (arith, z)) refl high last refl in
+        let three : at + 1 + 1 + 1 ≡ at + 3 = omega arith in
+        record { end = λ z. (seen-is (x % 128 + 128 * (y % 128 + 128 * w)) (at + 1 + 1 + 1) (read-more b at x (at + 1) t (Is (x % 128 + 128 * (y % 128 + 128 * w)) (at + 1 + 1 + 1)) (Is (y % 128 + 128 * w) (at + 1 + 1 + 1)) inside first refl e p more refl) ∙ three, omega arith) }
+
+pub end-seen : (b : List ℕ) (at : ℕ) (n : Seen) → n ≡ seenAt b at → n .next ≡ seenAt b at .next
+end-seen b at n e = ap (λ (s : Seen). s .next) e
+
+pub end-short : (b : List ℕ) (at r : ℕ) → ShortTold b at r → (r ≡ 0 → ⊥) → at + r ≡ seenAt b at .next
+end-short b at r told some = sym (told .end some .0)
+
+pub end-inside : (b : List ℕ) (at r : ℕ) → ShortTold b at r → (r ≡ 0 → ⊥) → at + r ≤ length b
+end-inside b at r told some = told .end some .1
+
+pub entry-is : (b : List ℕ) (at n : ℕ) (h : Head) → n ≡ seenAt b at .next → h ≡ headAt b n → h ≡ entryHead b at
 unfolding entryHead
-entry-is b at n h e f = f ∙ ap (λ (s : Seen). headAt b (s .next)) e
+entry-is b at n h e f = f ∙ ap (headAt b) e
 
 entries-turn : (b : List ℕ) (at left : ℕ) → 0 < left → entriesAgain b at left ≡ headTerm b (entryHead b at) ∷ entriesAgain b (entryHead b at .end) (left - 1)
 unfolding entriesAgain

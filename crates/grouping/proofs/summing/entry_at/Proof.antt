@@ -4,8 +4,8 @@ use borrow.Author.Needs.{needs}
 use Rattle.grouping.proofs.summing.entry_at.Statement.{statement}
 use Rattle.grouping.proofs.summing.entry_at.Tie as tie
 
-number-at-requires : tie.Need-number-at-requires
-number-at-requires c κs = search needs
+number-end-requires : tie.Need-number-end-requires
+number-end-requires c κs = search needs
 
 head-at-requires : tie.Need-head-at-requires
 head-at-requires c κs = search needs
@@ -14,4 +14,4 @@ returns : tie.Need-returns
 returns c = search entry-is
 
 pub entry-at-spec : {M : Type 1} → statement M
-entry-at-spec = tie.close (tie.spec number-at-requires head-at-requires returns)
+entry-at-spec = tie.close (tie.spec number-end-requires head-at-requires returns)
