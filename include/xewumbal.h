@@ -6,8 +6,8 @@
  * of length 0 may have a null pointer; a pointer with no length beside it must point to what it says.
  *
  * Every call answers every input. refusal is 0 for success, or one of these numbers; beside a refusal every other
- * number and array of the answer is 0 (7 and 14 also have their place), and no lent byte or float has changed. On
- * success only the bytes or floats of the output itself change. Where several refusals apply, the one told is the
+ * number and array of the answer is 0 (7 and 14 also have their place), and no lent byte or float has changed, but for
+ * the grouping that xew_evaluate_grouped leaves. On success only the bytes or floats of the output itself change. Where several refusals apply, the one told is the
  * first in the order that stands at the call; 7 and 14 never apply at once.
  *
  *    1  kind above 4
@@ -58,6 +58,7 @@ extern "C" {
 #define XEW_MOST_ROLL 32505841    /* bytes that hold any roll of xew_expand; the longest has 15,001,920 */
 #define XEW_MOST_SIZE 16          /* rows of J, K and D */
 #define XEW_PREFACTORS 24         /* places for a term's prefactors */
+#define XEW_ENTRY 40              /* bytes of a grouping buffer for each term */
 #define XEW_TABLE 23              /* places for a table's entries: 8, 11, 11, 12 or 23 of them by kind */
 
 /* A centre. Kinds 0 and 1 use A and B; 2 and 3 also C's coordinates; 4 uses A to D. Unused floats are not looked at. */
@@ -229,6 +230,17 @@ xew_table xew_prefactors(uint8_t kind, xew_centre a, xew_centre b, xew_centre c,
  * F(L) for kinds 2 and 4, and none for the others. Refusals: 7 or 14, 8, 9, 10, 11. */
 xew_value xew_evaluate(const uint8_t *roll, size_t roll_len, xew_centre a, xew_centre b, xew_centre c, xew_centre d,
                        double aux, const double *boys, size_t boys_len);
+
+/* The same integral, bit for bit, lent a buffer in which a Coulomb roll's terms are grouped by Boys order and then summed
+ * in one pass: for large rolls it is quicker. The buffer needs XEW_ENTRY bytes for each term of a Coulomb roll; for other
+ * kinds it is not looked at. Refusals: 7 or 14; for a Coulomb roll 6 when the buffer is shorter; then 8, 9, 10, 11. Once 6
+ * is passed the grouping stands in the front of the buffer and stays there whatever is answered: the one case in which a
+ * refusal changes lent bytes. It takes at most XEW_ENTRY bytes a term; everything behind it is as it was. An entry is the
+ * term's number in the roll, counted from 1, as a number of a roll, then the term as the roll has it; the groups stand in
+ * the order of their Boys orders, and within a group the entries in the order of the roll. */
+xew_value xew_evaluate_grouped(const uint8_t *roll, size_t roll_len, xew_centre a, xew_centre b, xew_centre c,
+                               xew_centre d, double aux, const double *boys, size_t boys_len, uint8_t *buffer,
+                               size_t buffer_len);
 
 /* J and K of the integrals i and the density d, row by row: n from 1 to 16, i has n*n*n*n floats, d, j and k have n*n.
  * Every entry is summed on its own, from 0.0, lambda outer and sigma inner: J at (mu, nu) over i at (mu, nu, lambda,

@@ -48,6 +48,8 @@ pub const MOST_ROLL: usize = 32505841;
 pub const MOST_SIZE: usize = 16;
 /// The places for a term's prefactors.
 pub const PREFACTORS: usize = 24;
+/// The bytes of a grouping buffer for each term.
+pub const ENTRY: usize = 40;
 /// The places for a table's entries: 8, 11, 11, 12 or 23 of them by kind.
 pub const TABLE: usize = 23;
 
@@ -374,6 +376,20 @@ pub fn prefactors(kind: u8, a: Centre, b: Centre, c: Centre, d: Centre) -> Table
 /// F(0) to F(L) for kinds 2 and 4, and none for the others.
 pub fn evaluate(roll: &[u8], a: Centre, b: Centre, c: Centre, d: Centre, aux: f64, boys: &[f64]) -> Value {
     let answer = raw::evaluate(roll, a, b, c, d, aux, boys);
+    match Refusal::of(answer.refusal, answer.place) {
+        Some(refusal) => Value::Refused(refusal),
+        None => Value::Is(answer.value),
+    }
+}
+
+/// The same integral, bit for bit, lent a buffer in which a Coulomb roll's terms are grouped by Boys order and then summed in
+/// one pass. The buffer needs [`ENTRY`] bytes for each term of a Coulomb roll, else the roll is refused 6 once it has been
+/// read; for other kinds it is not looked at. Once 6 is passed the grouping stays in the front of the buffer, whatever is
+/// answered; everything behind it is as it was.
+#[rustfmt::skip]
+#[allow(clippy::too_many_arguments)]
+pub fn evaluate_grouped(roll: &[u8], a: Centre, b: Centre, c: Centre, d: Centre, aux: f64, boys: &[f64], buffer: &mut [u8]) -> Value {
+    let answer = raw::evaluate_grouped(roll, a, b, c, d, aux, boys, buffer);
     match Refusal::of(answer.refusal, answer.place) {
         Some(refusal) => Value::Refused(refusal),
         None => Value::Is(answer.value),

@@ -153,6 +153,8 @@ extern "C" {
     fn xew_prefactors(kind: u8, a: Centre, b: Centre, c: Centre, d: Centre) -> Table;
     fn xew_evaluate(roll: *const u8, roll_len: usize, a: Centre, b: Centre, c: Centre, d: Centre,
                     aux: f64, boys: *const f64, boys_len: usize) -> Value;
+    fn xew_evaluate_grouped(roll: *const u8, roll_len: usize, a: Centre, b: Centre, c: Centre, d: Centre,
+                            aux: f64, boys: *const f64, boys_len: usize, buffer: *mut u8, buffer_len: usize) -> Value;
     fn xew_jk(n: usize, i: *const f64, i_len: usize, d: *const f64, d_len: usize,
               j: *mut f64, j_len: usize, k: *mut f64, k_len: usize) -> u8;
 }
@@ -227,6 +229,13 @@ pub fn prefactors(kind: u8, a: Centre, b: Centre, c: Centre, d: Centre) -> Table
 
 pub fn evaluate(roll: &[u8], a: Centre, b: Centre, c: Centre, d: Centre, aux: f64, boys: &[f64]) -> Value {
     unsafe { xew_evaluate(roll.as_ptr(), roll.len(), a, b, c, d, aux, boys.as_ptr(), boys.len()) }
+}
+
+#[rustfmt::skip]
+pub fn evaluate_grouped(roll: &[u8], a: Centre, b: Centre, c: Centre, d: Centre, aux: f64, boys: &[f64], buffer: &mut [u8]) -> Value {
+    unsafe {
+        xew_evaluate_grouped(roll.as_ptr(), roll.len(), a, b, c, d, aux, boys.as_ptr(), boys.len(), buffer.as_mut_ptr(), buffer.len())
+    }
 }
 
 #[rustfmt::skip]

@@ -4,6 +4,7 @@ use Prim.Native.Nat.{ℕ}
 use mathlib.Core.Path.{_≡_, refl, sym, ap, _∙_}
 use mathlib.Core.List.{List}
 use lib.Ieee.{Float}
+use lib.ListN.{length}
 use Rattle.kind.specs.Kinds.{kindOf}
 use Rattle.term.specs.declared.Term.{Term as Held}
 use Rattle.expansion.specs.declared.Expanded.{Expanded}
@@ -42,7 +43,9 @@ use Rattle.geometry.specs.Checks.{prefactorTableOf}
 use Rattle.geometry.specs.Floats.{zero}
 use Rattle.integrals.specs.declared.Value.{Value}
 use Rattle.integrals.specs.declared.Value.the-variants as value
+use Rattle.roll.specs.Reading.{rollAt}
 use Rattle.integrals.specs.Evaluation.{evaluateOf}
+use Rattle.grouping.specs.Evaluation.{ofRoll as groupedOfRoll, GroupedTold}
 use Rattle.jk.specs.declared.Answer.{Answer}
 use Rattle.jk.specs.Outcome.{Outcome, outcome, jkOf, refusalOf as jkRefusal}
 use Rattle.xewumbal.specs.declared.xew_centre.{«xew_centre»}
@@ -59,7 +62,7 @@ use Rattle.xewumbal.specs.declared.xew_step2.{«xew_step2»}
 use Rattle.xewumbal.specs.declared.xew_moved.{«xew_moved»}
 use Rattle.xewumbal.specs.declared.xew_total.{«xew_total»}
 use Rattle.xewumbal.specs.declared.xew_scales.{«xew_scales»}
-use Rattle.xewumbal.specs.Answers.{ExpandCallTold, ListCallTold, JkCallTold, centreIn, cursorIn, hostExpanded, hostListed, hostComponent, hostCursor, hostOpened, foundStep, hostStep, hostTotal, hostScales, hostTable, hostValue}
+use Rattle.xewumbal.specs.Answers.{ExpandCallTold, ListCallTold, GroupedCallTold, JkCallTold, centreIn, cursorIn, hostExpanded, hostListed, hostComponent, hostCursor, hostOpened, foundStep, hostStep, hostTotal, hostScales, hostTable, hostValue}
 use Rattle.xewumbal.specs.Answers.{Expand2CallTold, ToForm2CallTold, ToForm1CallTold, cursor2In, hostCursor2, hostOpened2, foundStep2, hostStep2, hostMoved}
 use Rattle.xewumbal.specs.Answers.{measureAnswer, shell2Answer, shell4Answer, openAnswer, checkAnswer, nextAnswer, open2Answer, check2Answer, next2Answer, scaleTotalAnswer, rollTotalAnswer, prefactorsAnswer, evaluateAnswer}
 
@@ -231,6 +234,11 @@ module _ (a b c d : «xew_centre») (p q r s : Centre) where
   evaluate-answered roll aux boys v x pa qb rc sd told is =
       let same : v ≡ evaluateOf roll (centreIn a) (centreIn b) (centreIn c) (centreIn d) aux boys = cc (told, pa, qb, rc, sd) in
       is ∙ ap hostValue same
+
+pub grouped-answered : (a b c d : «xew_centre») (p q r s : Centre) (roll : List ℕ) (aux : Float) (boys : List Float) (before : List ℕ) (v : Value) (x : «xew_value») (after : List ℕ) → p ≡ centreIn a → q ≡ centreIn b → r ≡ centreIn c → s ≡ centreIn d → GroupedTold roll p q r s aux boys before v after → x ≡ hostValue v → GroupedCallTold roll a b c d aux boys before x after
+grouped-answered a b c d p q r s roll aux boys before v x after pa qb rc sd told is =
+    let same : v ≡ groupedOfRoll (rollAt roll) (length before) (centreIn a) (centreIn b) (centreIn c) (centreIn d) aux boys = cc (told .answer, pa, qb, rc, sd) in
+    record { answer = is ∙ ap hostValue same; buffer = told .buffer }
 
 pub jk-answered : (n : ℕ) (i d beforeJ beforeK : List Float) (a : Answer) (afterJ afterK : List Float) (x : ℕ) → outcome a afterJ afterK ≡ jkOf n i d beforeJ beforeK → x ≡ jkRefusal a → JkCallTold n i d beforeJ beforeK x afterJ afterK
 jk-answered n i d beforeJ beforeK a afterJ afterK x told is =

@@ -2,6 +2,7 @@
 use Prim.Native.Nat.{ℕ}
 use mathlib.Core.List.{List}
 use lib.Ieee.{Float}
+use lib.ListN.{length}
 use contract.Lifetimes.{Lfts}
 use Rattle.kind.specs.Kinds.{kindOf}
 use Rattle.expansion.specs.Expanding.{namedTold, namedOut, namedTold2, namedOut2}
@@ -9,6 +10,7 @@ use Rattle.shell.specs.Shells.{listedAt, listedOut}
 use Rattle.roll.specs.Reading.{rollAt}
 use Rattle.form2.specs.Reading.{rollAt2}
 use Rattle.form2.specs.Moves.{inForm1, inForm2, movedOf, outOf}
+use Rattle.grouping.specs.Evaluation.{ofRoll as groupedOfRoll, bufferOf}
 use Rattle.jk.specs.Outcome.{jkOf, refusalOf as jkRefusal}
 use Rattle.laws.proofs.Contract.{Alone, alone, Lent, _then_, _▸_, end}
 use Rattle.xewumbal.specs.declared.xew_centre.{«xew_centre»}
@@ -16,8 +18,9 @@ use Rattle.xewumbal.specs.declared.xew_written.{«xew_written»}
 use Rattle.xewumbal.specs.declared.xew_cursor.{«xew_cursor»}
 use Rattle.xewumbal.specs.declared.xew_cursor2.{«xew_cursor2»}
 use Rattle.xewumbal.specs.declared.xew_moved.{«xew_moved»}
+use Rattle.xewumbal.specs.declared.xew_value.{«xew_value»}
 use Rattle.xewumbal.specs.Answers.{hostExpanded, hostListed, hostMoved, measureAnswer, shell2Answer, shell4Answer, openAnswer, checkAnswer, nextAnswer, open2Answer, check2Answer, next2Answer}
-use Rattle.xewumbal.specs.Answers.{scaleTotalAnswer, rollTotalAnswer, prefactorsAnswer, evaluateAnswer}
+use Rattle.xewumbal.specs.Answers.{scaleTotalAnswer, rollTotalAnswer, prefactorsAnswer, evaluateAnswer, hostValue, centreIn}
 use Rattle.xewumbal.proofs.xew_expand.Reads.{Post as Expand}
 use Rattle.xewumbal.proofs.xew_measure.Reads.{Post as Measure}
 use Rattle.xewumbal.proofs.xew_expand2.Reads.{Post as Expand2}
@@ -36,6 +39,7 @@ use Rattle.xewumbal.proofs.xew_scale_total.Reads.{Post as ScaleTotal}
 use Rattle.xewumbal.proofs.xew_roll_total.Reads.{Post as RollTotal}
 use Rattle.xewumbal.proofs.xew_prefactors.Reads.{Post as Prefactors}
 use Rattle.xewumbal.proofs.xew_evaluate.Reads.{Post as Evaluate}
+use Rattle.xewumbal.proofs.xew_evaluate_grouped.Reads.{Post as EvaluateGrouped}
 use Rattle.xewumbal.proofs.xew_jk.Reads.{Post as Jk}
 
 module _ (κs : Lfts 2) (kind : ℕ) (orders out : Lent ℕ) (start : ℕ) where
@@ -104,6 +108,11 @@ prefactors-only kind a b c d = alone (λ r p. p)
 pub evaluate-only : (κs : Lfts 2) (roll : Lent ℕ) (a b c d : «xew_centre») (aux : Float) (boys : Lent Float) →
     let g = roll ▸ a ▸ b ▸ c ▸ d ▸ aux ▸ boys ▸ end in Alone (λ r. Evaluate κs g r g) (evaluateAnswer (roll .now) a b c d aux (boys .now))
 evaluate-only κs roll a b c d aux boys = alone (λ r p. p)
+
+pub evaluate-grouped-only : (κs : Lfts 3) (roll : Lent ℕ) (a b c d : «xew_centre») (aux : Float) (boys : Lent Float) (buffer : Lent ℕ) →
+    Alone {A = «xew_value» × List ℕ} (λ x. EvaluateGrouped κs (roll ▸ a ▸ b ▸ c ▸ d ▸ aux ▸ boys ▸ buffer ▸ end) (x .0) (roll ▸ a ▸ b ▸ c ▸ d ▸ aux ▸ boys ▸ buffer then (x .1) ▸ end))
+    (hostValue (groupedOfRoll (rollAt (roll .now)) (length (buffer .now)) (centreIn a) (centreIn b) (centreIn c) (centreIn d) aux (boys .now)), bufferOf (rollAt (roll .now)) (buffer .now))
+evaluate-grouped-only κs roll a b c d aux boys buffer = alone (λ x p i. (p .answer i, p .buffer i))
 
 module _ (κs : Lfts 4) (n : ℕ) (i d j k : Lent Float) where
   pub jk-only :

@@ -4,6 +4,7 @@ use Prim.Native.Nat.{ℕ}
 use mathlib.Core.Path.{_≡_}
 use mathlib.Core.List.{List}
 use lib.Ieee.{Float}
+use lib.ListN.{length}
 use Rattle.kind.specs.Kinds.{kindOf}
 use Rattle.expansion.specs.declared.Expanded.{Expanded}
 use Rattle.expansion.specs.Expanding.{namedTold, namedMeasured, namedOut, namedTold2, namedOut2, lengthIn as rollLength, countIn, refusalOf as expandedRefusal}
@@ -35,6 +36,7 @@ use Rattle.geometry.specs.declared.Table.{Table}
 use Rattle.geometry.specs.Checks.{prefactorTableOf, refusalOf as tableRefusal}
 use Rattle.integrals.specs.declared.Value.{Value}
 use Rattle.integrals.specs.Evaluation.{evaluateOf, floatOf, placeOf, refusalOf as valueRefusal}
+use Rattle.grouping.specs.Evaluation.{ofRoll as groupedOfRoll, bufferOf}
 use Rattle.jk.specs.Outcome.{jkOf, refusalOf as jkRefusal}
 use Rattle.xewumbal.specs.declared.xew_centre.{«xew_centre»}
 use Rattle.xewumbal.specs.declared.xew_written.{«xew_written»}
@@ -212,6 +214,12 @@ hostValue v = record { value = floatOf v; place = placeOf v; refusal = valueRefu
 
 unfoldable pub evaluateAnswer : List ℕ → «xew_centre» → «xew_centre» → «xew_centre» → «xew_centre» → Float → List Float → «xew_value»
 evaluateAnswer roll a b c d aux boys = hostValue (evaluateOf roll (centreIn a) (centreIn b) (centreIn c) (centreIn d) aux boys)
+
+-- ---- xew_evaluate_grouped: the same of an evaluation that is lent a grouping buffer, and what the buffer then holds
+
+pub record GroupedCallTold (roll : List ℕ) (a b c d : «xew_centre») (aux : Float) (boys : List Float) (before : List ℕ) (r : «xew_value») (after : List ℕ) : Type 0 where
+  pub answer : r ≡ hostValue (groupedOfRoll (rollAt roll) (length before) (centreIn a) (centreIn b) (centreIn c) (centreIn d) aux boys)
+  pub buffer : after ≡ bufferOf (rollAt roll) before
 
 -- ---- xew_jk: the refusal alone
 

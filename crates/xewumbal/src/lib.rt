@@ -3,7 +3,7 @@
 mod answers;
 
 ghost use mathlib.Core.Path.{_≡_};
-ghost use Rattle.xewumbal.specs.Answers.{ExpandCallTold, Expand2CallTold, ListCallTold, ToForm2CallTold, ToForm1CallTold, JkCallTold};
+ghost use Rattle.xewumbal.specs.Answers.{ExpandCallTold, Expand2CallTold, ListCallTold, ToForm2CallTold, ToForm1CallTold, GroupedCallTold, JkCallTold};
 ghost use Rattle.xewumbal.specs.Answers.{measureAnswer, shell2Answer, shell4Answer, openAnswer, checkAnswer, nextAnswer, open2Answer, check2Answer, next2Answer};
 ghost use Rattle.xewumbal.specs.Answers.{scaleTotalAnswer, rollTotalAnswer, prefactorsAnswer, evaluateAnswer};
 use kind::Kind;
@@ -287,6 +287,31 @@ pub extern "C" fn xew_evaluate(
         answers::centre(d),
         aux,
         boys,
+    ))
+}
+
+#[no_mangle]
+pub extern "C" fn xew_evaluate_grouped(
+    roll: &[u8],
+    a: xew_centre,
+    b: xew_centre,
+    c: xew_centre,
+    d: xew_centre,
+    aux: f64,
+    boys: &[f64],
+    buffer: &mut [u8],
+) -> xew_value
+    ensures { λ r. ⌜ GroupedCallTold (now (roll .entry)) a b c d aux (now (boys .entry)) (now (buffer .entry)) r (now (buffer .exit)) ⌝ }
+{
+    answers::value(grouping::evaluate_grouped(
+        roll,
+        answers::centre(a),
+        answers::centre(b),
+        answers::centre(c),
+        answers::centre(d),
+        aux,
+        boys,
+        buffer,
     ))
 }
 
