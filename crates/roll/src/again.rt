@@ -47,8 +47,8 @@ fn end_of(length: usize, from: usize, count: u32) -> usize
     length
 }
 
-// A term's numbers, and where its prefactors stand.
-pub fn head_at(roll: &[u8], at: usize) -> Head
+// A term's numbers, and where its prefactors stand, a number after the other.
+fn long_head(roll: &[u8], at: usize) -> Head
     ensures { λ r. ⌜ r ≡ headAt (now (roll .entry)) at ⌝ }
 {
     let scale = number_at(roll, at);
@@ -85,29 +85,33 @@ fn is_short(roll: &[u8], at: usize) -> bool
     false
 }
 
-// The Boys order of such a term.
-fn short_boys(roll: &[u8], at: usize) -> usize
+// Such a term, by its bytes.
+fn short_head(roll: &[u8], at: usize) -> Head
     requires { ⌜ Short (now roll) at ⌝ }
-    ensures { λ r. ⌜ r ≡ boysAt (now (roll .entry)) at ⌝ }
+    ensures { λ r. ⌜ r ≡ headAt (now (roll .entry)) at ⌝ }
 {
-    wide(roll[at + 1]) as usize
+    Head {
+        scale: wide(roll[at]),
+        boys: wide(roll[at + 1]),
+        from: at + 3,
+        end: at + 3 + wide(roll[at + 2]) as usize,
+    }
 }
 
-// The place after such a term.
-fn short_end(roll: &[u8], at: usize) -> usize
-    requires { ⌜ Short (now roll) at ⌝ }
-    ensures { λ r. ⌜ r ≡ endAt (now (roll .entry)) at ⌝ }
+// A term's numbers, and where its prefactors stand. Most terms are short.
+pub fn head_at(roll: &[u8], at: usize) -> Head
+    ensures { λ r. ⌜ r ≡ headAt (now (roll .entry)) at ⌝ }
 {
-    at + 3 + wide(roll[at + 2]) as usize
+    if is_short(roll, at) {
+        return short_head(roll, at);
+    }
+    long_head(roll, at)
 }
 
 // A term's Boys order.
 pub fn boys_at(roll: &[u8], at: usize) -> usize
     ensures { λ r. ⌜ r ≡ boysAt (now (roll .entry)) at ⌝ }
 {
-    if is_short(roll, at) {
-        return short_boys(roll, at);
-    }
     let h = head_at(roll, at);
     h.boys as usize
 }
@@ -116,9 +120,6 @@ pub fn boys_at(roll: &[u8], at: usize) -> usize
 pub fn end_at(roll: &[u8], at: usize) -> usize
     ensures { λ r. ⌜ r ≡ endAt (now (roll .entry)) at ⌝ }
 {
-    if is_short(roll, at) {
-        return short_end(roll, at);
-    }
     let h = head_at(roll, at);
     h.end
 }

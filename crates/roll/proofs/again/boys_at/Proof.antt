@@ -1,17 +1,8 @@
--- `boys_at` meets its contract: the short way gives what the head gives. Assumes nothing.
-use Rattle.roll.proofs.AgainLaws.{short-given, head-boys}
+-- `boys_at` meets its contract. Assumes nothing.
+use Rattle.roll.proofs.AgainLaws.{head-boys}
 use borrow.Author.Needs.{needs}
 use Rattle.roll.proofs.again.boys_at.Statement.{statement}
 use Rattle.roll.proofs.again.boys_at.Tie as tie
-
-is-short-requires : tie.Need-is-short-requires
-is-short-requires c κs = search needs
-
-short-boys-requires : tie.Need-short-boys-requires
-short-boys-requires c κs = search short-given
-
-returns : tie.Need-returns
-returns c = search needs
 
 head-at-requires : tie.Need-head-at-requires
 head-at-requires c κs = search needs
@@ -19,10 +10,8 @@ head-at-requires c κs = search needs
 cast-result : tie.Need-cast-result
 cast-result c = search needs
 
-returns-2 : tie.Need-returns-2
-returns-2 c = search head-boys
+returns : tie.Need-returns
+returns c = search head-boys
 
 pub boys-at-spec : {M : Type 1} → statement M
-boys-at-spec =
-    tie.close
-    (tie.spec is-short-requires short-boys-requires returns head-at-requires cast-result returns-2)
+boys-at-spec = tie.close (tie.spec head-at-requires cast-result returns)

@@ -1,25 +1,24 @@
--- `head_at` meets its contract: each number is read where the one before ends. Assumes nothing.
-use Rattle.roll.proofs.AgainLaws.{head-made}
+-- `head_at` meets its contract: the short way gives what the other gives. Assumes nothing.
+use Rattle.roll.proofs.AgainLaws.{short-given}
 use borrow.Author.Needs.{needs}
 use Rattle.roll.proofs.again.head_at.Statement.{statement}
 use Rattle.roll.proofs.again.head_at.Tie as tie
 
-number-at-requires : tie.Need-number-at-requires
-number-at-requires c κs = search needs
+is-short-requires : tie.Need-is-short-requires
+is-short-requires c κs = search needs
 
-number-at-requires-2 : tie.Need-number-at-requires-2
-number-at-requires-2 c κs = search needs
-
-number-at-requires-3 : tie.Need-number-at-requires-3
-number-at-requires-3 c κs = search needs
-
-end-of-requires : tie.Need-end-of-requires
-end-of-requires c κs = search needs
+short-head-requires : tie.Need-short-head-requires
+short-head-requires c κs = search short-given
 
 returns : tie.Need-returns
-returns c = search head-made
+returns c = search needs
+
+long-head-requires : tie.Need-long-head-requires
+long-head-requires c κs = search needs
+
+returns-2 : tie.Need-returns-2
+returns-2 c = search needs
 
 pub head-at-spec : {M : Type 1} → statement M
 head-at-spec =
-    tie.close
-    (tie.spec number-at-requires number-at-requires-2 number-at-requires-3 end-of-requires returns)
+    tie.close (tie.spec is-short-requires short-head-requires returns long-head-requires returns-2)
