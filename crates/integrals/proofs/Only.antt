@@ -5,17 +5,17 @@ use contract.Lifetimes.{Lfts}
 use Rattle.laws.proofs.Contract.{Alone, alone, Lent, _▸_, end}
 use Rattle.geometry.specs.declared.Centre.{Centre}
 use Rattle.kind.specs.Kinds.{kindOf}
-use Rattle.kind.specs.declared.Kind.{Kind}
 use Rattle.roll.specs.declared.again.Head.{Head}
 use Rattle.roll.specs.declared.cursor.Cursor.{Cursor}
 use Rattle.roll.specs.inner.Again.{headTerm}
 use Rattle.integrals.specs.Evaluation.{evaluateOf}
 use Rattle.integrals.specs.Values.{resultOf}
-use Rattle.integrals.specs.inner.Ready.{readyOf}
+use Rattle.integrals.specs.declared.sums.Terms.{Terms}
+use Rattle.integrals.specs.inner.Barred.{barsWith}
 use Rattle.integrals.specs.inner.Stored.{ownOrderOf, ofCursor}
 use Rattle.integrals.proofs.evaluate.Reads.{Post as Evaluate}
 use Rattle.integrals.proofs.from_cursor.Reads.{Post as FromCursor}
-use Rattle.integrals.proofs.prepare.Reads.{Post as Prepare}
+use Rattle.integrals.proofs.barred.Reads.{Post as Barred}
 use Rattle.integrals.proofs.result.Reads.{Post as Result}
 use Rattle.integrals.proofs.sums.coulomb_term.Reads.{Post as CoulombTerm}
 
@@ -27,9 +27,9 @@ pub from-cursor-only : (κs : Lfts 2) (cursor : Cursor) (a b c d : Centre) (aux 
     let g = cursor ▸ a ▸ b ▸ c ▸ d ▸ aux ▸ boys ▸ roll ▸ end in Alone (λ r. FromCursor κs g r g) (ofCursor (kindOf (cursor .kind)) cursor a b c d aux (boys .now) (roll .now))
 from-cursor-only κs cursor a b c d aux boys roll = alone (λ r p. p)
 
-pub prepare-only : (κs : Lfts 1) (k : Kind) (l : ℕ) (a b c d : Centre) (aux : Float) (boys : Lent Float) →
-    let g = k ▸ l ▸ a ▸ b ▸ c ▸ d ▸ aux ▸ boys ▸ end in Alone (λ r. Prepare κs g r g) (readyOf k l a b c d aux (boys .now))
-prepare-only κs k l a b c d aux boys = alone (λ r p. p)
+pub barred-only : (κs : Lfts 2) (terms : Terms) (a b c d : Centre) (aux : Float) (boys table : Lent Float) →
+    let g = terms ▸ a ▸ b ▸ c ▸ d ▸ aux ▸ boys ▸ table ▸ end in Alone (λ r. Barred κs g r g) (barsWith (terms .kind) (terms .cursor .l) a b c d aux (boys .now) (table .now))
+barred-only κs terms a b c d aux boys table = alone (λ r p. p)
 
 pub result-only : (x : Float) → let g = x ▸ end in Alone (λ r. Result tt g r g) (resultOf x)
 result-only x = alone (λ r p. p)

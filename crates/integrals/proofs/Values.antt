@@ -1,9 +1,8 @@
 -- The checks of an evaluation: one law for each way out of each.
-use Prim.Native.Nat.{ℕ, zero, suc, _+_}
+use Prim.Native.Nat.{ℕ, _+_}
 use mathlib.Core.Path.{_≡_, refl, sym, ap, _∙_}
 use mathlib.Core.Bool.{Bool, true, false, not, cond}
 use mathlib.Core.List.{List}
-use native.Mathlib.Omega.{arith}
 use borrow.Author.Tests.{not-true, not-false, eq-eqb, ne-eqb}
 use lib.Dec.{eqb}
 use lib.Ieee.{Float}
@@ -23,8 +22,7 @@ use Rattle.geometry.proofs.Checks.{finite-table}
 use Rattle.integrals.specs.declared.Value.{Value}
 use Rattle.integrals.specs.declared.Value.the-variants.{Is, Refused}
 use Rattle.laws.specs.Unless.{unless}
-use Rattle.integrals.specs.declared.Ready.{Ready}
-use Rattle.integrals.specs.inner.Ready.{barsOf, barredReady, readyOf}
+use Rattle.integrals.specs.inner.Barred.{barsWith}
 use Rattle.integrals.specs.Sums.{kineticStart, totalOf, integralOf}
 use Rattle.integrals.specs.Values.{inputsFinite, boysCounted, refusedUnless, resultOf, valueOf}
 
@@ -65,35 +63,30 @@ module _ (k : Kind) (a b c d : Centre) (aux : Float) (boys : List Float) where
     pub started : (table : List Float) (kinetic x : Float) → kinetic ≡ kineticStart a b → x ≡ totalOf k l kinetic table aux boys ts → x ≡ totalOf k l (kineticStart a b) table aux boys ts
     started table kinetic x f g = rw (← f) g
 
-  module _ (l : ℕ) where
-    module _ (s : Bool) (r : Ready) (e : s ≡ inputsFinite k a b c d aux boys) where
-      pub refused-float : not s ≡ true → r ≡ barredReady 8 → r ≡ readyOf k l a b c d aux boys
-      unfolding readyOf barsOf unless
-      refused-float p z = rw (← e, not-true s p) z
+  module _ (l : ℕ) (table : List Float) where
+    module _ (s : Bool) (e : s ≡ inputsFinite k a b c d aux boys) where
+      pub refused-float : not s ≡ true → 8 ≡ barsWith k l a b c d aux boys table
+      unfolding barsWith unless
+      refused-float p = rw (← e, not-true s p)
 
       module _ (t : Bool) (p : not s ≡ false) (f : t ≡ exponentsAboveZero k a b c d) where
-        pub refused-exponent : not t ≡ true → r ≡ barredReady 9 → r ≡ readyOf k l a b c d aux boys
-        unfolding readyOf barsOf unless
-        refused-exponent q z = rw (← e, not-false s p, ← f, not-true t q) z
+        pub refused-exponent : not t ≡ true → 9 ≡ barsWith k l a b c d aux boys table
+        unfolding barsWith unless
+        refused-exponent q = rw (← e, not-false s p, ← f, not-true t q)
 
         module _ (u : Bool) (q : not t ≡ false) (g : u ≡ boysCounted k l (length boys)) where
-          pub refused-count : not u ≡ true → r ≡ barredReady 10 → r ≡ readyOf k l a b c d aux boys
-          unfolding readyOf barsOf unless
-          refused-count o z = rw (← e, not-false s p, ← f, not-false t q, ← g, not-true u o) z
+          pub refused-count : not u ≡ true → 10 ≡ barsWith k l a b c d aux boys table
+          unfolding barsWith unless
+          refused-count o = rw (← e, not-false s p, ← f, not-false t q, ← g, not-true u o)
 
-          module _ (v : Bool) (table : List Float) (o : not u ≡ false) (is : table ≡ inPlaces tablePlaces (prefac k a b c d)) (all : v ≡ finiteWith k a b c d table) where
-            h : v ≡ geometryFinite k a b c d
-            h = finite-table k a b c d table v is all
+          module _ (v : Bool) (o : not u ≡ false) (h : v ≡ finiteWith k a b c d table) where
+            pub refused-geometry : not v ≡ true → 11 ≡ barsWith k l a b c d aux boys table
+            unfolding barsWith unless
+            refused-geometry w = rw (← e, not-false s p, ← f, not-false t q, ← g, not-false u o, ← h, not-true v w)
 
-            pub refused-geometry : not v ≡ true → r ≡ barredReady 11 → r ≡ readyOf k l a b c d aux boys
-            unfolding readyOf barsOf unless
-            refused-geometry w z = rw (← e, not-false s p, ← f, not-false t q, ← g, not-false u o, ← h, not-true v w) z
-
-    pub passed : (s t u v : Bool) (table : List Float) → s ≡ inputsFinite k a b c d aux boys → not s ≡ false → t ≡ exponentsAboveZero k a b c d → not t ≡ false → u ≡ boysCounted k l (length boys) → not u ≡ false → table ≡ inPlaces tablePlaces (prefac k a b c d) → v ≡ finiteWith k a b c d table → not v ≡ false → _≡_ {A = Ready} (record { refusal = 0; table = table }) (readyOf k l a b c d aux boys)
-    unfolding readyOf barsOf unless
-    passed s t u v table e p f q g o is all w =
-        let h : v ≡ geometryFinite k a b c d = finite-table k a b c d table v is all in
-        rw (← e, not-false s p, ← f, not-false t q, ← g, not-false u o, ← h, not-false v w, ← is)
+            pub passed : not v ≡ false → 0 ≡ barsWith k l a b c d aux boys table
+            unfolding barsWith unless
+            passed w = rw (← e, not-false s p, ← f, not-false t q, ← g, not-false u o, ← h, not-false v w)
 
 -- ---- the value, once the checks have been made
 
@@ -105,34 +98,19 @@ by-bars true true false s v = refl
 by-bars true false r s v = refl
 by-bars false q r s v = refl
 
-module _ (k : Kind) (l : ℕ) (a b c d : Centre) (aux : Float) (boys : List Float) (ts : List Term) (m : Ready) (e : m ≡ readyOf k l a b c d aux boys) where
-  value-is : valueOf k l a b c d aux boys ts ≡ cond (eqb (barsOf k l a b c d aux boys) 0) (resultOf (integralOf k l a b c d aux boys ts)) (Refused (barsOf k l a b c d aux boys) 0)
-  unfolding valueOf barsOf
-  value-is = by-bars (inputsFinite k a b c d aux boys) (exponentsAboveZero k a b c d) (boysCounted k l (length boys)) (geometryFinite k a b c d) (resultOf (integralOf k l a b c d aux boys ts))
+module _ (k : Kind) (l : ℕ) (a b c d : Centre) (aux : Float) (boys : List Float) (ts : List Term) (table : List Float) (n : ℕ) (is : table ≡ inPlaces tablePlaces (prefac k a b c d)) (e : n ≡ barsWith k l a b c d aux boys table) where
+  -- of the centres' own table the checks are the evaluation's
+  value-is : valueOf k l a b c d aux boys ts ≡ cond (eqb n 0) (resultOf (integralOf k l a b c d aux boys ts)) (Refused n 0)
+  unfolding valueOf barsWith
+  value-is =
+      let same : finiteWith k a b c d table ≡ geometryFinite k a b c d = finite-table k a b c d table (finiteWith k a b c d table) is refl in
+      rw (e, same) (by-bars (inputsFinite k a b c d aux boys) (exponentsAboveZero k a b c d) (boysCounted k l (length boys)) (geometryFinite k a b c d) (resultOf (integralOf k l a b c d aux boys ts)))
 
-  -- the refusal that is held is the one that bars
-  held : m .refusal ≡ barsOf k l a b c d aux boys
-  unfolding readyOf
-  held = by (barsOf k l a b c d aux boys) refl
-    where
-      by : (n : ℕ) → barsOf k l a b c d aux boys ≡ n → m .refusal ≡ barsOf k l a b c d aux boys
-      by zero f = ap (λ (x : Ready). x .refusal) e ∙ rw f
-      by (suc n) f = ap (λ (x : Ready). x .refusal) e ∙ (let some : eqb (suc n) 0 ≡ false = ne-eqb (suc n) 0 (λ none. omega arith) in rw (f, some))
+  pub value-barred : (n ≡ 0 → ⊥) → Refused n 0 ≡ valueOf k l a b c d aux boys ts
+  value-barred some = sym (value-is ∙ rw (ne-eqb n 0 some))
 
-  pub value-barred : (m .refusal ≡ 0 → ⊥) → Refused (m .refusal) 0 ≡ valueOf k l a b c d aux boys ts
-  value-barred some =
-      let other : eqb (barsOf k l a b c d aux boys) 0 ≡ false = ne-eqb (barsOf k l a b c d aux boys) 0 (λ none. some (held ∙ none)) in
-      ap (λ (n : ℕ). Refused n 0) held ∙ sym (value-is ∙ rw other)
-
-  table-held : m .refusal ≡ 0 → m .table ≡ inPlaces tablePlaces (prefac k a b c d)
-  unfolding readyOf
-  table-held none =
-      let same : eqb (barsOf k l a b c d aux boys) 0 ≡ true = eq-eqb (barsOf k l a b c d aux boys) 0 (sym held ∙ none) in
-      ap (λ (x : Ready). x .table) e ∙ rw same
-
-  pub value-passed : (x : Float) (r : Value) → m .refusal ≡ 0 → x ≡ totalOf k l (kineticStart a b) (m .table) aux boys ts → r ≡ resultOf x → r ≡ valueOf k l a b c d aux boys ts
+  pub value-passed : (x : Float) (r : Value) → n ≡ 0 → x ≡ totalOf k l (kineticStart a b) table aux boys ts → r ≡ resultOf x → r ≡ valueOf k l a b c d aux boys ts
   unfolding integralOf
   value-passed x r none y z =
-      let same : eqb (barsOf k l a b c d aux boys) 0 ≡ true = eq-eqb (barsOf k l a b c d aux boys) 0 (sym held ∙ none) in
-      let whole : x ≡ integralOf k l a b c d aux boys ts = rw (← table-held none) y in
-      z ∙ ap resultOf whole ∙ sym (value-is ∙ rw same)
+      let whole : x ≡ integralOf k l a b c d aux boys ts = rw (← is) y in
+      z ∙ ap resultOf whole ∙ sym (value-is ∙ rw (eq-eqb n 0 none))

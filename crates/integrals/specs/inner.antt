@@ -1,2 +1,2 @@
-pub mod Ready
+pub mod Barred
 pub mod Stored

@@ -3,7 +3,7 @@ ghost use mathlib.Core.Path.{_≡_};
 ghost use Rattle.integrals.specs.Sums.{kineticStart, totalOf};
 ghost use Rattle.integrals.specs.Values.{inputsFinite, boysCounted, resultOf, valueOf};
 ghost use Rattle.integrals.specs.inner.Stored.{ofCursor, againFrom};
-ghost use Rattle.integrals.specs.inner.Ready.{barredReady, readyOf};
+ghost use Rattle.integrals.specs.inner.Barred.{barsWith};
 ghost use Rattle.integrals.specs.Evaluation.{evaluateOf};
 ghost use Rattle.kind.specs.Kinds.{kindOf};
 use geometry::Centre;
@@ -11,22 +11,16 @@ use kind::Kind;
 use kind::Named;
 use roll::Cursor;
 use roll::Opening;
-use sums::Terms;
 
 mod sums;
 
+pub use sums::Terms;
 pub use sums::coulomb_term;
 
 // The integral, or a refusal's number and place (D-72).
 pub enum Value {
     Is(f64),
     Refused(u8, usize),
-}
-
-// What the checks before a sum leave: the prefactor table, or a refusal with zeros beside it.
-pub struct Ready {
-    pub refusal: u8,
-    pub table: [f64; Kind::TABLE],
 }
 
 // Where g of a kinetic term starts that stays kinetic.
@@ -96,43 +90,34 @@ pub fn result(x: f64) -> Value
     Value::Refused(11, 0)
 }
 
-// A refusal before the sum.
-fn barred(refusal: u8) -> Ready
-    ensures { λ r. ⌜ r ≡ barredReady refusal ⌝ }
-{
-    Ready {
-        refusal,
-        table: [0.0; Kind::TABLE],
-    }
-}
-
-// Checks 8, 9 and 10, and 11 of the geometry; refusal 0 is none.
-pub fn prepare(
-    kind: Kind,
-    l: u8,
+// The refusal that comes before a sum with this table: 8, 9, 10, or 11 of the geometry; 0 is none.
+pub fn barred(
+    terms: Terms,
     a: Centre,
     b: Centre,
     c: Centre,
     d: Centre,
     aux: f64,
     boys: &[f64],
-) -> Ready
-    ensures { λ r. ⌜ r ≡ readyOf kind l a b c d aux (now (boys .entry)) ⌝ }
+    table: &[f64],
+) -> u8
+    ensures { λ r. ⌜ r ≡ barsWith (terms .kind) (terms .cursor .l) a b c d aux (now (boys .entry)) (now (table .entry)) ⌝ }
 {
+    let kind = terms.kind;
+    let cursor = terms.cursor;
     if !inputs_finite(kind, a, b, c, d, aux, boys) {
-        return barred(8);
+        return 8;
     }
     if !geometry::exponents_above_zero(kind, a, b, c, d) {
-        return barred(9);
+        return 9;
     }
-    if !boys_counted(kind, l, boys.len()) {
-        return barred(10);
+    if !boys_counted(kind, cursor.l, boys.len()) {
+        return 10;
     }
-    let table = geometry::prefac(kind, a, b, c, d);
-    if !geometry::geometry_finite(kind, a, b, c, d, &table) {
-        return barred(11);
+    if !geometry::geometry_finite(kind, a, b, c, d, table) {
+        return 11;
     }
-    Ready { refusal: 0, table }
+    0
 }
 
 // Checks 8, 9, 10 and 11 of a roll's terms, and their sum.
@@ -149,12 +134,11 @@ fn judged(
     ensures { λ r. ⌜ r ≡ valueOf (terms .kind) (terms .cursor .l) a b c d aux (now (boys .entry)) (againFrom (now (roll .entry)) (terms .cursor)) ⌝ }
 {
     let kind = terms.kind;
-    let cursor = terms.cursor;
-    let made = prepare(kind, cursor.l, a, b, c, d, aux, boys);
-    if made.refusal != 0 {
-        return Value::Refused(made.refusal, 0);
+    let table = geometry::prefac(kind, a, b, c, d);
+    let refusal = barred(terms, a, b, c, d, aux, boys, &table);
+    if refusal != 0 {
+        return Value::Refused(refusal, 0);
     }
-    let table = made.table;
     result(integral(terms, a, b, &table, aux, boys, roll))
 }
 

@@ -15,9 +15,9 @@ use roll::end_at;
 use roll::head_at;
 
 // The terms of a judged roll: their kind, and the cursor that stands before them.
-pub(crate) struct Terms {
-    pub(crate) kind: Kind,
-    pub(crate) cursor: Cursor,
+pub struct Terms {
+    pub kind: Kind,
+    pub cursor: Cursor,
 }
 
 // What a term adds to a sum in list order.
