@@ -1,11 +1,10 @@
 // The evaluation that is lent a grouping buffer: a Coulomb roll's terms are laid into it by Boys order and summed in one pass over it.
 ghost use mathlib.Core.Path.{_≡_};
-ghost use Rattle.kind.specs.declared.Kind.the-variants.{Coulomb};
-ghost use Rattle.integrals.specs.inner.Ready.{readyOf};
 ghost use Rattle.grouping.specs.Evaluation.{GroupedTold};
-ghost use Rattle.grouping.specs.inner.Grouped.{summedOf, GroupsMay, InGroupsTold, CursorMay, CursorTold};
+ghost use Rattle.grouping.specs.inner.Grouped.{tableOf, barsOf, summedOf, GroupsMay, InGroupsTold, CursorMay, CursorTold};
 ghost use Rattle.grouping.specs.inner.Laying.{entriesAgain};
 use geometry::Centre;
+use integrals::Terms;
 use integrals::Value;
 use kind::Kind;
 use laying::group;
@@ -28,21 +27,22 @@ struct Given {
     aux: f64,
 }
 
-// The sum of so many entries, after the checks before it.
-fn summed(buffer: &[u8], l: u8, terms: u32, given: Given, boys: &[f64]) -> Value
-    ensures { λ r. ⌜ r ≡ summedOf (readyOf Coulomb l (given .a) (given .b) (given .c) (given .d) (given .aux) (now (boys .entry))) (given .aux) (now (boys .entry)) (entriesAgain (now (buffer .entry)) 0 terms) ⌝ }
+// The sum of the entries in the buffer, after the checks before it.
+fn summed(buffer: &[u8], cursor: Cursor, given: Given, boys: &[f64]) -> Value
+    ensures { λ r. ⌜ r ≡ summedOf (barsOf (cursor .l) given (now (boys .entry))) (tableOf given) (given .aux) (now (boys .entry)) (entriesAgain (now (buffer .entry)) 0 (cursor .left)) ⌝ }
 {
     let a = given.a;
     let b = given.b;
     let c = given.c;
     let d = given.d;
     let s = given.aux;
-    let made = integrals::prepare(Kind::Coulomb, l, a, b, c, d, s, boys);
-    if made.refusal != 0 {
-        return Value::Refused(made.refusal, 0);
+    let kind = Kind::Coulomb;
+    let table = geometry::prefac(kind, a, b, c, d);
+    let refusal = integrals::barred(Terms { kind, cursor }, a, b, c, d, s, boys, &table);
+    if refusal != 0 {
+        return Value::Refused(refusal, 0);
     }
-    let table = made.table;
-    integrals::result(sum(buffer, terms, &table, s, boys))
+    integrals::result(sum(buffer, cursor.left, &table, s, boys))
 }
 
 // A judged Coulomb roll: 6 where the buffer has no room, else the grouping is laid and summed.
@@ -55,7 +55,7 @@ fn in_groups(roll: &[u8], cursor: Cursor, given: Given, boys: &[f64], buffer: &m
         return Value::Refused(6, 0);
     }
     group(buffer, roll, cursor.place, terms);
-    summed(buffer, cursor.l, terms, given, boys)
+    summed(buffer, cursor, given, boys)
 }
 
 // A judged roll: only Coulomb rolls are grouped.

@@ -4,8 +4,14 @@ use borrow.Author.Needs.{needs}
 use Rattle.grouping.proofs.summed.Statement.{statement}
 use Rattle.grouping.proofs.summed.Tie as tie
 
-prepare-requires : tie.Need-prepare-requires
-prepare-requires c κs = search needs
+prefac-requires : tie.Need-prefac-requires
+prefac-requires c κs = search needs
+
+slice-aggregate-barred : tie.Need-slice-aggregate-barred
+slice-aggregate-barred c = search needs
+
+barred-requires : tie.Need-barred-requires
+barred-requires c κs = search needs
 
 returns : tie.Need-returns
 returns c = search summed-barred
@@ -25,4 +31,4 @@ returns-2 c = search summed-passed
 pub summed-spec : {M : Type 1} → statement M
 summed-spec =
     tie.close
-    (tie.spec prepare-requires returns slice-aggregate-sum sum-requires result-requires returns-2)
+    (tie.spec prefac-requires slice-aggregate-barred barred-requires returns slice-aggregate-sum sum-requires result-requires returns-2)

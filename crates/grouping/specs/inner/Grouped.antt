@@ -8,27 +8,35 @@ use lib.Ieee.{Float}
 use lib.ListN.{length}
 use Rattle.laws.specs.Placed.{placed}
 use Rattle.laws.specs.Unless.{unless}
-use Rattle.kind.specs.Limits.{mostTerms}
+use Rattle.kind.specs.Limits.{mostTerms, tablePlaces}
 use Rattle.kind.specs.Kinds.{kindOf, numberOf, mostL}
 use Rattle.kind.specs.declared.Kind.the-variants.{Coulomb}
 use Rattle.term.specs.Terms.{Term}
-use Rattle.geometry.specs.Floats.{zero as 0·0}
+use Rattle.geometry.specs.Floats.{zero as 0·0, inPlaces}
+use Rattle.geometry.specs.Tables.{prefac}
 use Rattle.roll.specs.declared.cursor.Cursor.{Cursor}
 use Rattle.roll.specs.Reading.{got, termsAt}
 use Rattle.roll.specs.inner.Judged.{Readable}
 use Rattle.integrals.specs.declared.Value.{Value}
 use Rattle.integrals.specs.declared.Value.the-variants.{Refused}
-use Rattle.integrals.specs.declared.Ready.{Ready}
 use Rattle.integrals.specs.Sums.{sumFrom}
 use Rattle.integrals.specs.Values.{resultOf, valueOf}
+use Rattle.integrals.specs.inner.Barred.{barsWith}
 use Rattle.integrals.specs.inner.Stored.{ownOrderOf, againFrom, ofCursor}
 use Rattle.grouping.specs.declared.Given.{Given}
 use Rattle.grouping.specs.Grouping.{grouping, entriesBytes}
 use Rattle.grouping.specs.Evaluation.{entryRoom}
 
--- the sum of terms that stand by Boys order, once the checks before it are made
-unfoldable pub summedOf : Ready → Float → List Float → List Term → Value
-summedOf m s boys ts = cond (eqb (m .refusal) 0) (resultOf (sumFrom (ownOrderOf (m .table) s boys) ts 0·0)) (Refused (m .refusal) 0)
+-- the table of the host's centres, and the refusal that comes before a sum with it
+unfoldable pub tableOf : Given → List Float
+tableOf g = inPlaces tablePlaces (prefac Coulomb (g .a) (g .b) (g .c) (g .d))
+
+unfoldable pub barsOf : ℕ → Given → List Float → ℕ
+barsOf l g boys = barsWith Coulomb l (g .a) (g .b) (g .c) (g .d) (g .aux) boys (tableOf g)
+
+-- the sum of terms that stand by Boys order, unless it is barred
+unfoldable pub summedOf : ℕ → List Float → Float → List Float → List Term → Value
+summedOf n table s boys ts = cond (eqb n 0) (resultOf (sumFrom (ownOrderOf table s boys) ts 0·0)) (Refused n 0)
 
 abbrev pub enoughFor : ℕ → ℕ → Bool
 enoughFor size terms = leb (entryRoom * terms) size
