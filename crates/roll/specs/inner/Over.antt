@@ -14,6 +14,13 @@ use Rattle.roll.specs.declared.header.Opened.{Opened}
 use Rattle.roll.specs.Reading.{Reading, got, refused, withinAt, prefactorsAt}
 use Rattle.roll.specs.Header.{refusedOpened}
 
+-- a number of one byte, within its limits
+pub record Quick (s : List ℕ) (at low high : ℕ) : Type 0 where
+  pub inside : at < length s
+  pub one-byte : oneByte (getD s at 0) ≡ true
+  pub above : low ≤ getD s at 0
+  pub below : getD s at 0 ≤ high
+
 -- the bytes from one place to another are at most `last`
 pub record SmallBytes (s : List ℕ) (at end last : ℕ) : Type 0 where
   pub each : (i : ℕ) → at ≤ i → i < end → getD s i 0 ≤ last

@@ -1,38 +1,24 @@
--- `within` meets its contract: a law of Fields for each way out. Assumes nothing.
-use Rattle.roll.proofs.FieldLaws.{within-unread, within-low, within-high, within-is}
+-- `within` meets its contract: the quick way gives what the reader gives. Assumes nothing.
+use Rattle.roll.proofs.FieldLaws.{quick-given}
 use borrow.Author.Needs.{needs}
 use Rattle.roll.proofs.field.within.Statement.{statement}
 use Rattle.roll.proofs.field.within.Tie as tie
 
-read-requires : tie.Need-read-requires
-read-requires c κs = search needs
+is-quick-requires : tie.Need-is-quick-requires
+is-quick-requires c κs = search needs
 
-enum-known-read : tie.Need-enum-known-read
-enum-known-read c = search needs
-
-refusal-of-requires : tie.Need-refusal-of-requires
-refusal-of-requires c κs = search needs
+quick-requires : tie.Need-quick-requires
+quick-requires c κs = search quick-given
 
 returns : tie.Need-returns
-returns c = search within-unread
+returns c = search needs
+
+read-within-requires : tie.Need-read-within-requires
+read-within-requires c κs = search needs
 
 returns-2 : tie.Need-returns-2
-returns-2 c = search within-low
-
-returns-3 : tie.Need-returns-3
-returns-3 c = search within-is
-
-returns-4 : tie.Need-returns-4
-returns-4 c = search within-high
+returns-2 c = search needs
 
 pub within-spec : {M : Type 1} → statement M
 within-spec =
-    tie.close
-    (tie.spec
-    read-requires
-    enum-known-read
-    refusal-of-requires
-    returns
-    returns-2
-    returns-3
-    returns-4)
+    tie.close (tie.spec is-quick-requires quick-requires returns read-within-requires returns-2)
