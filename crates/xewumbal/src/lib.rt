@@ -303,16 +303,11 @@ pub extern "C" fn xew_evaluate_grouped(
 ) -> xew_value
     ensures { λ r. ⌜ GroupedCallTold (now (roll .entry)) a b c d aux (now (boys .entry)) (now (buffer .entry)) r (now (buffer .exit)) ⌝ }
 {
-    answers::value(grouping::evaluate_grouped(
-        roll,
-        answers::centre(a),
-        answers::centre(b),
-        answers::centre(c),
-        answers::centre(d),
-        aux,
-        boys,
-        buffer,
-    ))
+    let p = answers::centre(a);
+    let q = answers::centre(b);
+    let r = answers::centre(c);
+    let s = answers::centre(d);
+    answers::value(grouping::evaluate_grouped(roll, p, q, r, s, aux, boys, buffer))
 }
 
 #[no_mangle]
