@@ -1,10 +1,9 @@
 -- How long a roll can be: each of its numbers takes at most what its limit takes.
-use Prim.Native.Nat.{ℕ, zero, suc, _+_, _*_, _/_, _≤_, _<_}
+use Prim.Native.Nat.{ℕ, _+_, _*_, _/_, _≤_, _<_}
 use mathlib.Core.Path.{_≡_, refl, ap}
 use mathlib.Core.List.{List, [], _∷_, _++_}
 use native.Mathlib.Omega.{arith}
 use native.Mathlib.Nat.{mul-le-mul}
-use native.Mathlib.Decide.{decLe}
 use borrow.Author.Tests.{ltb-false}
 use lib.ListN.{length, take, length-append}
 use Rattle.laws.specs.Total.{total}
@@ -14,39 +13,17 @@ use Rattle.kind.specs.Limits.{mostOrder, mostTerms, mostScale, requestOrders}
 use Rattle.kind.specs.Kinds.{numberOf, ordersOf, mostL, mostPrefactors, tableOf}
 use Rattle.kind.proofs.Within.{number-within, orders-within, l-within, table-within}
 use Rattle.term.specs.Terms.{Term}
-use Rattle.number.specs.Numbers.{groups, bytesOf, lengthOf}
-use Rattle.number.proofs.Writing.{groups-last, groups-more}
+use Rattle.number.specs.Numbers.{bytesOf, lengthOf}
 use Rattle.roll.specs.Bytes.{numbersBytes, termBytes, termsBytes, rollBytes}
 use Rattle.roll.specs.Reading.{Roll}
 use Rattle.roll.specs.Fits.{CentresFit, Below, TermFits, TermsFit, RollFits}
 use Rattle.roll.proofs.Back.{most-boys}
+use Rattle.form2.proofs.AtMost.{length-most, length-bytes}
 use Rattle.expansion.specs.declared.Expanded.the-variants as answer
 use Rattle.expansion.specs.Expanding.{termsOf, rollOf, ExpandTold, mostTerm, mostRollOf, mostRoll}
 use Rattle.expansion.specs.inner.Requests.{RequestWithin}
 use Rattle.expansion.proofs.ReadsBack.{roll-fits}
 use Rattle.expansion.proofs.Demanded.{answered, known}
-
--- ---- a number
-
--- a smaller number takes no more bytes
-groups-most : (more n m : ℕ) → n ≤ m → length (groups more n) ≤ length (groups more m)
-unfolding groups
-groups-most zero n m h = omega arith
-groups-most (suc more) n m h = at (decLe 128 m) (decLe 128 n) (groups-most more (n / 128) (m / 128) (omega arith))
-  where
-    at : Dec (128 ≤ m) → Dec (128 ≤ n) → length (groups more (n / 128)) ≤ length (groups more (m / 128)) → length (groups (suc more) n) ≤ length (groups (suc more) m)
-    at (yes p) (yes q) less = let a = ap length (groups-more more m p) in let b = ap length (groups-more more n q) in omega arith
-    at (yes p) (no q) less = let a = ap length (groups-more more m p) in let b = ap length (groups-last (suc more) n (omega arith)) in omega arith
-    at (no p) (yes q) less = absurd (omega arith)
-    at (no p) (no q) less = let a = ap length (groups-last (suc more) m (omega arith)) in let b = ap length (groups-last (suc more) n (omega arith)) in omega arith
-
-pub length-most : (n m : ℕ) → n ≤ m → lengthOf n ≤ lengthOf m
-unfolding lengthOf bytesOf
-length-most n m h = groups-most 4 n m h
-
-pub length-bytes : (n : ℕ) → length (bytesOf n) ≡ lengthOf n
-unfolding lengthOf
-length-bytes n = refl
 
 -- ---- numbers one after the other
 

@@ -1,87 +1,28 @@
 -- How long a roll is in form 2: a term has at most one byte more than in form 1, and a walk that writes nothing tells the rest.
-use Prim.Native.Nat.{ℕ, zero, suc, _+_, _*_, _-_, _^_, _≤_, _<_}
-use mathlib.Core.Path.{_≡_, refl, sym, ap, _∙_}
+use Prim.Native.Nat.{ℕ, _+_, _-_, _^_, _≤_, _<_}
+use mathlib.Core.Path.{_≡_, sym, ap, _∙_}
 use mathlib.Core.Bool.{Bool, true, cond}
-use mathlib.Core.List.{List, [], _∷_, _++_}
+use mathlib.Core.List.{List, []}
 use native.Mathlib.Omega.{arith}
-use native.Mathlib.Decide.{decLt}
 use borrow.Author.Tests.{eq-eqb, ne-eqb, le-leb}
-use lib.Dec.{eqb, leb}
-use lib.ListN.{length, getD, take, drop, length-append, length-drop, take-append-drop}
-use lib.Seq.{length-take-le}
+use lib.Dec.{leb}
+use lib.ListN.{length, getD, take}
 use Rattle.kind.specs.declared.Kind.{Kind}
 use Rattle.kind.specs.Kinds.{ordersOf}
-use Rattle.kind.specs.Limits.{mostTerms}
-use Rattle.kind.proofs.Within.{orders-within}
 use Rattle.term.specs.Terms.{Term}
-use Rattle.number.specs.Numbers.{bytesOf, lengthOf}
-use Rattle.number.proofs.Writing.{length-last, length-some, length-few}
-use Rattle.roll.specs.Bytes.{numbersBytes, termBytes, termsBytes}
-use Rattle.form2.specs.Bytes.{shared, furtherOf, termBytes2, termsBytes2}
-use Rattle.form2.proofs.Sharing.{shares}
+use Rattle.number.specs.Numbers.{lengthOf}
+use Rattle.form2.specs.Bytes.{termsBytes2}
+use Rattle.form2.proofs.AtMost.{terms-longer}
 use Rattle.expansion.specs.declared.Path.{Path}
 use Rattle.expansion.specs.Expanding.{termsOf, rollOf, rollOf2}
 use Rattle.expansion.specs.inner.View.{pathTerm}
-use Rattle.expansion.specs.inner.Sinks.{inForm1, inForm2, size2, Sink, sinkOf, formsBytes, withTerms, endOf, Took}
+use Rattle.expansion.specs.inner.Sinks.{inForm1, size2, Sink, sinkOf, formsBytes, withTerms, endOf, Took}
 use Rattle.expansion.specs.inner.Walking.{termsBelow, NodeMay}
 use Rattle.expansion.specs.inner.Requests.{rollIn, emptyTerm, LongMay}
 use Rattle.expansion.proofs.HeaderLaws.{first-good, first-terms, roll-length, roll-length2, firstSink, first-place, first-few}
-use Rattle.expansion.proofs.Longest.{length-bytes, length-most, within-most, kind-most, most-is}
+use Rattle.expansion.proofs.Longest.{within-most, kind-most, most-is}
 use Rattle.expansion.proofs.ReadsBack.{roll-fits}
 use Rattle.expansion.proofs.Sizes.{SizeIs, measured-size}
-use Rattle.expansion.proofs.TermsBytes.{numbers-append}
-
--- ---- a form 2 term beside form 1's
-
--- each number has a byte
-numbers-least : (ns : List ℕ) → length ns ≤ length (numbersBytes ns)
-unfolding numbersBytes
-numbers-least [] = omega arith
-numbers-least (n ∷ ns) =
-    let a = length-append (bytesOf n) (numbersBytes ns) in
-    let b = length-some n in
-    let c = length-bytes n in
-    let d = numbers-least ns in
-    omega arith
-
--- a shared length takes no more bytes than one and what is shared
-length-less : (n : ℕ) → lengthOf n ≤ 1 + n
-length-less n = by (decLt n 128)
-  where
-    by : Dec (n < 128) → lengthOf n ≤ 1 + n
-    by (yes h) = let l = length-last n h in omega arith
-    by (no h) = let l = length-few n in omega arith
-
-term-longer : (earlier : List ℕ) (t : Term) → length (termBytes2 earlier t) ≤ length (termBytes t) + 1
-unfolding termBytes2 termBytes furtherOf
-term-longer earlier t =
-    let ps = t .prefactors in
-    let n = shared earlier ps in
-    let right = shares earlier ps .right in
-    let a = length-append (bytesOf (t .scale)) (bytesOf (t .boys) ++ (bytesOf n ++ (bytesOf (length (drop n ps)) ++ numbersBytes (drop n ps)))) in
-    let b = length-append (bytesOf (t .boys)) (bytesOf n ++ (bytesOf (length (drop n ps)) ++ numbersBytes (drop n ps))) in
-    let c = length-append (bytesOf n) (bytesOf (length (drop n ps)) ++ numbersBytes (drop n ps)) in
-    let d = length-append (bytesOf (length (drop n ps))) (numbersBytes (drop n ps)) in
-    let e = length-append (bytesOf (t .scale)) (bytesOf (t .boys) ++ (bytesOf (length ps) ++ numbersBytes ps)) in
-    let f = length-append (bytesOf (t .boys)) (bytesOf (length ps) ++ numbersBytes ps) in
-    let g = length-append (bytesOf (length ps)) (numbersBytes ps) in
-    let all : length (numbersBytes ps) ≡ length (numbersBytes (take n ps)) + length (numbersBytes (drop n ps)) =
-    ap (λ (l : List ℕ). length (numbersBytes l)) (sym (take-append-drop n ps)) ∙ ap length (numbers-append (take n ps) (drop n ps)) ∙ length-append (numbersBytes (take n ps)) (numbersBytes (drop n ps)) in
-    let least = numbers-least (take n ps) in
-    let long = length-take-le n ps right in
-    let less = length-less n in
-    let further = length-most (length (drop n ps)) (length ps) (omega (arith, length-drop n ps)) in
-    omega (arith, length-bytes n, length-bytes (length (drop n ps)), length-bytes (length ps))
-
-pub terms-longer : (earlier : List ℕ) (ts : List Term) → length (termsBytes2 earlier ts) ≤ length (termsBytes ts) + length ts
-unfolding termsBytes2 termsBytes
-terms-longer earlier [] = omega arith
-terms-longer earlier (t ∷ ts) =
-    let a = length-append (termBytes2 earlier t) (termsBytes2 (t .prefactors) ts) in
-    let b = length-append (termBytes t) (termsBytes ts) in
-    let c = term-longer earlier t in
-    let d = terms-longer (t .prefactors) ts in
-    omega arith
 
 -- ---- a request that was measured in form 1
 

@@ -2,7 +2,7 @@
 use Prim.Native.Nat.{ℕ, zero, suc, _+_, _-_, _/_, _%_, _≤_, _<_}
 use mathlib.Core.Path.{_≡_, refl, sym, ap, ap₂, _∙_}
 use mathlib.Core.Bool.{Bool, true, false}
-use mathlib.Core.List.{List, [], _∷_, _++_, append-assoc}
+use mathlib.Core.List.{List, [], _∷_, _++_}
 use native.Mathlib.Omega.{arith}
 use native.Mathlib.Numerals.{add-one}
 use lib.ListN.{length, set, length-append, length-set}
@@ -15,14 +15,10 @@ use Rattle.number.specs.declared.Written.{Written}
 use Rattle.number.specs.declared.Written.the-variants.{Next, NoRoom}
 use Rattle.number.proofs.Writing.{bytes-last, store-last}
 use Rattle.roll.specs.Bytes.{termBytes, numbersBytes}
+use Rattle.form2.proofs.AtMost.{numbers-append}
 use Rattle.expansion.specs.declared.Path.{Path}
 use Rattle.expansion.specs.inner.View.{fiveBits, pathPrefactors, pathTerm, TermMay, Emitted, NumberMay, RestMay}
 use Rattle.expansion.proofs.TermsWords.{length-prefactors, few, many, length-five-bits}
-
-pub numbers-append : (xs ys : List ℕ) → numbersBytes (xs ++ ys) ≡ numbersBytes xs ++ numbersBytes ys
-unfolding numbersBytes
-numbers-append [] ys = refl
-numbers-append (x ∷ xs) ys = ap (λ (l : List ℕ). bytesOf x ++ l) (numbers-append xs ys) ∙ sym (append-assoc (bytesOf x) (numbersBytes xs) (numbersBytes ys))
 
 numbers-five-bits : (n w : ℕ) → numbersBytes (fiveBits n w) ≡ fiveBits n w
 unfolding numbersBytes fiveBits

@@ -1,3 +1,4 @@
+pub mod AtMost
 pub mod Back
 pub mod Checked
 pub mod CursorLaws

@@ -4,7 +4,7 @@ use mathlib.Core.Path.{_≡_, refl, sym, ap, ap₂, _∙_}
 use mathlib.Core.Bool.{Bool, true, false}
 use mathlib.Core.List.{List, [], _∷_, _++_, append-assoc}
 use native.Mathlib.Omega.{arith}
-use borrow.Author.Tests.{leb-true}
+use borrow.Author.Tests.{leb-true, le-leb}
 use borrow.Rule.Slice.PartMut.{putMid}
 use lib.Dec.{eqb, leb}
 use lib.ListN.{length, take, drop, length-append}
@@ -25,7 +25,7 @@ use Rattle.roll.specs.declared.header.Opened.{Opened}
 use Rattle.roll.specs.Bytes.{numbersBytes}
 use Rattle.roll.specs.Fits.{Below}
 use Rattle.roll.specs.Header.{cursorAt, checkOf}
-use Rattle.roll.specs.Reading.{got, refused, before, termAt, termsAt, Header, headerAt, Roll, rollAt}
+use Rattle.roll.specs.Reading.{Reading, got, refused, before, termAt, termsAt, Header, headerAt, Roll, rollAt}
 use Rattle.roll.specs.inner.Again.{headAt, between, headTerm}
 use Rattle.roll.specs.inner.Judged.{Judged}
 use Rattle.roll.proofs.AgainLaws.{Same, term-again, head-inside}
@@ -34,15 +34,17 @@ use Rattle.roll.proofs.Filling.{before-is, andThen-is}
 use Rattle.roll.proofs.Inside.{term-read, term-inside, header-read, header-inside, orders-most, taken-inside}
 use Rattle.roll.proofs.JudgeLaws.{none-left}
 use Rattle.roll.proofs.TermsLaws.{few-prefactors}
-use Rattle.roll.proofs.Written.{HeadBytes, head-bytes}
+use Rattle.roll.proofs.Written.{HeadBytes, head-bytes, roll-read}
 use Rattle.form2.specs.declared.moves.Moved.the-variants as moved
 use Rattle.form2.specs.Bytes.{formTwo, shared, furtherOf, termBytes2, termsBytes2, rollBytes2}
-use Rattle.form2.specs.Moves.{inForm2, MoveTold}
+use Rattle.form2.specs.Moves.{inForm1, inForm2, MoveTold}
 use Rattle.form2.specs.inner.Puts.{Put, bytesIn, twoBytes, plain2, psAt, headBytes2, againBytes2, SmallAgain, AgainMay, May2}
+use Rattle.form2.proofs.AtMost.{roll-longer}
 use Rattle.form2.proofs.Back.{below-further}
 use Rattle.form2.proofs.Inside.{prefactors-below}
 use Rattle.form2.proofs.JudgeLaws.{one-byte-each}
 use Rattle.form2.proofs.MovesLaws.{told-refused, told-beyond, told-full, part-room, told-moved, first-one, head-copied, head-long, behind-head, roll-put}
+use Rattle.form2.proofs.PutsLaws.{put-both}
 use Rattle.form2.proofs.ShorterLaws.{head-order, part-long}
 
 -- ---- a term
@@ -124,6 +126,10 @@ head-and2 k os ts n head small count is =
     ∙ ap (λ (m : ℕ). (numbersBytes os ++ bytesOf m) ++ termsBytes2 [] ts) count
     ∙ ap (λ (l : List ℕ). l ++ termsBytes2 [] ts) (sym is))
 
+roll-most : (s : List ℕ) (r : Roll) (end : ℕ) → Bytes s → rollAt s ≡ got r end → length (inForm2 r) ≤ length s + length (r .terms)
+unfolding inForm1
+roll-most s r end bytes reads = omega (arith, roll-longer r, ap length (roll-read s r end bytes reads .0))
+
 made-may2 : (s : List ℕ) (o : Opened) (h : Header) (next : ℕ) (r : Roll) (end last : ℕ) → Bytes s → h .kind ≡ r .kind → h .orders ≡ r .orders → h .terms ≡ length (r .terms) → o .cursor ≡ cursorAt h next → rollAt s ≡ got r end → 1 ≤ next → next ≤ length s → total (h .orders) ≤ mostL (h .kind) → termsAt s next (h .terms) (h .kind) (total (h .orders)) ≡ got (r .terms) last → between s 1 next ≡ numbersBytes (h .orders) ++ bytesOf (h .terms) → May2 o s
 unfolding inForm2 rollBytes2
 made-may2 s o h next r end last bytes kind-is orders-is count cursor reads some inside small terms copied =
@@ -142,6 +148,7 @@ made-may2 s o h next r end last bytes kind-is orders-is count cursor reads some 
       kind = rw kind within;
       again = rw (place, left) (record { inside = inside; small = again-small (h .terms) (h .kind) l s next (r .terms) last bytes inside small terms });
       count = left ∙ count;
+      most = rw (left ∙ count) (roll-most s r end bytes reads);
       bytes =
           rw (← kind-is, ← orders-is, kind, place, left)
           (head-and2 (numberOf (h .kind)) (h .orders) (r .terms) (h .terms) (between s 1 next) (omega arith) (sym count) copied
@@ -176,28 +183,34 @@ module _ (o : Opened) (s : List ℕ) (may : May2 o s) where
   pub terms-fit2 : (out : List ℕ) (to : ℕ) (mid : List ℕ) → length (bytesIn inForm2 (rollAt s)) ≤ length out → Put ((o .cursor .kind + formTwo) ∷ between s 1 (o .cursor .place)) 0 out to mid → to + length (againBytes2 s [] (o .cursor .place) (o .cursor .left)) ≤ length mid
   terms-fit2 out to mid room p = behind-head (o .cursor .kind + formTwo) s (o .cursor .place) (againBytes2 s [] (o .cursor .place) (o .cursor .left)) out (bytesIn inForm2 (rollAt s)) bytes-are2 room to mid p
 
-  pub roll-put2 : (out : List ℕ) (to : ℕ) (mid after : List ℕ) → Put ((o .cursor .kind + formTwo) ∷ between s 1 (o .cursor .place)) 0 out to mid → after ≡ sets mid to (againBytes2 s [] (o .cursor .place) (o .cursor .left)) → after ≡ sets out 0 (bytesIn inForm2 (rollAt s))
-  roll-put2 out to mid after p put = roll-put (o .cursor .kind + formTwo) s (o .cursor .place) (againBytes2 s [] (o .cursor .place) (o .cursor .left)) out (bytesIn inForm2 (rollAt s)) bytes-are2 to mid after p put
+  pub roll-put2 : (out : List ℕ) (to : ℕ) (mid : List ℕ) (r : ℕ) (after : List ℕ) → Put ((o .cursor .kind + formTwo) ∷ between s 1 (o .cursor .place)) 0 out to mid → Put (againBytes2 s [] (o .cursor .place) (o .cursor .left)) to mid r after → Put (bytesIn inForm2 (rollAt s)) 0 out r after
+  roll-put2 out to mid r after p q = rw bytes-are2 (put-both ((o .cursor .kind + formTwo) ∷ between s 1 (o .cursor .place)) (againBytes2 s [] (o .cursor .place) (o .cursor .left)) 0 out to mid p r after q)
 
   pub beyond2 : (out : List ℕ) (start : ℕ) → length out < start → MoveTold inForm2 (rollAt s) out start (moved.Refused 5 0) out
   beyond2 out start past = told-beyond inForm2 (rollAt s) out start (may .roll) (may .end) (may .reads) past
 
-  module _ (n : ℕ) (measured : n ≡ length (againBytes2 s [] (o .cursor .place) (o .cursor .left))) where
-    size-is2 : o .cursor .place + n ≡ length (inForm2 (may .roll))
-    size-is2 = omega (arith, measured, ap length (may .bytes), length-append ((o .cursor .kind + formTwo) ∷ between s 1 (o .cursor .place)) (againBytes2 s [] (o .cursor .place) (o .cursor .left)), head-long2)
+  long2 : length (bytesIn inForm2 (rollAt s)) ≡ length (inForm2 (may .roll))
+  long2 = ap (λ (x : Reading Roll). length (bytesIn inForm2 x)) (may .reads)
 
-    module _ (out : List ℕ) (start : ℕ) (t : Bool) (inside : start ≤ length out) (test : t ≡ leb (o .cursor .place + n) (length out - start)) where
-      pub full2 : t ≡ false → MoveTold inForm2 (rollAt s) out start (moved.Refused 6 0) out
-      full2 off = told-full inForm2 (rollAt s) out start (may .roll) (may .end) (may .reads) (o .cursor .place + n) t inside test size-is2 off
+  pub fits-sure2 : (room : ℕ) (t : Bool) → t ≡ leb (length s + o .cursor .left) room → t ≡ true → true ≡ leb (length (bytesIn inForm2 (rollAt s))) room
+  fits-sure2 room t test on = sym (le-leb (length (bytesIn inForm2 (rollAt s))) room (omega (arith, may .most, long2, leb-true (length s + o .cursor .left) room (sym test ∙ on))))
 
-      pub part-room2 : t ≡ true → length (bytesIn inForm2 (rollAt s)) ≤ length (take (length out - start) (drop start out))
-      part-room2 on = part-room inForm2 (rollAt s) out start (may .roll) (may .end) (may .reads) (o .cursor .place + n) t inside test size-is2 on
+  pub fits-measured2 : (room n : ℕ) (t : Bool) → n ≡ length (againBytes2 s [] (o .cursor .place) (o .cursor .left)) → t ≡ leb (o .cursor .place + n) room → t ≡ leb (length (bytesIn inForm2 (rollAt s))) room
+  fits-measured2 room n t measured test =
+      let size : o .cursor .place + n ≡ length (bytesIn inForm2 (rollAt s)) = omega (arith, measured, ap length bytes-are2, length-append ((o .cursor .kind + formTwo) ∷ between s 1 (o .cursor .place)) (againBytes2 s [] (o .cursor .place) (o .cursor .left)), head-long2) in
+      test ∙ ap (λ (m : ℕ). leb m room) size
 
-      pub moved2 : (part : List ℕ) → t ≡ true → part ≡ sets (take (length out - start) (drop start out)) 0 (bytesIn inForm2 (rollAt s)) → MoveTold inForm2 (rollAt s) out start (moved.Roll (o .cursor .place + n) (o .cursor .left)) (putMid start (length out - start) out part)
-      moved2 part on put = told-moved inForm2 (rollAt s) out start (may .roll) (may .end) (may .reads) (o .cursor .place + n) t inside test size-is2 (o .cursor .left) part on (may .count) put
+  module _ (out : List ℕ) (start : ℕ) (t : Bool) (inside : start ≤ length out) (test : t ≡ leb (length (bytesIn inForm2 (rollAt s))) (length out - start)) where
+    pub full2 : t ≡ false → MoveTold inForm2 (rollAt s) out start (moved.Refused 6 0) out
+    full2 off = told-full inForm2 (rollAt s) out start (may .roll) (may .end) (may .reads) (length (bytesIn inForm2 (rollAt s))) t inside test long2 off
 
-      pub sum-fits2 : t ≡ true → o .cursor .place + n ≤ length out
-      sum-fits2 on = omega (arith, leb-true (o .cursor .place + n) (length out - start) (sym test ∙ on))
+    pub part-room2 : t ≡ true → length (bytesIn inForm2 (rollAt s)) ≤ length (take (length out - start) (drop start out))
+    part-room2 on = part-room inForm2 (rollAt s) out start (may .roll) (may .end) (may .reads) (length (bytesIn inForm2 (rollAt s))) t inside test long2 on
+
+    pub moved2 : (r : ℕ) (part : List ℕ) → t ≡ true → Put (bytesIn inForm2 (rollAt s)) 0 (take (length out - start) (drop start out)) r part → MoveTold inForm2 (rollAt s) out start (moved.Roll r (o .cursor .left)) (putMid start (length out - start) out part)
+    moved2 r part on put =
+        let all : r ≡ length (bytesIn inForm2 (rollAt s)) = omega (arith, put .next) in
+        rw all (told-moved inForm2 (rollAt s) out start (may .roll) (may .end) (may .reads) (length (bytesIn inForm2 (rollAt s))) t inside test long2 (o .cursor .left) part on (may .count) (put .out))
 
 pub refused2 : (s : List ℕ) (o : Opened) (out : List ℕ) (start n place : ℕ) → o ≡ checkOf s → o .found ≡ opening.Refused n place → MoveTold inForm2 (rollAt s) out start (moved.Refused n place) out
 refused2 s o out start n place is found = told-refused inForm2 (rollAt s) out start n place (checked-refused s o n place is found)

@@ -330,7 +330,8 @@ module _ (before : List ℕ) (start : ℕ) (s : List ℕ) (at terms : ℕ) (out 
         whole = append-assoc (w .done) one (againBytes2 s (between s (h .from) (h .end)) (h .end) (left - 1)) ∙ all;
       }
 
-pub writing2-done : (before : List ℕ) (start : ℕ) (s : List ℕ) (at terms : ℕ) (out : List ℕ) (from end place left to : ℕ) → Writing2 before start s at terms out from end place left to → left ≤ 0 → out ≡ sets before start (againBytes2 s [] at terms)
+pub writing2-done : (before : List ℕ) (start : ℕ) (s : List ℕ) (at terms : ℕ) (out : List ℕ) (from end place left to : ℕ) → Writing2 before start s at terms out from end place left to → left ≤ 0 → Put (againBytes2 s [] at terms) start before to out
 writing2-done before start s at terms out from end place left to w none =
     let nothing = no-bytes s (between s from end) place left none in
-    w .stored ∙ ap (sets before start) (sym (mathlib.Core.List.append-nil (w .done)) ∙ ap (λ (l : List ℕ). w .done ++ l) (sym nothing) ∙ w .whole)
+    let all : w .done ≡ againBytes2 s [] at terms = sym (mathlib.Core.List.append-nil (w .done)) ∙ ap (λ (l : List ℕ). w .done ++ l) (sym nothing) ∙ w .whole in
+    rw (← all) (record { next = w .next; out = w .stored })

@@ -1,16 +1,16 @@
-// From form 1 to form 2: a roll that has been judged is read again, measured, and written.
+// From form 1 to form 2: a roll that has been judged is read again and written; it is measured first where room is short.
 ghost use Prim.Native.Nat.{_+_, _≤_, min};
 ghost use mathlib.Core.Path.{_≡_};
 ghost use mathlib.Core.List.{[]};
+ghost use lib.Dec.{leb};
 ghost use lib.ListN.{length};
-ghost use lib.Seq.{sets};
 ghost use Rattle.kind.specs.Limits.{mostL·any};
 ghost use Rattle.roll.specs.Header.{checkOf};
 ghost use Rattle.roll.specs.Reading.{rollAt};
 ghost use Rattle.roll.specs.inner.Again.{between};
 ghost use Rattle.form2.specs.Bytes.{shared};
 ghost use Rattle.form2.specs.Moves.{inForm2, MoveTold, ToForm2Told};
-ghost use Rattle.form2.specs.inner.Puts.{bytesIn, plainLength2, againBytes2, AgainMay, PartsMay, May2};
+ghost use Rattle.form2.specs.inner.Puts.{Put, bytesIn, plainLength2, againBytes2, AgainMay, PartsMay, May2};
 use crate::header::FORM_TWO;
 use crate::moves::Moved;
 use crate::moves::has_room;
@@ -78,11 +78,11 @@ fn terms_size(roll: &[u8], at: usize, terms: u32) -> usize
     size
 }
 
-// Writes so many terms in form 2.
-fn put_terms(out: &mut [u8], start: usize, roll: &[u8], at: usize, terms: u32)
+// Writes so many terms in form 2; the place after them.
+fn put_terms(out: &mut [u8], start: usize, roll: &[u8], at: usize, terms: u32) -> usize
     requires { ⌜ AgainMay (now roll) at terms ⌝ }
     requires { ⌜ start + length (againBytes2 (now roll) [] at terms) ≤ length (now out) ⌝ }
-    ensures { λ _. ⌜ now (out .exit) ≡ sets (now (out .entry)) start (againBytes2 (now (roll .entry)) [] at terms) ⌝ }
+    ensures { λ r. ⌜ Put (againBytes2 (now (roll .entry)) [] at terms) start (now (out .entry)) r (now (out .exit)) ⌝ }
 {
     let mut from = at;
     let mut end = at;
@@ -98,18 +98,33 @@ fn put_terms(out: &mut [u8], start: usize, roll: &[u8], at: usize, terms: u32)
         to = put_term2(out, to, h.scale, h.boys, n as u32, &roll[from + n..end]);
         left -= 1;
     }
+    to
 }
 
-// Writes a judged roll in form 2 at the front of a buffer that has room for it.
-fn put_roll(out: &mut [u8], roll: &[u8], opened: Opened)
+// Writes a judged roll in form 2 at the front of a buffer that has room for it; the place after it.
+fn put_roll(out: &mut [u8], roll: &[u8], opened: Opened) -> usize
     requires { ⌜ May2 opened (now roll) ⌝ }
     requires { ⌜ length (bytesIn inForm2 (rollAt (now roll))) ≤ length (now out) ⌝ }
-    ensures { λ _. ⌜ now (out .exit) ≡ sets (now (out .entry)) 0 (bytesIn inForm2 (rollAt (now (roll .entry)))) ⌝ }
+    ensures { λ r. ⌜ Put (bytesIn inForm2 (rollAt (now (roll .entry)))) 0 (now (out .entry)) r (now (out .exit)) ⌝ }
 {
     let cursor = opened.cursor;
     let place = cursor.place;
     let to = put_head(out, cursor.kind + FORM_TWO as u8, roll, place);
-    put_terms(out, to, roll, place, cursor.left);
+    put_terms(out, to, roll, place, cursor.left)
+}
+
+// Whether a judged roll has room in form 2: surely with room for its length and a byte a term; otherwise it is measured.
+fn fits(roll: &[u8], opened: Opened, room: usize) -> bool
+    requires { ⌜ May2 opened (now roll) ⌝ }
+    ensures { λ r. ⌜ r ≡ leb (length (bytesIn inForm2 (rollAt (now (roll .entry))))) room ⌝ }
+{
+    let cursor = opened.cursor;
+    let terms = cursor.left;
+    if has_room(room, roll.len(), terms as usize) {
+        return true;
+    }
+    let place = cursor.place;
+    has_room(room, place, terms_size(roll, place, terms))
 }
 
 // Writes a judged roll in form 2 from a start place on, where it fits.
@@ -120,12 +135,10 @@ fn write(roll: &[u8], opened: Opened, out: &mut [u8], start: usize) -> Moved
     if out.len() < start {
         return Moved::Refused(5, 0);
     }
-    let cursor = opened.cursor;
-    let place = cursor.place;
-    let size = terms_size(roll, place, cursor.left);
-    if has_room(out.len() - start, place, size) {
-        put_roll(&mut out[start..], roll, opened);
-        return Moved::Roll(place + size, cursor.left);
+    if fits(roll, opened, out.len() - start) {
+        let length = put_roll(&mut out[start..], roll, opened);
+        let cursor = opened.cursor;
+        return Moved::Roll(length, cursor.left);
     }
     Moved::Refused(6, 0)
 }
@@ -137,7 +150,7 @@ fn judged(roll: &[u8]) -> Opened
     roll::check(roll)
 }
 
-// Moves a roll from form 1 to form 2: nothing is written before the whole roll has been judged and measured.
+// Moves a roll from form 1 to form 2: nothing is written before the whole roll has been judged and has room.
 pub fn to_form2(roll: &[u8], out: &mut [u8], start: usize) -> Moved
     ensures { λ r. ⌜ ToForm2Told (now (roll .entry)) (now (out .entry)) start r (now (out .exit)) ⌝ }
 {

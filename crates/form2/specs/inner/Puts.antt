@@ -93,6 +93,7 @@ pub record May2 (o : Opened) (s : List ℕ) : Type 0 where
   pub kind : o .cursor .kind ≤ numberOf Coulomb
   pub again : AgainMay s (o .cursor .place) (o .cursor .left)
   pub count : o .cursor .left ≡ length (roll .terms)
+  pub most : length (inForm2 roll) ≤ length s + o .cursor .left
   pub bytes : inForm2 roll ≡ ((o .cursor .kind + formTwo) ∷ between s 1 (o .cursor .place)) ++ againBytes2 s [] (o .cursor .place) (o .cursor .left)
 
 pub record May1 (o : Opened) (n : ℕ) (s : List ℕ) : Type 0 where

@@ -1,6 +1,6 @@
 -- `put_roll` meets its contract: the header, then the terms. Assumes nothing.
-use borrow.Author.Needs.{needs}
 use Rattle.form2.proofs.MovedLaws.{head-fits2, terms-fit2, roll-put2}
+use borrow.Author.Needs.{needs}
 use Rattle.form2.proofs.shorter.put_roll.Statement.{statement}
 use Rattle.form2.proofs.shorter.put_roll.Tie as tie
 
@@ -20,7 +20,7 @@ same-length : tie.Need-same-length
 same-length c = search needs
 
 returns : tie.Need-returns
-returns c = roll-put2 _ _ (c .before .before .before .before .before .before .before .before .before .before .before .before .pre .0) _ _ _ _ (c .before .before .before .before .before .before .put-head .ensures) (c .before .before .put-terms .ensures)
+returns c = search roll-put2
 
 pub put-roll-spec : {M : Type 1} → statement M
 put-roll-spec =
