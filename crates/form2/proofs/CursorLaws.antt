@@ -1,14 +1,16 @@
 -- The functions of src/cursor.rt: the term before looked at, a term handed out, and a step, a law for each way out.
-use Prim.Native.Nat.{ℕ, zero, suc, zero-le, _+_, _-_, _≤_, _<_}
+use Prim.Native.Nat.{ℕ, zero-le, _+_, _-_, _≤_, _<_}
 use mathlib.Core.Path.{_≡_, refl, sym, ap, _∙_}
-use mathlib.Core.Bool.{Bool, true, false, cond, _||_}
+use mathlib.Core.Bool.{Bool, true, false, _||_}
 use mathlib.Core.List.{List, [], _∷_, _++_}
 use native.Mathlib.Omega.{arith}
+use mir.Syntax.{w8}
+use mir.Val.{Fits}
 use native.Mathlib.Numerals.{add-one}
 use borrow.Author.Tests.{lt-ltb, le-ltb, eq-eqb, ne-eqb, le-leb, lt-leb, ltb-false}
 use lib.Dec.{ltb, leb}
 use lib.ListN.{length, getD, set, take, drop, replicate, length-take, drop-of-length-le}
-use lib.Seq.{sets, drop-cons, getD-take, length-take-le, take-suc, take-at, sets-eq, length-sets}
+use lib.Seq.{sets, drop-cons, getD-take, length-take-le, take-suc, take-at, sets-eq}
 use Rattle.kind.specs.Limits.{mostL·any}
 use Rattle.kind.specs.Kinds.{kindOf, tableOf, mostL, mostPrefactors}
 use Rattle.kind.specs.declared.Kind.{Kind}
@@ -32,7 +34,7 @@ use Rattle.form2.specs.declared.terms.ReadAfter.{ReadAfter}
 use Rattle.form2.specs.Reading.{termAfter}
 use Rattle.form2.specs.Header.{firstCursor}
 use Rattle.form2.specs.Cursor.{refusedStep2, steppedAfter, endOr2, someAbove, forgedEarlier, stepAs2, step2Of}
-use Rattle.form2.specs.inner.Held.{heldAfter, AfterMay, clearedOf, steppedFrom2, steppedOver2, cursor2, StepMay}
+use Rattle.form2.specs.inner.Held.{heldAfter, placesAfter, AfterMay, AfterTold, clearedOf, steppedFrom2, steppedOver2, cursor2, StepMay}
 use Rattle.form2.proofs.Inside.{front-read, further-read, term-read2}
 
 -- ---- zeros
@@ -117,11 +119,17 @@ clearing-done values count held i c done =
     let all : i ≡ count = omega (arith, c .inside) in
     c .filled .zeros ∙ ap (λ (l : List ℕ). l ++ replicate (mostL·any - i) 0) (c .same) ∙ ap (λ (n : ℕ). take n values ++ replicate (mostL·any - n) 0) all
 
-pub step-made2 : (c : Cursor) (read : ReadAfter) (n next : ℕ) (held : List ℕ) → read .found ≡ field.Is n next → held ≡ clearedOf (read .values) n → _≡_ {A = Step2} (record { found = found.Term; term = record { scale = read .scale; boys = read .boys; count = n; prefactors = held }; next = record { cursor = record { place = next; left = c .left - 1; kind = c .kind; l = c .l }; count = n; earlier = held } }) (steppedOver2 c read)
-step-made2 c read n next held e is = rw is (sym (ap (steppedFrom2 c read) e))
+pub step-few : (c : Cursor) (read : ReadAfter) (n next : ℕ) → StepMay c read → read .found ≡ field.Is n next → n ≤ mostL·any
+step-few c read n next may e = may .few n next e
 
-pub step-unmade2 : (c : Cursor) (read : ReadAfter) (r place : ℕ) (x : Step2) → read .found ≡ field.Refused r place → x ≡ refusedStep2 r place → x ≡ steppedOver2 c read
-step-unmade2 c read r place x e answer = answer ∙ sym (ap (steppedFrom2 c read) e)
+pub step-fits : (c : Cursor) (read : ReadAfter) (n next : ℕ) → StepMay c read → read .found ≡ field.Is n next → Fits w8 n
+step-fits c read n next may e = omega (arith, may .few n next e)
+
+pub step-made2 : (c : Cursor) (read : ReadAfter) (values : List ℕ) (n next : ℕ) (held : List ℕ) → read .found ≡ field.Is n next → held ≡ clearedOf values n → _≡_ {A = Step2} (record { found = found.Term; term = record { scale = read .scale; boys = read .boys; count = n; prefactors = held }; next = record { cursor = record { place = next; left = c .left - 1; kind = c .kind; l = c .l }; count = n; earlier = held } }) (steppedOver2 c read values)
+step-made2 c read values n next held e is = rw is (sym (ap (steppedFrom2 c read values) e))
+
+pub step-unmade2 : (c : Cursor) (read : ReadAfter) (values : List ℕ) (r place : ℕ) (x : Step2) → read .found ≡ field.Refused r place → x ≡ refusedStep2 r place → x ≡ steppedOver2 c read values
+step-unmade2 c read values r place x e answer = answer ∙ sym (ap (steppedFrom2 c read values) e)
 
 -- a term has no more prefactors than it may have, and its Boys order is within its limit
 pub term-few2 : (k : Kind) (l : ℕ) (earlier s : List ℕ) (at : ℕ) (t : Term) (next : ℕ) → length earlier ≤ mostPrefactors k l → termAfter s at k l earlier ≡ got t next → (length (t .prefactors) ≤ mostPrefactors k l) × (t .boys ≤ mostBoys k l)
@@ -143,12 +151,12 @@ module _ (k : Kind) (l : ℕ) (s : List ℕ) (at : ℕ) (values : List ℕ) (cou
   few-held : (t : Term) (next : ℕ) → termAfter s at k l (take count values) ≡ got t next → length (t .prefactors) ≤ mostL·any
   few-held t next e = let few = term-few2 k l (take count values) s at t next earlier-few e in omega (arith, few .0, few-prefactors k l (may .small))
 
-  pub step-may : (c : Cursor) (read : ReadAfter) → read ≡ heldAfter values (termAfter s at k l (take count values)) → (c .left ≡ 0 → ⊥) → StepMay c read
+  pub step-may : (c : Cursor) (read : ReadAfter) → read ≡ heldAfter (termAfter s at k l (take count values)) → (c .left ≡ 0 → ⊥) → StepMay c read
   step-may c read is some = by (termAfter s at k l (take count values)) refl
     where
       by : (x : Reading Term) → termAfter s at k l (take count values) ≡ x → StepMay c read
       by (got t next) e =
-          let read-is : read ≡ heldAfter values (got t next) = is ∙ ap (heldAfter values) e in
+          let read-is : read ≡ heldAfter (got t next) = is ∙ ap heldAfter e in
           let few = term-few2 k l (take count values) s at t next earlier-few e in
           let found = ap (λ (r : ReadAfter). r .found) read-is in
           let boys : read .boys ≡ t .boys = ap (λ (r : ReadAfter). r .boys) read-is in
@@ -159,7 +167,7 @@ module _ (k : Kind) (l : ℕ) (s : List ℕ) (at : ℕ) (values : List ℕ) (cou
             few = λ n m there. let same : n ≡ length (t .prefactors) = cc in omega (arith, few-held t next e);
           }
       by (refused r place) e =
-          let read-is : read ≡ heldAfter values (refused r place) = is ∙ ap (heldAfter values) e in
+          let read-is : read ≡ heldAfter (refused r place) = is ∙ ap heldAfter e in
           let found = ap (λ (r : ReadAfter). r .found) read-is in
           let boys : read .boys ≡ 0 = ap (λ (r : ReadAfter). r .boys) read-is in
           record { left = omega arith; boys = omega arith; few = λ n m there. absurd (clash (cc)) }
@@ -172,12 +180,12 @@ module _ (k : Kind) (l : ℕ) (s : List ℕ) (at : ℕ) (values : List ℕ) (cou
       let all : take (length ps) (sets values 0 ps) ≡ ps = ap (take (length ps)) (sets-eq ps values 0 (omega arith)) ∙ take-at ps (drop (0 + length ps) values) (length ps) refl in
       rw all
 
-  pub stepped-over2 : (c : Cursor) → steppedOver2 c (heldAfter values (termAfter s at k l (take count values))) ≡ steppedAfter (cursor2 c count values) (termAfter s at k l (take count values))
-  stepped-over2 c = by (termAfter s at k l (take count values)) refl
+  pub stepped-over2 : (c : Cursor) (read : ReadAfter) (after : List ℕ) → AfterTold values (termAfter s at k l (take count values)) read after → steppedOver2 c read after ≡ steppedAfter (cursor2 c count values) (termAfter s at k l (take count values))
+  stepped-over2 c read after told = ap (λ (r : ReadAfter). steppedOver2 c r after) (told .read) ∙ by (termAfter s at k l (take count values)) refl (told .places)
     where
-      by : (x : Reading Term) → termAfter s at k l (take count values) ≡ x → steppedOver2 c (heldAfter values x) ≡ steppedAfter (cursor2 c count values) x
-      by (got t next) e = rw (cleared-held t (few-held t next e))
-      by (refused r place) e = refl
+      by : (x : Reading Term) → termAfter s at k l (take count values) ≡ x → after ≡ placesAfter values after x → steppedOver2 c (heldAfter x) after ≡ steppedAfter (cursor2 c count values) x
+      by (got t next) e places = ap (steppedOver2 c (heldAfter (got t next))) places ∙ rw (cleared-held t (few-held t next e))
+      by (refused r place) e places = refl
 
 -- ---- a step
 
@@ -214,20 +222,20 @@ honest-may k l count values most t is within forged-is off =
     let both = or-false-both (ltb (mostPrefactors k l) count) (someAbove (tableOf k) (take count values)) (sym forged-is ∙ off) in
     record { small = omega arith; few = ltb-false (mostPrefactors k l) count (both .0) }
 
-module _ (k : Kind) (c : Cursor) (count : ℕ) (values s : List ℕ) (most : ℕ) (t : Bool) (is : most ≡ mostL k) (within : c .l ≤ most) (inside : c .place ≤ length s) (forged-is : t ≡ forgedEarlier k (c .l) count values) (off : t ≡ false) (long : length values ≡ mostL·any) (some : c .left ≡ 0 → ⊥) (read : ReadAfter) (term : read ≡ heldAfter values (termAfter s (c .place) k (c .l) (take count values))) where
+module _ (k : Kind) (c : Cursor) (count : ℕ) (values s : List ℕ) (most : ℕ) (t : Bool) (is : most ≡ mostL k) (within : c .l ≤ most) (inside : c .place ≤ length s) (forged-is : t ≡ forgedEarlier k (c .l) count values) (off : t ≡ false) (long : length values ≡ mostL·any) (some : c .left ≡ 0 → ⊥) (read : ReadAfter) (after : List ℕ) (told : AfterTold values (termAfter s (c .place) k (c .l) (take count values)) read after) where
   may : AfterMay k (c .l) count
   may = honest-may k (c .l) count values most t is within forged-is off
 
   pub honest-step-may : StepMay c read
-  honest-step-may = step-may k (c .l) s (c .place) values count long may c read term some
+  honest-step-may = step-may k (c .l) s (c .place) values count long may c read (told .read) some
 
-  pub step-term2 : (x : Step2) → x ≡ steppedOver2 c read → x ≡ stepAs2 (named.Is k) (cursor2 c count values) s
+  pub step-term2 : (x : Step2) → x ≡ steppedOver2 c read after → x ≡ stepAs2 (named.Is k) (cursor2 c count values) s
   step-term2 x answer =
       let no-l : ltb (mostL k) (c .l) ≡ false = le-ltb (mostL k) (c .l) (omega arith) in
       let no-place : ltb (length s) (c .place) ≡ false = le-ltb (length s) (c .place) inside in
       let honest : forgedEarlier k (c .l) count values ≡ false = sym forged-is ∙ off in
       let over : x ≡ steppedAfter (cursor2 c count values) (termAfter s (c .place) k (c .l) (take count values)) =
-      answer ∙ ap (steppedOver2 c) term ∙ stepped-over2 k (c .l) s (c .place) values count long may c in
+      answer ∙ stepped-over2 k (c .l) s (c .place) values count long may c read after told in
       simp (no-l, no-place, honest, ne-eqb (c .left) 0 some) over
 
 pub step-kind2 : (c : Cursor2) (s : List ℕ) (n : Named) (k : Kind) (x : Step2) → n ≡ kindOf (c .cursor .kind) → n ≡ named.Is k → x ≡ stepAs2 (named.Is k) (cursor2 (c .cursor) (c .count) (c .earlier)) s → x ≡ step2Of c s

@@ -2,7 +2,7 @@
 use Prim.Native.Nat.{ℕ, zero, suc, zero-le, _+_, _*_, _-_, _≤_, _<_}
 use mathlib.Core.Path.{_≡_, refl, sym, ap, _∙_}
 use mathlib.Core.Bool.{Bool, true, false, cond}
-use mathlib.Core.List.{List, [], _∷_, _++_, append-nil}
+use mathlib.Core.List.{List, [], _∷_, _++_}
 use native.Mathlib.Omega.{arith}
 use native.Mathlib.Nat.{not-suc-le-zero}
 use borrow.Author.Tests.{eq-eqb, ne-eqb}
@@ -21,14 +21,13 @@ use Rattle.laws.specs.Total.{total}
 use Rattle.number.specs.Numbers.{bytesOf, lengthOf}
 use Rattle.number.proofs.Writing.{bytes-last, length-few}
 use Rattle.term.specs.Terms.{Term}
-use Rattle.roll.specs.declared.cursor.Cursor.{Cursor}
 use Rattle.roll.specs.declared.field.Field.the-variants as field
 use Rattle.roll.specs.declared.header.Opening.the-variants as opening
 use Rattle.roll.specs.declared.header.Opened.{Opened}
 use Rattle.roll.specs.Bytes.{numbersBytes, termBytes, termsBytes}
 use Rattle.roll.specs.Fits.{Below, TermFits}
 use Rattle.roll.specs.Reading.{Reading, got, refused, andThen, before, Header, Roll}
-use Rattle.roll.specs.Header.{refusedOpened, cursorAt, heldHeader, judged}
+use Rattle.roll.specs.Header.{refusedOpened, heldHeader, judged}
 use Rattle.roll.specs.inner.Judged.{Honest}
 use Rattle.roll.proofs.TermsLaws.{few-prefactors}
 use Rattle.form2.specs.declared.header.Opened2.{Opened2}
@@ -38,7 +37,7 @@ use Rattle.form2.specs.declared.judge.Sized.{Sized}
 use Rattle.form2.specs.declared.terms.ReadAfter.{ReadAfter}
 use Rattle.form2.specs.Reading.{headerAt2, termAfter, termsAfter, rollAt2}
 use Rattle.form2.specs.Header.{begun, checked2, judged2, check2Of}
-use Rattle.form2.specs.inner.Held.{heldAfter, AfterMay, termLength, sizePlus, endSize, refusedSized, sizedFrom, sizedAs, sizeIn, sizedOf}
+use Rattle.form2.specs.inner.Held.{heldAfter, placesAfter, AfterMay, AfterTold, termLength, sizePlus, endSize, refusedSized, sizedFrom, sizedAs, sizeIn, sizedOf}
 use Rattle.form2.proofs.Inside.{header-inside2, header-most2}
 use Rattle.form2.proofs.Written.{EarlierFits, none-fits, term-earlier, term-fits2}
 use Rattle.form2.proofs.Checked.{beside, whole}
@@ -95,6 +94,9 @@ sizing-first s at terms k l small =
 pub sizing-may : (s : List ℕ) (at terms : ℕ) (k : Kind) (l : ℕ) (values : List ℕ) (count place left n : ℕ) → Sizing s at terms k l values count place left n → AfterMay k l count
 sizing-may s at terms k l values count place left n z = record { small = z .small; few = z .few }
 
+pub sizing-long : (s : List ℕ) (at terms : ℕ) (k : Kind) (l : ℕ) (values : List ℕ) (count place left n : ℕ) → Sizing s at terms k l values count place left n → length values ≡ mostL·any
+sizing-long s at terms k l values count place left n z = z .long
+
 pub terms-turn2 : (left : ℕ) (k : Kind) (l : ℕ) (earlier s : List ℕ) (place : ℕ) (x : Reading Term) → 0 < left → termAfter s place k l earlier ≡ x → termsAfter s place left k l earlier ≡ andThen x (λ t next. before (t ∷ []) (termsAfter s next (left - 1) k l (t .prefactors)))
 unfolding termsAfter
 terms-turn2 zero k l earlier s place x some e = absurd (not-suc-le-zero some)
@@ -106,29 +108,29 @@ size-more n t (got ts end) = let sum : n + length (termBytes t ++ termsBytes ts)
 size-more n t (refused r place) = refl
 
 -- what was read is a term; its prefactors stand in front
-module _ (s : List ℕ) (k : Kind) (l : ℕ) (values : List ℕ) (count place : ℕ) (read : ReadAfter) (small : l ≤ mostL k) (long : length values ≡ mostL·any) (fits : EarlierFits k l (take count values)) (is : read ≡ heldAfter values (termAfter s place k l (take count values))) where
+module _ (s : List ℕ) (k : Kind) (l : ℕ) (values : List ℕ) (count place : ℕ) (read : ReadAfter) (after : List ℕ) (small : l ≤ mostL k) (long : length values ≡ mostL·any) (fits : EarlierFits k l (take count values)) (told : AfterTold values (termAfter s place k l (take count values)) read after) where
   pub record Read (m next : ℕ) : Type 0 where
     pub term : Term
     pub reads : termAfter s place k l (take count values) ≡ got term next
     pub count-is : m ≡ length (term .prefactors)
     pub scale : read .scale ≡ term .scale
     pub boys : read .boys ≡ term .boys
-    pub kept : length (read .values) ≡ mostL·any
+    pub kept : length after ≡ mostL·any
     pub fit : TermFits k l term
     pub few : m ≤ mostL·any
-    pub front : take m (read .values) ≡ term .prefactors
+    pub front : take m after ≡ term .prefactors
 
   pub was-read : (m next : ℕ) → read .found ≡ field.Is m next → Read m next
   was-read m next e = by (termAfter s place k l (take count values)) refl
     where
       by : (x : Reading Term) → termAfter s place k l (take count values) ≡ x → Read m next
       by (got t end) reads =
-          let read-is : read ≡ heldAfter values (got t end) = is ∙ ap (heldAfter values) reads in
+          let read-is : read ≡ heldAfter (got t end) = told .read ∙ ap heldAfter reads in
           let found = ap (λ (r : ReadAfter). r .found) read-is in
           let same : end ≡ next = cc in
           let ps = t .prefactors in
           let number : m ≡ length ps = cc in
-          let values-is : read .values ≡ sets values 0 ps = ap (λ (r : ReadAfter). r .values) read-is in
+          let places : after ≡ sets values 0 ps = told .places ∙ ap (placesAfter values after) reads in
           let fit = term-fits2 k l (take count values) s place t end fits reads in
           let few : m ≤ mostL·any = omega (arith, fit .count, few-prefactors k l small) in
           record {
@@ -137,36 +139,36 @@ module _ (s : List ℕ) (k : Kind) (l : ℕ) (values : List ℕ) (count place : 
             count-is = number;
             scale = ap (λ (r : ReadAfter). r .scale) read-is;
             boys = ap (λ (r : ReadAfter). r .boys) read-is;
-            kept = ap length values-is ∙ length-sets values 0 ps ∙ long;
+            kept = ap length places ∙ length-sets values 0 ps ∙ long;
             fit = fit;
             few = few;
-            front = ap (take m) (values-is ∙ sets-eq ps values 0 (omega arith)) ∙ take-at ps (drop (0 + length ps) values) m (sym number);
+            front = ap (take m) (places ∙ sets-eq ps values 0 (omega arith)) ∙ take-at ps (drop (0 + length ps) values) m (sym number);
           }
       by (refused r p) reads =
-          let found = ap (λ (r : ReadAfter). r .found) (is ∙ ap (heldAfter values) reads) in
+          let found = ap (λ (r : ReadAfter). r .found) (told .read ∙ ap heldAfter reads) in
           absurd (clash (cc))
 
   -- a refusal that was read
-  pub was-refused : (r wrong : ℕ) → read .found ≡ field.Refused r wrong → termAfter s place k l (take count values) ≡ refused r wrong
+  was-refused : (r wrong : ℕ) → read .found ≡ field.Refused r wrong → termAfter s place k l (take count values) ≡ refused r wrong
   was-refused r wrong e = by (termAfter s place k l (take count values)) refl
     where
       by : (x : Reading Term) → termAfter s place k l (take count values) ≡ x → termAfter s place k l (take count values) ≡ refused r wrong
       by (got t end) reads =
-          let found = ap (λ (r : ReadAfter). r .found) (is ∙ ap (heldAfter values) reads) in
+          let found = ap (λ (r : ReadAfter). r .found) (told .read ∙ ap heldAfter reads) in
           absurd (clash (cc))
       by (refused q p) reads =
-          let found = ap (λ (r : ReadAfter). r .found) (is ∙ ap (heldAfter values) reads) in
+          let found = ap (λ (r : ReadAfter). r .found) (told .read ∙ ap heldAfter reads) in
           let number : q ≡ r = cc in
           let there : p ≡ wrong = cc in
           rw (number, there) at reads
 
-module _ (s : List ℕ) (at terms : ℕ) (k : Kind) (l : ℕ) (values : List ℕ) (count place left n : ℕ) (read : ReadAfter) (z : Sizing s at terms k l values count place left n) (some : 0 < left) (is : read ≡ heldAfter values (termAfter s place k l (take count values))) where
+module _ (s : List ℕ) (at terms : ℕ) (k : Kind) (l : ℕ) (values : List ℕ) (count place left n : ℕ) (read : ReadAfter) (after : List ℕ) (z : Sizing s at terms k l values count place left n) (some : 0 < left) (told : AfterTold values (termAfter s place k l (take count values)) read after) where
   pub read-few : (m next : ℕ) → read .found ≡ field.Is m next → m ≤ mostL·any
-  read-few m next e = was-read s k l values count place read (z .small) (z .long) (z .fits) is m next e .few
+  read-few m next e = was-read s k l values count place read after (z .small) (z .long) (z .fits) told m next e .few
 
-  pub sizing-more : (m next v : ℕ) → read .found ≡ field.Is m next → v ≡ termLength (read .scale) (read .boys) m → Sizing s at terms k l (read .values) m next (left - 1) (n + v)
+  pub sizing-more : (m next v : ℕ) → read .found ≡ field.Is m next → v ≡ termLength (read .scale) (read .boys) m → Sizing s at terms k l after m next (left - 1) (n + v)
   sizing-more m next v e size-is =
-      let r = was-read s k l values count place read (z .small) (z .long) (z .fits) is m next e in
+      let r = was-read s k l values count place read after (z .small) (z .long) (z .fits) told m next e in
       let t = r .term in
       let fit = r .fit in
       let length-of : v ≡ length (termBytes t) = size-is ∙ length-same (read .scale) (read .boys) m (t .scale) (t .boys) (length (t .prefactors)) (r .scale) (r .boys) (r .count-is) ∙ sym (term-length k l t fit) in
@@ -195,7 +197,7 @@ module _ (s : List ℕ) (at terms : ℕ) (k : Kind) (l : ℕ) (values : List ℕ
 
   pub sizing-refused : (r wrong : ℕ) → read .found ≡ field.Refused r wrong → size.Refused r wrong ≡ sizePlus 0 (termsAfter s at terms k l [])
   sizing-refused r wrong e =
-      let reads = was-refused s k l values count place read (z .small) (z .long) (z .fits) is r wrong e in
+      let reads = was-refused s k l values count place read after (z .small) (z .long) (z .fits) told r wrong e in
       sym (ap (sizePlus n) (terms-turn2 left k l (take count values) s place (refused r wrong) some reads)) ∙ z .whole
 
 sizes-end : (n place : ℕ) (b : Bool) → cond b (size.Bytes n) (size.Refused 7 place) ≡ sizePlus n (cond b (got [] place) (refused 7 place))

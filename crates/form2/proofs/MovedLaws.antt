@@ -1,5 +1,5 @@
 -- The move from form 1 to form 2: a judged roll, read again, is written as its form 2; what src/shorter.rt knows of it.
-use Prim.Native.Nat.{ℕ, zero, suc, zero-le, _+_, _-_, _≤_, _<_}
+use Prim.Native.Nat.{ℕ, zero, suc, _+_, _-_, _≤_, _<_}
 use mathlib.Core.Path.{_≡_, refl, sym, ap, ap₂, _∙_}
 use mathlib.Core.Bool.{Bool, true, false}
 use mathlib.Core.List.{List, [], _∷_, _++_, append-assoc}
@@ -8,9 +8,8 @@ use borrow.Author.Tests.{leb-true, le-leb}
 use borrow.Rule.Slice.PartMut.{putMid}
 use lib.Dec.{eqb, leb}
 use lib.ListN.{length, take, drop, length-append}
-use lib.Seq.{sets}
 use Rattle.kind.specs.Limits.{mostL·any, mostTerms}
-use Rattle.kind.specs.Kinds.{numberOf, tableOf, mostL, mostPrefactors}
+use Rattle.kind.specs.Kinds.{numberOf, tableOf, mostL}
 use Rattle.kind.specs.declared.Kind.{Kind}
 use Rattle.kind.specs.declared.Kind.the-variants.{Coulomb}
 use Rattle.kind.proofs.Within.{number-within, some-entries, table-within}
@@ -18,17 +17,15 @@ use Rattle.laws.specs.Total.{total}
 use Rattle.number.specs.Numbers.{bytesOf, Bytes}
 use Rattle.number.proofs.Writing.{bytes-last}
 use Rattle.term.specs.Terms.{Term}
-use Rattle.roll.specs.declared.again.Head.{Head}
 use Rattle.roll.specs.declared.cursor.Cursor.{Cursor}
 use Rattle.roll.specs.declared.header.Opening.the-variants as opening
 use Rattle.roll.specs.declared.header.Opened.{Opened}
 use Rattle.roll.specs.Bytes.{numbersBytes}
 use Rattle.roll.specs.Fits.{Below}
 use Rattle.roll.specs.Header.{cursorAt, checkOf}
-use Rattle.roll.specs.Reading.{Reading, got, refused, before, termAt, termsAt, Header, headerAt, Roll, rollAt}
+use Rattle.roll.specs.Reading.{Reading, got, before, termAt, termsAt, Header, Roll, rollAt}
 use Rattle.roll.specs.inner.Again.{headAt, between, headTerm}
-use Rattle.roll.specs.inner.Judged.{Judged}
-use Rattle.roll.proofs.AgainLaws.{Same, term-again, head-inside}
+use Rattle.roll.proofs.AgainLaws.{term-again, head-inside}
 use Rattle.roll.proofs.Checked.{checked-judged, checked-refused, headed, opened-cursor}
 use Rattle.roll.proofs.Filling.{before-is, andThen-is}
 use Rattle.roll.proofs.Inside.{term-read, term-inside, header-read, header-inside, orders-most, taken-inside}
@@ -38,12 +35,12 @@ use Rattle.roll.proofs.Written.{HeadBytes, head-bytes, roll-read}
 use Rattle.form2.specs.declared.moves.Moved.the-variants as moved
 use Rattle.form2.specs.Bytes.{formTwo, shared, furtherOf, termBytes2, termsBytes2, rollBytes2}
 use Rattle.form2.specs.Moves.{inForm1, inForm2, MoveTold}
-use Rattle.form2.specs.inner.Puts.{Put, bytesIn, twoBytes, plain2, psAt, headBytes2, againBytes2, SmallAgain, AgainMay, May2}
+use Rattle.form2.specs.inner.Puts.{Put, bytesIn, twoBytes, plain2, psAt, headBytes2, againBytes2, SmallAgain, May2}
 use Rattle.form2.proofs.AtMost.{roll-longer}
 use Rattle.form2.proofs.Back.{below-further}
 use Rattle.form2.proofs.Inside.{prefactors-below}
 use Rattle.form2.proofs.JudgeLaws.{one-byte-each}
-use Rattle.form2.proofs.MovesLaws.{told-refused, told-beyond, told-full, part-room, told-moved, first-one, head-copied, head-long, behind-head, roll-put}
+use Rattle.form2.proofs.MovesLaws.{told-refused, told-beyond, told-full, part-room, told-moved, first-one, head-copied, head-long, behind-head}
 use Rattle.form2.proofs.PutsLaws.{put-both}
 use Rattle.form2.proofs.ShorterLaws.{head-order, part-long}
 

@@ -8,7 +8,7 @@ use native.Mathlib.Nat.{not-suc-le-zero, min-le-left, min-le-right}
 use native.Mathlib.Numerals.{add-one}
 use borrow.Author.Tests.{eq-eqb, ne-eqb, le-leb, lt-leb}
 use lib.Dec.{eqb, leb}
-use lib.ListN.{length, getD, set, take, drop, length-append, length-take, length-drop, drop-of-length-le}
+use lib.ListN.{length, getD, take, drop, length-append, length-drop, drop-of-length-le}
 use lib.Seq.{sets, length-sets, drop-cons, drop-drop, getD-take, getD-drop, length-take-le}
 use Rattle.kind.specs.Limits.{mostL·any}
 use Rattle.laws.proofs.Lists.{sets-append, drop-take}

@@ -1,30 +1,31 @@
 -- The functions of src/terms.rt: a term's numbers, its further prefactors in their places, and both together, a law for each way out.
-use Prim.Native.Nat.{ℕ, zero, suc, zero-le, _+_, _-_, _≤_, _<_}
+use Prim.Native.Nat.{ℕ, suc, zero-le, _+_, _-_, _≤_, _<_}
 use mathlib.Core.Path.{_≡_, refl, sym, ap, ap₂, _∙_}
-use mathlib.Core.Bool.{Bool, true, false, cond}
-use mathlib.Core.List.{List, [], _∷_, _++_, append-nil}
+use mathlib.Core.Bool.{Bool, true, false, cond, _&&_}
+use mathlib.Core.List.{List, [], _∷_, _++_}
 use native.Mathlib.Omega.{arith}
+use mir.Syntax.{w8, w32}
+use mir.Val.{Fits}
 use native.Mathlib.Numerals.{add-one}
-use lib.Dec.{eqb}
-use lib.ListN.{length, getD, set, take, drop, replicate, length-append, length-take, drop-of-length-le, take-append-drop}
+use borrow.Author.Tests.{lt-ltb, le-ltb, ltb-true, ltb-false}
+use lib.Dec.{ltb, eqb}
+use lib.ListN.{length, getD, set, take, drop, length-append, length-take, drop-of-length-le, take-append-drop}
 use lib.Seq.{sets, drop-cons, getD-take, length-take-le, take-take, sets-eq}
-use Rattle.kind.specs.Limits.{mostL·any, mostScale, tablePlaces}
+use Rattle.kind.specs.Limits.{mostL·any, mostScale}
 use Rattle.kind.specs.Kinds.{tableOf, mostL, mostPrefactors}
 use Rattle.kind.specs.declared.Kind.{Kind}
 use Rattle.kind.proofs.Within.{some-entries, table-within}
 use Rattle.laws.proofs.Cases.{clash}
 use Rattle.laws.proofs.Lists.{sets-append}
-use Rattle.term.specs.Terms.{Term}
 use Rattle.roll.specs.declared.field.Field.{Field}
 use Rattle.roll.specs.declared.field.Field.the-variants as field
 use Rattle.roll.specs.Reading.{Reading, got, refused, onward, andThen, before, withinAt, prefactorsAt, mostBoys}
 use Rattle.roll.proofs.FieldLaws.{taken-below}
 use Rattle.roll.proofs.TermsLaws.{few-prefactors}
 use Rattle.form2.specs.declared.terms.ReadFront.{ReadFront}
-use Rattle.form2.specs.declared.terms.ReadMore.{ReadMore}
 use Rattle.form2.specs.declared.terms.ReadAfter.{ReadAfter}
 use Rattle.form2.specs.Reading.{Front, furtherCountAt, sharedAt, boysAt2, frontAt, goesOn, furtherAt, termAfter}
-use Rattle.form2.specs.inner.Held.{heldFront, moreFrom, heldAfter, afterFrom, withMore, AfterMay, MoreMay}
+use Rattle.form2.specs.inner.Held.{heldFront, foundFrom, placesFrom, heldAfter, withMore, AfterMay, AfterTold, MoreMay, MoreTold}
 use Rattle.form2.proofs.Inside.{front-read}
 
 -- ---- the front
@@ -67,22 +68,31 @@ scale-unread k l longest s at x r place y is e answer = answer ∙ rw (sym is �
 -- ---- prefactors in their places
 
 -- one in its place, and the rest behind it
-more-one : (held : List ℕ) (n p : ℕ) (r : Reading (List ℕ)) → moreFrom held n (before (p ∷ []) r) ≡ moreFrom (set held n p) (n + 1) r
-more-one held n p (got ps next) =
-    let count : n + length (p ∷ ps) ≡ n + 1 + length ps = omega arith in
-    let places : sets held n (p ∷ ps) ≡ sets (set held n p) (n + 1) ps = rw (add-one n) in
-    cc (count, places)
-more-one held n p (refused r place) = refl
+found-one : (n p : ℕ) (r : Reading (List ℕ)) → foundFrom n (before (p ∷ []) r) ≡ foundFrom (n + 1) r
+found-one n p (got ps next) = let count : n + length (p ∷ ps) ≡ n + 1 + length ps = omega arith in ap (λ (m : ℕ). field.Is m next) count
+found-one n p (refused r place) = refl
+
+places-one : (held : List ℕ) (n p : ℕ) (left : List ℕ) (r : Reading (List ℕ)) → placesFrom held n left (before (p ∷ []) r) ≡ placesFrom (set held n p) (n + 1) left r
+places-one held n p left (got ps next) = rw (add-one n)
+places-one held n p left (refused r place) = refl
+
+-- the same told from one place further on
+pub told-behind : (values : List ℕ) (from p : ℕ) (x : Reading (List ℕ)) (y : Field) (after : List ℕ) → MoreTold (set values from p) (from + 1) x y after → MoreTold values from (before (p ∷ []) x) y after
+told-behind values from p x y after m = record { found = m .found ∙ sym (found-one from p x); places = m .places ∙ sym (places-one values from p after x) }
+
+-- a refusal, whatever is left in the places
+told-none : (values : List ℕ) (from : ℕ) (x : Reading (List ℕ)) (r place : ℕ) (after : List ℕ) → x ≡ refused r place → MoreTold values from x (field.Refused r place) after
+told-none values from x r place after e = rw e (record { found = refl; places = refl })
 
 pub record Placing (s : List ℕ) (at : ℕ) (values : List ℕ) (from count table : ℕ) (held : List ℕ) (place i : ℕ) : Type 0 where
   pub inside : i ≤ count
-  pub whole : moreFrom held (from + i) (prefactorsAt s place (count - i) table) ≡ moreFrom values from (prefactorsAt s at count table)
+  pub told : (y : Field) (after : List ℕ) → MoreTold held (from + i) (prefactorsAt s place (count - i) table) y after → MoreTold values from (prefactorsAt s at count table) y after
 
 pub placing-none : (s : List ℕ) (at : ℕ) (values : List ℕ) (from count table : ℕ) → Placing s at values from count table values at 0
 placing-none s at values from count table =
     let all : count - 0 ≡ count = omega arith in
     let first : from + 0 ≡ from = omega arith in
-    record { inside = zero-le; whole = rw (all, first) }
+    record { inside = zero-le; told = λ y after m. rw (all, first) at m }
 
 turn : (s : List ℕ) (place count table i : ℕ) (x : Field) → i < count → x ≡ withinAt s place 0 (table - 1) → prefactorsAt s place (count - i) table ≡ onward x (λ p next. before (p ∷ []) (prefactorsAt s next (count - (i + 1)) table))
 unfolding prefactorsAt
@@ -94,81 +104,93 @@ placing-more s at values from count table held place i x p next f less is e =
     let behind : from + (i + 1) ≡ from + i + 1 = omega arith in
     record {
       inside = omega arith;
-      whole =
-          ap (λ (n : ℕ). moreFrom (set held (from + i) p) n (prefactorsAt s next (count - (i + 1)) table)) behind
-          ∙ sym (more-one held (from + i) p (prefactorsAt s next (count - (i + 1)) table))
-          ∙ ap (moreFrom held (from + i)) (sym rest)
-          ∙ f .whole;
+      told = λ y after m. f .told y after (rw rest (told-behind held (from + i) p (prefactorsAt s next (count - (i + 1)) table) y after (rw behind at m)));
     }
 
-pub placing-refused : (s : List ℕ) (at : ℕ) (values : List ℕ) (from count table : ℕ) (held : List ℕ) (place i : ℕ) (x : Field) (r wrong : ℕ) (y : ReadMore) → Placing s at values from count table held place i → i < count → x ≡ withinAt s place 0 (table - 1) → x ≡ field.Refused r wrong → y ≡ moreFrom values from (refused r wrong) → y ≡ moreFrom values from (prefactorsAt s at count table)
-placing-refused s at values from count table held place i x r wrong y f less is e answer =
+pub placing-refused : (s : List ℕ) (at : ℕ) (values : List ℕ) (from count table : ℕ) (held : List ℕ) (place i : ℕ) (x : Field) (r wrong : ℕ) → Placing s at values from count table held place i → i < count → x ≡ withinAt s place 0 (table - 1) → x ≡ field.Refused r wrong → MoreTold values from (prefactorsAt s at count table) (field.Refused r wrong) held
+placing-refused s at values from count table held place i x r wrong f less is e =
     let rest : prefactorsAt s place (count - i) table ≡ refused r wrong = rw e at (turn s place count table i x less is) in
-    answer ∙ ap (moreFrom held (from + i)) (sym rest) ∙ f .whole
+    f .told (field.Refused r wrong) held (told-none held (from + i) (prefactorsAt s place (count - i) table) r wrong held rest)
 
 no-more : (s : List ℕ) (place table n : ℕ) → n ≡ 0 → prefactorsAt s place n table ≡ got [] place
 unfolding prefactorsAt
 no-more s place table n none = rw none
 
-pub placing-done : (s : List ℕ) (at : ℕ) (values : List ℕ) (from count table : ℕ) (held : List ℕ) (place i : ℕ) → Placing s at values from count table held place i → count ≤ i → _≡_ {A = ReadMore} (record { found = field.Is (from + count) place; values = held }) (moreFrom values from (prefactorsAt s at count table))
+-- nothing more
+told-end : (values : List ℕ) (from n place : ℕ) (x : Reading (List ℕ)) → x ≡ got [] place → n ≡ from → MoreTold values from x (field.Is n place) values
+told-end values from n place x e same = let sum : n ≡ from + 0 = omega arith in rw e (record { found = ap (λ (m : ℕ). field.Is m place) sum; places = refl })
+
+pub placing-done : (s : List ℕ) (at : ℕ) (values : List ℕ) (from count table : ℕ) (held : List ℕ) (place i : ℕ) → Placing s at values from count table held place i → count ≤ i → MoreTold values from (prefactorsAt s at count table) (field.Is (from + count) place) held
 placing-done s at values from count table held place i f done =
-    let none = no-more s place table (count - i) (omega arith) in
-    let all : from + count ≡ from + i + 0 = omega (arith, f .inside) in
-    ap (λ (n : ℕ). record { found = field.Is n place; values = held }) all
-    ∙ ap (moreFrom held (from + i)) (sym none)
-    ∙ f .whole
+    f .told (field.Is (from + count) place) held
+    (told-end held (from + i) (from + count) place (prefactorsAt s place (count - i) table) (no-more s place table (count - i) (omega arith)) (omega (arith, f .inside)))
+
+-- a prefactor is a byte
+pub prefactor-fits : (from left table : ℕ) (s : List ℕ) (at : ℕ) (x : Field) (p next : ℕ) → MoreMay from left table → x ≡ withinAt s at 0 (table - 1) → x ≡ field.Is p next → Fits w8 p
+prefactor-fits from left table s at x p next may is e = omega (arith, may .most, taken-below s at 0 (table - 1) x p next is e)
 
 -- ---- the further prefactors
 
-pub goes-none : (values : List ℕ) (count from p : ℕ) → count ≤ from → false ≡ goesOn (drop from (take count values)) p
+pub goes-past : (there count from p : ℕ) → count ≤ from → false ≡ (ltb from count && eqb there p)
+goes-past there count from p past = rw (le-ltb from count past)
+
+pub goes-there : (there count from p : ℕ) → from < count → eqb there p ≡ (ltb from count && eqb there p)
+goes-there there count from p inside = rw (lt-ltb from count inside)
+
+goes-none : (values : List ℕ) (count from p : ℕ) → count ≤ from → goesOn (drop from (take count values)) p ≡ false
 goes-none values count from p past =
     let none : drop from (take count values) ≡ [] = drop-of-length-le (take count values) {i = from} (omega (arith, length-take count values)) in
     rw none
 
-pub goes-is : (values : List ℕ) (count from p b : ℕ) → length values ≡ mostL·any → count ≤ mostL·any → from < count → b ≡ getD values from 0 → eqb b p ≡ goesOn (drop from (take count values)) p
-goes-is values count from p b long few inside is =
+goes-is : (values : List ℕ) (count from p there : ℕ) → length values ≡ mostL·any → count ≤ mostL·any → from < count → there ≡ getD values from 0 → goesOn (drop from (take count values)) p ≡ eqb there p
+goes-is values count from p there long few inside is =
     let room : from < length (take count values) = omega (arith, length-take-le count values (omega arith)) in
-    let same : getD (take count values) from 0 ≡ b = getD-take count values from 0 inside ∙ sym is in
-    rw (drop-cons (take count values) from 0 room) (ap (λ (q : ℕ). eqb q p) (sym same))
+    let same : getD (take count values) from 0 ≡ there = getD-take count values from 0 inside ∙ sym is in
+    rw (drop-cons (take count values) from 0 room) (ap (λ (q : ℕ). eqb q p) same)
 
-module _ (s : List ℕ) (at : ℕ) (values : List ℕ) (from left table : ℕ) (follow : List ℕ) where
-  pub further-none : left ≡ 0 → _≡_ {A = ReadMore} (record { found = field.Is from at; values = values }) (moreFrom values from (furtherAt s at left table follow))
+-- whether what stands behind the shared ones is what follows in the term before
+follows : (values : List ℕ) (count from p there : ℕ) → length values ≡ mostL·any → count ≤ mostL·any → there ≡ getD values from 0 → goesOn (drop from (take count values)) p ≡ (ltb from count && eqb there p)
+follows values count from p there long few is = by (ltb from count) refl
+  where
+    by : (b : Bool) → ltb from count ≡ b → goesOn (drop from (take count values)) p ≡ (b && eqb there p)
+    by true e = goes-is values count from p there long few (ltb-true from count e) is
+    by false e = goes-none values count from p (ltb-false from count e)
+
+module _ (s : List ℕ) (at : ℕ) (values : List ℕ) (from left table count : ℕ) where
+  pub further-none : left ≡ 0 → MoreTold values from (furtherAt s at left table (drop from (take count values))) (field.Is from at) values
   unfolding furtherAt
-  further-none none =
-      let same : from ≡ from + 0 = omega arith in
-      rw none (ap (λ (n : ℕ). record { found = field.Is n at; values = values }) same)
+  further-none none = rw none (record { found = ap (λ (n : ℕ). field.Is n at) (omega arith); places = refl })
 
-  first : (x : Field) → (left ≡ 0 → ⊥) → x ≡ withinAt s at 0 (table - 1) → furtherAt s at left table follow ≡ onward x (λ p next. cond (goesOn follow p) (refused 7 at) (before (p ∷ []) (prefactorsAt s next (left - 1) table)))
+  first : (x : Field) → (left ≡ 0 → ⊥) → x ≡ withinAt s at 0 (table - 1) → furtherAt s at left table (drop from (take count values)) ≡ onward x (λ p next. cond (goesOn (drop from (take count values)) p) (refused 7 at) (before (p ∷ []) (prefactorsAt s next (left - 1) table)))
   unfolding furtherAt
-  first x some is = let one : left ≡ suc (left - 1) = omega arith in ap (λ (n : ℕ). furtherAt s at n table follow) one ∙ rw is
+  first x some is = let one : left ≡ suc (left - 1) = omega arith in ap (λ (n : ℕ). furtherAt s at n table (drop from (take count values))) one ∙ rw is
 
-  pub further-goes : (x : Field) (p next : ℕ) (t : Bool) (y : ReadMore) → (left ≡ 0 → ⊥) → x ≡ withinAt s at 0 (table - 1) → x ≡ field.Is p next → t ≡ goesOn follow p → t ≡ true → y ≡ moreFrom values from (refused 7 at) → y ≡ moreFrom values from (furtherAt s at left table follow)
-  further-goes x p next t y some is e goes on answer =
-      let one : furtherAt s at left table follow ≡ cond (goesOn follow p) (refused 7 at) (before (p ∷ []) (prefactorsAt s next (left - 1) table)) = rw e at (first x some is) in
-      let rest : furtherAt s at left table follow ≡ refused 7 at = rw (sym goes ∙ on) at one in
-      answer ∙ ap (moreFrom values from) (sym rest)
+  pub further-unread : (x : Field) (r place : ℕ) → (left ≡ 0 → ⊥) → x ≡ withinAt s at 0 (table - 1) → x ≡ field.Refused r place → MoreTold values from (furtherAt s at left table (drop from (take count values))) (field.Refused r place) values
+  further-unread x r place some is e =
+      told-none values from (furtherAt s at left table (drop from (take count values))) r place values (rw e at (first x some is))
 
-  pub further-parts : (x : Field) (p next : ℕ) (t : Bool) (y : ReadMore) → (left ≡ 0 → ⊥) → x ≡ withinAt s at 0 (table - 1) → x ≡ field.Is p next → t ≡ goesOn follow p → t ≡ false → y ≡ moreFrom (set values from p) (from + 1) (prefactorsAt s next (left - 1) table) → y ≡ moreFrom values from (furtherAt s at left table follow)
-  further-parts x p next t y some is e goes off answer =
-      let one : furtherAt s at left table follow ≡ cond (goesOn follow p) (refused 7 at) (before (p ∷ []) (prefactorsAt s next (left - 1) table)) = rw e at (first x some is) in
-      let rest : furtherAt s at left table follow ≡ before (p ∷ []) (prefactorsAt s next (left - 1) table) = rw (sym goes ∙ off) at one in
-      answer ∙ sym (more-one values from p (prefactorsAt s next (left - 1) table)) ∙ ap (moreFrom values from) (sym rest)
+  module _ (long : length values ≡ mostL·any) (few : count ≤ mostL·any) (x : Field) (p next : ℕ) (some : left ≡ 0 → ⊥) (is : x ≡ withinAt s at 0 (table - 1)) (e : x ≡ field.Is p next) (there : ℕ) (stands : there ≡ getD values from 0) (t : Bool) (goes : t ≡ (ltb from count && eqb there p)) where
+    one : (b : Bool) → t ≡ b → furtherAt s at left table (drop from (take count values)) ≡ cond b (refused 7 at) (before (p ∷ []) (prefactorsAt s next (left - 1) table))
+    one b so =
+        let all : furtherAt s at left table (drop from (take count values)) ≡ cond (goesOn (drop from (take count values)) p) (refused 7 at) (before (p ∷ []) (prefactorsAt s next (left - 1) table)) = rw e at (first x some is) in
+        rw (follows values count from p there long few stands ∙ sym goes ∙ so) at all
 
-  pub further-unread : (x : Field) (r place : ℕ) (y : ReadMore) → (left ≡ 0 → ⊥) → x ≡ withinAt s at 0 (table - 1) → x ≡ field.Refused r place → y ≡ moreFrom values from (refused r place) → y ≡ moreFrom values from (furtherAt s at left table follow)
-  further-unread x r place y some is e answer =
-      let rest : furtherAt s at left table follow ≡ refused r place = rw e at (first x some is) in
-      answer ∙ ap (moreFrom values from) (sym rest)
+    pub further-goes : t ≡ true → MoreTold values from (furtherAt s at left table (drop from (take count values))) (field.Refused 7 at) values
+    further-goes on = told-none values from (furtherAt s at left table (drop from (take count values))) 7 at values (one true on)
+
+    pub further-parts : (y : Field) (after : List ℕ) → t ≡ false → MoreTold (set values from p) (from + 1) (prefactorsAt s next (left - 1) table) y after → MoreTold values from (furtherAt s at left table (drop from (take count values))) y after
+    further-parts y after off m = rw (one false off) (told-behind values from p (prefactorsAt s next (left - 1) table) y after m)
 
 pub more-may : (from left table : ℕ) → MoreMay from left table → (left ≡ 0 → ⊥) → MoreMay (from + 1) (left - 1) table
 more-may from left table may some = record { room = omega (arith, may .room); some = may .some; most = may .most }
 
 -- ---- a term
 
-pub after-made : (scale boys : ℕ) (read : ReadMore) (n next : ℕ) → read .found ≡ field.Is n next → record { found = field.Is n next; scale = scale; boys = boys; values = read .values } ≡ withMore scale boys read
-after-made scale boys read n next e = sym (ap (afterFrom scale boys (read .values)) e)
+pub after-made : (scale boys : ℕ) (found : Field) (n next : ℕ) → found ≡ field.Is n next → record { found = field.Is n next; scale = scale; boys = boys } ≡ withMore scale boys found
+after-made scale boys found n next e = sym (ap (withMore scale boys) e)
 
-pub after-unmade : (scale boys : ℕ) (read : ReadMore) (r place : ℕ) (y : ReadAfter) → read .found ≡ field.Refused r place → y ≡ heldAfter (read .values) (refused r place) → y ≡ withMore scale boys read
-after-unmade scale boys read r place y e answer = answer ∙ sym (ap (afterFrom scale boys (read .values)) e)
+pub after-unmade : (scale boys : ℕ) (found : Field) (r place : ℕ) (y : ReadAfter) → found ≡ field.Refused r place → y ≡ heldAfter (refused r place) → y ≡ withMore scale boys found
+after-unmade scale boys found r place y e answer = answer ∙ sym (ap (withMore scale boys) e)
 
 -- a list's own beginning, put down at its front
 pub sets-own : (values : List ℕ) (n : ℕ) → n ≤ length values → sets values 0 (take n values) ≡ values
@@ -191,14 +213,20 @@ behind-shared values count n ps room inside =
       rw same (omega (arith, length-append (take n values) ps, long)),
     )
 
-after-of : (values : List ℕ) (count scale boys n : ℕ) (r : Reading (List ℕ)) → count ≤ length values → n ≤ count → withMore scale boys (moreFrom values n r) ≡ heldAfter values (andThen r (λ ps end. got (record { scale = scale; boys = boys; prefactors = take n (take count values) ++ ps }) end))
-after-of values count scale boys n (got ps next) room inside =
+after-of : (values : List ℕ) (count scale boys n : ℕ) (r : Reading (List ℕ)) (found : Field) (after : List ℕ) → count ≤ length values → n ≤ count → MoreTold values n r found after → AfterTold values (andThen r (λ ps end. got (record { scale = scale; boys = boys; prefactors = take n (take count values) ++ ps }) end)) (withMore scale boys found) after
+after-of values count scale boys n (got ps next) found after room inside m =
     let b = behind-shared values count n ps room inside in
-    ap₂ (λ (l : List ℕ) (m : ℕ). record { found = field.Is m next; scale = scale; boys = boys; values = l }) (b .0) (b .1)
-after-of values count scale boys n (refused r place) room inside = refl
+    record {
+      read = ap (withMore scale boys) (m .found) ∙ ap (λ (m : ℕ). record { found = field.Is m next; scale = scale; boys = boys }) (b .1);
+      places = m .places ∙ b .0;
+    }
+after-of values count scale boys n (refused r place) found after room inside m = record { read = ap (withMore scale boys) (m .found); places = refl }
 
 pub after-few : (k : Kind) (l count : ℕ) → AfterMay k l count → count ≤ mostL·any
 after-few k l count may = omega (arith, may .few, few-prefactors k l (may .small))
+
+pub after-fits : (k : Kind) (l count : ℕ) → AfterMay k l count → Fits w32 count
+after-fits k l count may = omega (arith, after-few k l count may)
 
 module _ (k : Kind) (l : ℕ) (s : List ℕ) (at : ℕ) (values : List ℕ) (count : ℕ) (x : ReadFront) (may : AfterMay k l count) (is : x ≡ heldFront (frontAt s at k l count)) where
   few-count : count ≤ mostL·any
@@ -231,10 +259,10 @@ module _ (k : Kind) (l : ℕ) (s : List ℕ) (at : ℕ) (values : List ℕ) (cou
     unfolding termAfter
     term-is r e = rw (counted, e)
 
-    pub after-unread : (r place : ℕ) (y : ReadAfter) → x .found ≡ field.Refused r place → y ≡ heldAfter values (refused r place) → y ≡ heldAfter values (termAfter s at k l (take count values))
+    pub after-unread : (r place : ℕ) (y : ReadAfter) → x .found ≡ field.Refused r place → y ≡ heldAfter (refused r place) → AfterTold values (termAfter s at k l (take count values)) y values
     after-unread r place y e answer = by (frontAt s at k l count) refl
       where
-        by : (z : Reading Front) → frontAt s at k l count ≡ z → y ≡ heldAfter values (termAfter s at k l (take count values))
+        by : (z : Reading Front) → frontAt s at k l count ≡ z → AfterTold values (termAfter s at k l (take count values)) y values
         by (got f m) front =
             let found = ap (λ (x : ReadFront). x .found) (is ∙ ap heldFront front) in
             absurd (clash (cc))
@@ -243,25 +271,24 @@ module _ (k : Kind) (l : ℕ) (s : List ℕ) (at : ℕ) (values : List ℕ) (cou
             let number : q ≡ r = cc in
             let there : o ≡ place = cc in
             let all : termAfter s at k l (take count values) ≡ refused r place = rw (number, there) at (term-is (refused q o) front) in
-            answer ∙ ap (heldAfter values) (sym all)
+            rw all (record { read = answer; places = refl })
 
-    pub after-read : (left next table : ℕ) (read : ReadMore) (y : ReadAfter) → x .found ≡ field.Is left next → table ≡ tableOf k → read ≡ moreFrom values (x .shared) (furtherAt s next left table (drop (x .shared) (take count values))) → y ≡ withMore (x .scale) (x .boys) read → y ≡ heldAfter values (termAfter s at k l (take count values))
-    after-read left next table read y e size held answer = by (frontAt s at k l count) refl
+    pub after-read : (left next table : ℕ) (found : Field) (after : List ℕ) (y : ReadAfter) → x .found ≡ field.Is left next → table ≡ tableOf k → MoreTold values (x .shared) (furtherAt s next left table (drop (x .shared) (take count values))) found after → y ≡ withMore (x .scale) (x .boys) found → AfterTold values (termAfter s at k l (take count values)) y after
+    after-read left next table found after y e size told answer = by (frontAt s at k l count) refl
       where
-        by : (z : Reading Front) → frontAt s at k l count ≡ z → y ≡ heldAfter values (termAfter s at k l (take count values))
+        by : (z : Reading Front) → frontAt s at k l count ≡ z → AfterTold values (termAfter s at k l (take count values)) y after
         by (got f m) front =
             let x-is : x ≡ heldFront (got f m) = is ∙ ap heldFront front in
-            let found = ap (λ (x : ReadFront). x .found) x-is in
+            let there = ap (λ (x : ReadFront). x .found) x-is in
             let scale : x .scale ≡ f .scale = ap (λ (x : ReadFront). x .scale) x-is in
             let boys : x .boys ≡ f .boys = ap (λ (x : ReadFront). x .boys) x-is in
             let shared : x .shared ≡ f .shared = ap (λ (x : ReadFront). x .shared) x-is in
             let number : left ≡ f .further = cc in
-            let there : next ≡ m = cc in
+            let place : next ≡ m = cc in
             let r = front-read k l count s at f m front in
-            let read-is : read ≡ moreFrom values (f .shared) (furtherAt s m (f .further) (tableOf k) (drop (f .shared) (take count values))) = rw (shared, number, there, size) at held in
-            answer ∙ rw (scale, boys, read-is)
-            (after-of values count (f .scale) (f .boys) (f .shared) (furtherAt s m (f .further) (tableOf k) (drop (f .shared) (take count values))) (omega (arith, few-count)) (r .shared .below)
-            ∙ ap (heldAfter values) (sym (term-is (got f m) front)))
+            let told-is : MoreTold values (f .shared) (furtherAt s m (f .further) (tableOf k) (drop (f .shared) (take count values))) found after = rw (shared, number, place, size) at told in
+            rw (answer, scale, boys, term-is (got f m) front)
+            (after-of values count (f .scale) (f .boys) (f .shared) (furtherAt s m (f .further) (tableOf k) (drop (f .shared) (take count values))) found after (omega (arith, few-count)) (r .shared .below) told-is)
         by (refused q o) front =
             let found = ap (λ (x : ReadFront). x .found) (is ∙ ap heldFront front) in
             absurd (clash (cc))

@@ -113,12 +113,11 @@ fn cleared(values: [u8; Kind::PREFACTORS], count: usize) -> [u8; Kind::PREFACTOR
 }
 
 // The term that was read, and the cursor behind it.
-fn term_step(c: Cursor, read: ReadAfter) -> Step2
+fn term_step(c: Cursor, read: ReadAfter, values: [u8; Kind::PREFACTORS]) -> Step2
     requires { ⌜ StepMay c read ⌝ }
-    ensures { λ r. ⌜ r ≡ steppedOver2 c read ⌝ }
+    ensures { λ r. ⌜ r ≡ steppedOver2 c read values ⌝ }
 {
     let found = read.found;
-    let values = read.values;
     match found {
         Field::Is(count, place) => {
             let held = cleared(values, count as usize);
@@ -170,8 +169,9 @@ fn next_of(
     if cursor.left == 0 {
         return end_step(roll, place);
     }
-    let read = term_after(roll, place, kind, l, earlier, count as usize);
-    term_step(cursor, read)
+    let mut values = earlier;
+    let read = term_after(roll, place, kind, l, &mut values, count as usize);
+    term_step(cursor, read, values)
 }
 
 impl Cursor2 {

@@ -60,13 +60,11 @@ fn terms_size(roll: &[u8], at: usize, terms: u32, kind: Kind, l: u8) -> Size
     let mut left = terms;
     let mut size = 0;
     while 0 < left {
-        let read = term_after(roll, place, kind, l, values, count);
+        let read = term_after(roll, place, kind, l, &mut values, count);
         let found = read.found;
-        let held = read.values;
         match found {
             Field::Is(n, next) => {
                 size += term_length(read.scale, read.boys, n);
-                values = held;
                 count = n as usize;
                 place = next;
             }

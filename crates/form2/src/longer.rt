@@ -15,33 +15,41 @@ use crate::moves::Moved;
 use crate::moves::has_room;
 use crate::puts::put_head;
 use crate::puts::put_term1;
-use crate::terms::term_after;
+use crate::terms::front;
 use kind::Kind;
 use kind::Named;
 use roll::Field;
 use roll::Opened;
 use roll::Opening;
 
-// Writes so many terms in form 1.
+// Writes so many terms in form 1: what a term shares with the one before is copied from where that one was written.
 fn put_terms(out: &mut [u8], start: usize, roll: &[u8], at: usize, terms: u32, kind: Kind, l: u8)
     requires { ⌜ TermsMay1 (now roll) at terms kind l (now out) start ⌝ }
     ensures { λ _. ⌜ now (out .exit) ≡ sets (now (out .entry)) start (termsBytes (termsGot (termsAfter (now (roll .entry)) at terms kind l []))) ⌝ }
 {
-    let mut values = [0; Kind::PREFACTORS];
+    let mut from = start;
     let mut count = 0;
     let mut place = at;
     let mut left = terms;
     let mut to = start;
     while 0 < left {
-        let read = term_after(roll, place, kind, l, values, count);
-        let found = read.found;
-        let held = read.values;
+        let numbers = front(roll, place, kind, l, count);
+        let found = numbers.found;
+        let shared = numbers.shared;
         match found {
-            Field::Is(n, next) => {
-                values = held;
-                count = n as usize;
-                place = next;
-                to = put_term1(out, to, read.scale, read.boys, &held[0..count]);
+            Field::Is(further, next) => {
+                place = next + further as usize;
+                count = shared + further;
+                to = put_term1(
+                    out,
+                    to,
+                    numbers.scale,
+                    numbers.boys,
+                    from,
+                    shared as usize,
+                    &roll[next..place],
+                );
+                from = to - count as usize;
             }
             Field::Refused(_, _) => return,
         }

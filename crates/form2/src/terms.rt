@@ -1,12 +1,14 @@
 // A term of a form 2 roll: scale, Boys order, shared length, number of further prefactors, and those.
 ghost use mathlib.Core.Path.{_≡_};
 ghost use Prim.Native.Nat.{_≤_};
-ghost use lib.ListN.{take, drop};
+ghost use mathlib.Core.Bool.{_&&_};
+ghost use lib.Dec.{ltb, eqb};
+ghost use lib.ListN.{length, take, drop};
 ghost use Rattle.kind.specs.Limits.{mostL·any};
-ghost use Rattle.kind.specs.Kinds.{mostL, mostPrefactors};
+ghost use Rattle.kind.specs.Kinds.{mostL};
 ghost use Rattle.roll.specs.Reading.{refused, prefactorsAt};
-ghost use Rattle.form2.specs.Reading.{furtherCountAt, sharedAt, boysAt2, frontAt, goesOn, furtherAt, termAfter};
-ghost use Rattle.form2.specs.inner.Held.{heldFront, moreFrom, heldAfter, withMore, AfterMay, MoreMay};
+ghost use Rattle.form2.specs.Reading.{furtherCountAt, sharedAt, boysAt2, frontAt, furtherAt, termAfter};
+ghost use Rattle.form2.specs.inner.Held.{heldFront, heldAfter, withMore, AfterMay, AfterTold, MoreMay, MoreTold};
 use kind::Kind;
 use number::wide;
 use roll::Field;
@@ -14,25 +16,18 @@ use roll::most_boys;
 use roll::within;
 
 // A term's numbers before its further prefactors, and how many of these there are; zeros beside a refusal.
-struct ReadFront {
-    found: Field,
-    scale: u32,
-    boys: u32,
-    shared: u32,
+pub(crate) struct ReadFront {
+    pub(crate) found: Field,
+    pub(crate) scale: u32,
+    pub(crate) boys: u32,
+    pub(crate) shared: u32,
 }
 
-// A term's places with its further prefactors, and how many prefactors it has; zeros beside a refusal.
-struct ReadMore {
-    found: Field,
-    values: [u8; Kind::PREFACTORS],
-}
-
-// A term's numbers, its prefactor count, and its prefactors in front of what stood there; zeros beside a refusal.
+// A term's numbers and its prefactor count; zeros beside a refusal.
 pub(crate) struct ReadAfter {
     pub(crate) found: Field,
     pub(crate) scale: u32,
     pub(crate) boys: u32,
-    pub(crate) values: [u8; Kind::PREFACTORS],
 }
 
 // What stands beside a refusal.
@@ -104,7 +99,7 @@ fn front_boys(roll: &[u8], at: usize, kind: Kind, l: u8, longest: u32, scale: u3
 }
 
 // A term's four numbers.
-fn front(roll: &[u8], at: usize, kind: Kind, l: u8, longest: u32) -> ReadFront
+pub(crate) fn front(roll: &[u8], at: usize, kind: Kind, l: u8, longest: u32) -> ReadFront
     requires { ⌜ AfterMay kind l longest ⌝ }
     ensures { λ r. ⌜ r ≡ heldFront (frontAt (now (roll .entry)) at kind l longest) ⌝ }
 {
@@ -114,131 +109,110 @@ fn front(roll: &[u8], at: usize, kind: Kind, l: u8, longest: u32) -> ReadFront
     }
 }
 
-// What stands beside a refusal.
-fn no_more(refusal: u8, place: usize, values: [u8; Kind::PREFACTORS], from: usize) -> ReadMore
-    ensures { λ r. ⌜ r ≡ moreFrom values from (refused refusal place) ⌝ }
-{
-    ReadMore {
-        found: Field::Refused(refusal, place),
-        values: [0; Kind::PREFACTORS],
-    }
-}
-
-// So many prefactors, each below the table size, in the places from `from` on.
+// So many prefactors, each below the table size, into the places from `from` on.
 fn more(
     roll: &[u8],
     at: usize,
-    values: [u8; Kind::PREFACTORS],
+    values: &mut [u8; Kind::PREFACTORS],
     from: usize,
     count: usize,
     table: usize,
-) -> ReadMore
+) -> Field
     requires { ⌜ MoreMay from count table ⌝ }
-    ensures { λ r. ⌜ r ≡ moreFrom values from (prefactorsAt (now (roll .entry)) at count table) ⌝ }
+    ensures { λ r. ⌜ MoreTold (now (values .entry)) from (prefactorsAt (now (roll .entry)) at count table) r (now (values .exit)) ⌝ }
 {
-    let mut held = values;
     let mut place = at;
     let mut i = 0;
     while i < count {
         match within(roll, place, 0, (table - 1) as u32) {
             Field::Is(prefactor, next) => {
-                held[from + i] = prefactor as u8;
+                values[from + i] = prefactor as u8;
                 place = next;
             }
-            Field::Refused(refusal, wrong) => return no_more(refusal, wrong, values, from),
+            Field::Refused(refusal, wrong) => return Field::Refused(refusal, wrong),
         }
         i += 1;
     }
-    ReadMore {
-        found: Field::Is((from + count) as u32, place),
-        values: held,
-    }
+    Field::Is((from + count) as u32, place)
 }
 
-// Whether a prefactor is the one that follows the first `from` in the term before, which has `count`.
-fn goes_on(values: [u8; Kind::PREFACTORS], count: usize, from: usize, prefactor: u32) -> bool
-    requires { ⌜ count ≤ mostL·any ⌝ }
-    ensures { λ r. ⌜ r ≡ goesOn (drop from (take count values)) prefactor ⌝ }
+// Whether a prefactor is the one that follows the first `from` in the term before, which has `count`; `there` stands behind those.
+fn goes_on(there: u32, count: usize, from: usize, prefactor: u32) -> bool
+    ensures { λ r. ⌜ r ≡ (ltb from count && eqb there prefactor) ⌝ }
 {
     if count <= from {
         return false;
     }
-    wide(values[from]) == prefactor
+    there == prefactor
 }
 
 // The further prefactors of a term that shares `from` prefactors with the term before, which has `count`.
 fn further(
     roll: &[u8],
     at: usize,
-    values: [u8; Kind::PREFACTORS],
+    values: &mut [u8; Kind::PREFACTORS],
     count: usize,
     from: usize,
     left: usize,
     table: usize,
-) -> ReadMore
+) -> Field
     requires { ⌜ MoreMay from left table ⌝ }
-    requires { ⌜ count ≤ mostL·any ⌝ }
-    ensures { λ r. ⌜ r ≡ moreFrom values from (furtherAt (now (roll .entry)) at left table (drop from (take count values))) ⌝ }
+    requires { ⌜ (count ≤ mostL·any) × (length (now values) ≡ mostL·any) ⌝ }
+    ensures { λ r. ⌜ MoreTold (now (values .entry)) from (furtherAt (now (roll .entry)) at left table (drop from (take count (now (values .entry))))) r (now (values .exit)) ⌝ }
 {
     if left == 0 {
-        return ReadMore {
-            found: Field::Is(from as u32, at),
-            values,
-        };
+        return Field::Is(from as u32, at);
     }
     match within(roll, at, 0, (table - 1) as u32) {
         Field::Is(prefactor, next) => {
-            if goes_on(values, count, from, prefactor) {
-                return no_more(7, at, values, from);
+            let there = wide(values[from]);
+            if goes_on(there, count, from, prefactor) {
+                return Field::Refused(7, at);
             }
-            let mut held = values;
-            held[from] = prefactor as u8;
-            more(roll, next, held, from + 1, left - 1, table)
+            values[from] = prefactor as u8;
+            more(roll, next, values, from + 1, left - 1, table)
         }
-        Field::Refused(refusal, place) => no_more(refusal, place, values, from),
+        Field::Refused(refusal, place) => Field::Refused(refusal, place),
     }
 }
 
 // What stands beside a refusal.
-fn no_after(refusal: u8, place: usize, values: [u8; Kind::PREFACTORS]) -> ReadAfter
-    ensures { λ r. ⌜ r ≡ heldAfter values (refused refusal place) ⌝ }
+fn no_after(refusal: u8, place: usize) -> ReadAfter
+    ensures { λ r. ⌜ r ≡ heldAfter (refused refusal place) ⌝ }
 {
     ReadAfter {
         found: Field::Refused(refusal, place),
         scale: 0,
         boys: 0,
-        values: [0; Kind::PREFACTORS],
     }
 }
 
 // A term of the prefactors that were read.
-fn with_more(read: ReadMore, scale: u32, boys: u32) -> ReadAfter
-    ensures { λ r. ⌜ r ≡ withMore scale boys read ⌝ }
+fn with_more(found: Field, scale: u32, boys: u32) -> ReadAfter
+    ensures { λ r. ⌜ r ≡ withMore scale boys found ⌝ }
 {
-    let found = read.found;
-    let values = read.values;
     match found {
         Field::Is(count, next) => ReadAfter {
             found: Field::Is(count, next),
             scale,
             boys,
-            values,
         },
-        Field::Refused(refusal, place) => no_after(refusal, place, values),
+        Field::Refused(refusal, place) => no_after(refusal, place),
     }
 }
 
-// The term at a place, after one whose prefactors are the first `count` values.
+// The term at a place, after one whose prefactors are the first `count` values: its own take their place.
 pub(crate) fn term_after(
     roll: &[u8],
     at: usize,
     kind: Kind,
     l: u8,
-    values: [u8; Kind::PREFACTORS],
+    values: &mut [u8; Kind::PREFACTORS],
     count: usize,
 ) -> ReadAfter
     requires { ⌜ AfterMay kind l count ⌝ }
-    ensures { λ r. ⌜ r ≡ heldAfter values (termAfter (now (roll .entry)) at kind l (take count values)) ⌝ }
+    requires { ⌜ length (now values) ≡ mostL·any ⌝ }
+    ensures { λ r. ⌜ AfterTold (now (values .entry)) (termAfter (now (roll .entry)) at kind l (take count (now (values .entry)))) r (now (values .exit)) ⌝ }
 {
     let numbers = front(roll, at, kind, l, count as u32);
     let found = numbers.found;
@@ -246,9 +220,9 @@ pub(crate) fn term_after(
     match found {
         Field::Is(left, next) => {
             let table = kind.table();
-            let read = further(roll, next, values, count, shared, left as usize, table);
-            with_more(read, numbers.scale, numbers.boys)
+            let found = further(roll, next, values, count, shared, left as usize, table);
+            with_more(found, numbers.scale, numbers.boys)
         }
-        Field::Refused(refusal, place) => no_after(refusal, place, values),
+        Field::Refused(refusal, place) => no_after(refusal, place),
     }
 }

@@ -27,7 +27,6 @@ use Rattle.form2.specs.declared.judge.Size.{Size}
 use Rattle.form2.specs.declared.judge.Size.the-variants as size
 use Rattle.form2.specs.declared.judge.Sized.{Sized}
 use Rattle.form2.specs.declared.terms.ReadFront.{ReadFront}
-use Rattle.form2.specs.declared.terms.ReadMore.{ReadMore}
 use Rattle.form2.specs.declared.terms.ReadAfter.{ReadAfter}
 use Rattle.form2.specs.Reading.{Front, termsAfter, rollAt2}
 use Rattle.form2.specs.Header.{judged2}
@@ -39,23 +38,38 @@ abbrev pub heldFront : Reading Front → ReadFront
 heldFront (got f next) = record { found = field.Is (f .further) next; scale = f .scale; boys = f .boys; shared = f .shared }
 heldFront (refused r place) = record { found = field.Refused r place; scale = 0; boys = 0; shared = 0 }
 
--- prefactors in the places from one on; how many there are then
-abbrev pub moreFrom : List ℕ → ℕ → Reading (List ℕ) → ReadMore
-moreFrom values from (got ps next) = record { found = field.Is (from + length ps) next; values = sets values from ps }
-moreFrom values from (refused r place) = record { found = field.Refused r place; values = replicate mostL·any 0 }
+-- prefactors behind the first `from`: how many there are then
+abbrev pub foundFrom : ℕ → Reading (List ℕ) → Field
+foundFrom from (got ps next) = field.Is (from + length ps) next
+foundFrom from (refused r place) = field.Refused r place
 
--- a term's prefactors in front of what stood there
-abbrev pub heldAfter : List ℕ → Reading Term → ReadAfter
-heldAfter values (got t next) = record { found = field.Is (length (t .prefactors)) next; scale = t .scale; boys = t .boys; values = sets values 0 (t .prefactors) }
-heldAfter values (refused r place) = record { found = field.Refused r place; scale = 0; boys = 0; values = replicate mostL·any 0 }
+-- and the places that hold them; beside a refusal it does not matter what is left there
+abbrev pub placesFrom : List ℕ → ℕ → List ℕ → Reading (List ℕ) → List ℕ
+placesFrom values from left (got ps next) = sets values from ps
+placesFrom values from left (refused r place) = left
+
+pub record MoreTold (values : List ℕ) (from : ℕ) (x : Reading (List ℕ)) (r : Field) (after : List ℕ) : Type 0 where
+  pub found : r ≡ foundFrom from x
+  pub places : after ≡ placesFrom values from after x
+
+-- a term's numbers and its count
+abbrev pub heldAfter : Reading Term → ReadAfter
+heldAfter (got t next) = record { found = field.Is (length (t .prefactors)) next; scale = t .scale; boys = t .boys }
+heldAfter (refused r place) = record { found = field.Refused r place; scale = 0; boys = 0 }
+
+-- its prefactors stand in front of what stood there
+abbrev pub placesAfter : List ℕ → List ℕ → Reading Term → List ℕ
+placesAfter values left (got t next) = sets values 0 (t .prefactors)
+placesAfter values left (refused r place) = left
+
+pub record AfterTold (values : List ℕ) (x : Reading Term) (r : ReadAfter) (after : List ℕ) : Type 0 where
+  pub read : r ≡ heldAfter x
+  pub places : after ≡ placesAfter values after x
 
 -- a term of prefactors that were read
-abbrev pub afterFrom : ℕ → ℕ → List ℕ → Field → ReadAfter
-afterFrom scale boys values (field.Is n next) = record { found = field.Is n next; scale = scale; boys = boys; values = values }
-afterFrom scale boys values (field.Refused r place) = heldAfter values (refused r place)
-
-abbrev pub withMore : ℕ → ℕ → ReadMore → ReadAfter
-withMore scale boys read = afterFrom scale boys (read .values) (read .found)
+abbrev pub withMore : ℕ → ℕ → Field → ReadAfter
+withMore scale boys (field.Is n next) = record { found = field.Is n next; scale = scale; boys = boys }
+withMore scale boys (field.Refused r place) = heldAfter (refused r place)
 
 -- what may be read: a kind and its L, and a term before that is no longer than a term may be
 pub record AfterMay (k : Kind) (l count : ℕ) : Type 0 where
@@ -74,21 +88,21 @@ pub record MoreMay (from more table : ℕ) : Type 0 where
 unfoldable pub clearedOf : List ℕ → ℕ → List ℕ
 clearedOf values count = take count values ++ replicate (mostL·any - count) 0
 
-abbrev pub steppedFrom2 : Cursor → ReadAfter → Field → Step2
-steppedFrom2 c read (field.Is n next) =
+abbrev pub steppedFrom2 : Cursor → ReadAfter → List ℕ → Field → Step2
+steppedFrom2 c read values (field.Is n next) =
     record {
       found = found.Term;
-      term = record { scale = read .scale; boys = read .boys; count = n; prefactors = clearedOf (read .values) n };
+      term = record { scale = read .scale; boys = read .boys; count = n; prefactors = clearedOf values n };
       next = record {
         cursor = record { place = next; left = c .left - 1; kind = c .kind; l = c .l };
         count = n;
-        earlier = clearedOf (read .values) n;
+        earlier = clearedOf values n;
       };
     }
-steppedFrom2 c read (field.Refused r place) = refusedStep2 r place
+steppedFrom2 c read values (field.Refused r place) = refusedStep2 r place
 
-abbrev pub steppedOver2 : Cursor → ReadAfter → Step2
-steppedOver2 c read = steppedFrom2 c read (read .found)
+abbrev pub steppedOver2 : Cursor → ReadAfter → List ℕ → Step2
+steppedOver2 c read values = steppedFrom2 c read values (read .found)
 
 -- a cursor, part by part
 abbrev pub cursor2 : Cursor → ℕ → List ℕ → Cursor2

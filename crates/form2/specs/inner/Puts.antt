@@ -2,14 +2,14 @@
 use Prim.Native.Nat.{ℕ, zero, suc, _+_, _≤_}
 use mathlib.Core.Path.{_≡_}
 use mathlib.Core.List.{List, [], _∷_, _++_}
-use lib.ListN.{length}
+use lib.ListN.{length, take, drop}
 use lib.Seq.{sets}
 use Rattle.kind.specs.Limits.{mostL·any}
 use Rattle.kind.specs.Kinds.{kindOf, numberOf, mostL}
 use Rattle.kind.specs.declared.Kind.{Kind}
 use Rattle.kind.specs.declared.Kind.the-variants.{Coulomb}
 use Rattle.kind.specs.declared.Named.the-variants as named
-use Rattle.number.specs.Numbers.{bytesOf, lengthOf}
+use Rattle.number.specs.Numbers.{bytesOf, lengthOf, Bytes}
 use Rattle.term.specs.Terms.{Term}
 use Rattle.roll.specs.declared.again.Head.{Head}
 use Rattle.roll.specs.declared.header.Opened.{Opened}
@@ -74,6 +74,12 @@ pub record PartsMay (s : List ℕ) (a b c d : ℕ) : Type 0 where
 
 -- ---- a form 2 roll that has been judged
 
+-- a term's numbers and its further prefactors; those that it shares stand in the buffer before it
+pub record Term1May (scale boys from shared : ℕ) (ps : List ℕ) (at : ℕ) (out : List ℕ) : Type 0 where
+  pub apart : from + shared ≤ at
+  pub few : shared + length ps ≤ mostL·any
+  pub room : at + length (plain1 scale boys (take shared (drop from out) ++ ps)) ≤ length out
+
 -- terms that read, and room for them in form 1
 pub record TermsMay1 (s : List ℕ) (at left : ℕ) (k : Kind) (l : ℕ) (out : List ℕ) (start : ℕ) : Type 0 where
   pub small : l ≤ mostL k
@@ -81,6 +87,7 @@ pub record TermsMay1 (s : List ℕ) (at left : ℕ) (k : Kind) (l : ℕ) (out : 
   pub end : ℕ
   pub reads : termsAfter s at left k l [] ≡ got terms end
   pub room : start + length (termsBytes terms) ≤ length out
+  pub each : Bytes s
 
 -- ---- rolls that have been judged, as the moves know them: what is written begins with the header's own bytes but for the first
 
@@ -109,4 +116,5 @@ pub record May1 (o : Opened) (n : ℕ) (s : List ℕ) : Type 0 where
   pub terms : termsAfter s (o .cursor .place) (o .cursor .left) kind (o .cursor .l) [] ≡ got (roll .terms) last
   pub count : o .cursor .left ≡ length (roll .terms)
   pub size : n ≡ length (termsBytes (roll .terms))
+  pub each : Bytes s
   pub bytes : inForm1 roll ≡ (o .cursor .kind ∷ between s 1 (o .cursor .place)) ++ termsBytes (roll .terms)

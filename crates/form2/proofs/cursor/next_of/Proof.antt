@@ -41,16 +41,19 @@ returns-4 : tie.Need-returns-4
 returns-4 c = search step-end2
 
 term-after-requires : tie.Need-term-after-requires
-term-after-requires c κs = honest-may (c .before .before .before .before .before .before .before .before .args .kind) _ _ _ _ _ (c .before .before .before .before .before .before .most-l .ensures) (c .before .before .before .before .before .if1 .left) (c .before .before .before .forged-earlier .ensures) (c .before .before .if3 .left)
+term-after-requires c κs = let start = c .before .before .before .before .before .before .before .before .before in let long : length (start .args .earlier) ≡ mostL·any = search (start .good) in (honest-may (start .args .kind) _ _ _ _ _ (c .before .before .before .before .before .before .before .most-l .ensures) (c .before .before .before .before .before .before .if1 .left) (c .before .before .before .before .forged-earlier .ensures) (c .before .before .before .if3 .left), long)
 
 term-step-requires : tie.Need-term-step-requires
-term-step-requires c κs = search honest-step-may
+term-step-requires c κs =
+    let start = c .before .before .before .before .before .before .before .before .before .before in
+    let long : length (start .args .earlier) ≡ mostL·any = search (start .good) in
+    honest-step-may (start .args .kind) (start .args .cursor) _ _ _ _ _ (c .before .before .before .before .before .before .before .before .most-l .ensures) (c .before .before .before .before .before .before .before .if1 .left) (c .before .before .before .before .before .before .if2 .left) (c .before .before .before .before .before .forged-earlier .ensures) (c .before .before .before .before .if3 .left) long (c .before .before .if4 .left) _ _ (c .term-after .ensures)
 
 returns-5 : tie.Need-returns-5
 returns-5 c =
-    let start = c .before .before .before .before .before .before .before .before .before .before in
+    let start = c .before .before .before .before .before .before .before .before .before .before .before in
     let long : length (start .args .earlier) ≡ mostL·any = search (start .good) in
-    step-term2 (start .args .kind) (start .args .cursor) _ _ _ _ _ (c .before .before .before .before .before .before .before .before .most-l .ensures) (c .before .before .before .before .before .before .before .if1 .left) (c .before .before .before .before .before .before .if2 .left) (c .before .before .before .before .before .forged-earlier .ensures) (c .before .before .before .before .if3 .left) long (c .before .before .if4 .left) _ (c .before .term-after .ensures) _ (c .term-step .ensures)
+    step-term2 (start .args .kind) (start .args .cursor) _ _ _ _ _ (c .before .before .before .before .before .before .before .before .before .most-l .ensures) (c .before .before .before .before .before .before .before .before .if1 .left) (c .before .before .before .before .before .before .before .if2 .left) (c .before .before .before .before .before .before .forged-earlier .ensures) (c .before .before .before .before .before .if3 .left) long (c .before .before .before .if4 .left) _ _ (c .before .term-after .ensures) _ (c .term-step .ensures)
 
 pub next-of-spec : {M : Type 1} → statement M
 next-of-spec =

@@ -1,7 +1,6 @@
 -- `term_step` meets its contract: the term as it is held, twice. Assumes nothing.
-use native.Mathlib.Omega.{arith}
+use Rattle.form2.proofs.CursorLaws.{step-few, step-fits, step-made2, step-unmade2}
 use borrow.Author.Needs.{needs}
-use Rattle.form2.proofs.CursorLaws.{step-made2, step-unmade2}
 use Rattle.form2.proofs.cursor.term_step.Statement.{statement}
 use Rattle.form2.proofs.cursor.term_step.Tie as tie
 
@@ -12,19 +11,19 @@ cast-cleared : tie.Need-cast-cleared
 cast-cleared c = search needs
 
 cleared-requires : tie.Need-cleared-requires
-cleared-requires c κs = c .before .before .before .before .pre .few _ _ (c .before .found .given .1)
+cleared-requires c κs = search step-few
 
 cast-t13 : tie.Need-cast-t13
 cast-t13 c = search needs
 
 cast-t14 : tie.Need-cast-t14
-cast-t14 c = let s = c .before .before .before .before .before .before in omega (arith, s .pre .boys, s .pre .few _ _ (c .before .before .before .found .given .1))
+cast-t14 c = search step-fits
 
 sub-t16 : tie.Need-sub-t16
 sub-t16 c = search needs
 
 cast-t18 : tie.Need-cast-t18
-cast-t18 c = let s = c .before .before .before .before .before .before .before in omega (arith, s .pre .boys, s .pre .few _ _ (c .before .before .before .before .found .given .1))
+cast-t18 c = search step-fits
 
 enum-known-found-2 : tie.Need-enum-known-found-2
 enum-known-found-2 c = search needs

@@ -1,7 +1,7 @@
 -- `terms_size` meets its contract. The loop's invariant is `Sizing`: what was measured, and the terms left, make the whole. Assumes nothing.
 use native.Mathlib.Omega.{arith}
 use borrow.Author.Needs.{needs}
-use Rattle.form2.proofs.JudgeLaws.{Sizing, sizing-first, sizing-may, read-few, sizing-fits, sizing-more, sizing-refused, sizing-done}
+use Rattle.form2.proofs.JudgeLaws.{Sizing, sizing-first, sizing-may, sizing-long, read-few, sizing-fits, sizing-more, sizing-refused, sizing-done}
 use Rattle.form2.proofs.judge.terms_size.Statement.{statement}
 use Rattle.form2.proofs.judge.terms_size.Tie as tie
 
@@ -15,7 +15,7 @@ loop-holds : tie.Need-loop-holds Inv-loop μ-loop
 loop-holds c = search sizing-first
 
 term-after-requires : tie.Need-term-after-requires Inv-loop μ-loop
-term-after-requires c κs = search sizing-may
+term-after-requires c κs = (search sizing-may, search sizing-long)
 
 enum-known-found : tie.Need-enum-known-found Inv-loop μ-loop
 enum-known-found c = search needs
@@ -25,8 +25,7 @@ term-length-requires c κs = search read-few
 
 add-size : tie.Need-add-size Inv-loop μ-loop
 add-size c =
-    let w = c .before .before .before .before .before in
-    omega (arith, sizing-fits _ _ _ _ _ _ _ _ _ _ _ (w .before .before .loop .inv) (w .before .loop-test .taken) (w .term-after .ensures) _ _ _ (c .before .before .found .given .1) (c .term-length .ensures))
+    omega (arith, sizing-fits _ _ _ _ _ _ _ _ _ _ _ _ (c .before .before .before .before .before .before .before .loop .inv) (c .before .before .before .before .before .before .loop-test .taken) (c .before .before .before .before .term-after .ensures) _ _ _ (c .before .before .found .given .1) (c .term-length .ensures))
 
 cast-count : tie.Need-cast-count Inv-loop μ-loop
 cast-count c = search needs

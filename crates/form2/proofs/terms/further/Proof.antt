@@ -1,8 +1,6 @@
 -- `further` meets its contract: the first is not the one that follows in the term before. Assumes nothing.
-use native.Mathlib.Omega.{arith}
 use borrow.Author.Needs.{needs}
-use Rattle.roll.proofs.FieldLaws.{taken-below}
-use Rattle.form2.proofs.TermsLaws.{further-none, further-goes, further-parts, further-unread}
+use Rattle.form2.proofs.TermsLaws.{prefactor-fits, further-none, further-goes, further-parts, further-unread}
 use Rattle.form2.proofs.terms.further.Statement.{statement}
 use Rattle.form2.proofs.terms.further.Tie as tie
 
@@ -24,20 +22,23 @@ within-requires c κs = search needs
 enum-known-prefactor : tie.Need-enum-known-prefactor
 enum-known-prefactor c = search needs
 
+element-copy-out-wide : tie.Need-element-copy-out-wide
+element-copy-out-wide c = search needs
+
+wide-requires : tie.Need-wide-requires
+wide-requires c κs = search needs
+
 goes-on-requires : tie.Need-goes-on-requires
 goes-on-requires c κs = search needs
-
-no-more-requires : tie.Need-no-more-requires
-no-more-requires c κs = search needs
 
 returns-2 : tie.Need-returns-2
 returns-2 c = search further-goes
 
-cast-held : tie.Need-cast-held
-cast-held c = omega (arith, taken-below _ _ _ _ _ _ _ (c .before .before .before .before .before .within .ensures) (c .before .before .before .prefactor .given .1))
+cast-values : tie.Need-cast-values
+cast-values c = search prefactor-fits
 
-array-write-held : tie.Need-array-write-held
-array-write-held c = search needs
+element-write-values : tie.Need-element-write-values
+element-write-values c = search needs
 
 add-more : tie.Need-add-more
 add-more c = search needs
@@ -50,9 +51,6 @@ more-requires c κs = search needs
 
 enum-known-refusal : tie.Need-enum-known-refusal
 enum-known-refusal c = search needs
-
-no-more-requires-2 : tie.Need-no-more-requires-2
-no-more-requires-2 c κs = search needs
 
 returns-3 : tie.Need-returns-3
 returns-3 c = search further-parts
@@ -70,15 +68,15 @@ further-spec =
     cast-within
     within-requires
     enum-known-prefactor
+    element-copy-out-wide
+    wide-requires
     goes-on-requires
-    no-more-requires
     returns-2
-    cast-held
-    array-write-held
+    cast-values
+    element-write-values
     add-more
     sub-more
     more-requires
     enum-known-refusal
-    no-more-requires-2
     returns-3
     returns-4)

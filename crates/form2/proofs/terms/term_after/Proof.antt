@@ -1,16 +1,11 @@
 -- `term_after` meets its contract: the numbers, then the further prefactors behind those that are shared. Assumes nothing.
-use native.Mathlib.Omega.{arith}
 use borrow.Author.Needs.{needs}
-use mathlib.Core.Path.{_≡_}
-use lib.ListN.{length}
-use Rattle.kind.specs.Limits.{mostL·any}
-use Rattle.roll.proofs.TermsLaws.{few-prefactors}
-use Rattle.form2.proofs.TermsLaws.{after-few, after-may, after-read, after-unread}
+use Rattle.form2.proofs.TermsLaws.{after-few, after-fits, after-may, after-read, after-unread}
 use Rattle.form2.proofs.terms.term_after.Statement.{statement}
 use Rattle.form2.proofs.terms.term_after.Tie as tie
 
 cast-front : tie.Need-cast-front
-cast-front c = let a = c .before .args in omega (arith, few-prefactors (a .kind) (a .l) (c .before .pre .small))
+cast-front c = search after-fits
 
 front-requires : tie.Need-front-requires
 front-requires c κs = search needs
@@ -28,7 +23,7 @@ cast-further : tie.Need-cast-further
 cast-further c = search needs
 
 further-requires : tie.Need-further-requires
-further-requires c κs = (search after-may, search after-few)
+further-requires c κs = (search after-may, (search after-few, search needs))
 
 with-more-requires : tie.Need-with-more-requires
 with-more-requires c κs = search needs
@@ -40,10 +35,7 @@ no-after-requires : tie.Need-no-after-requires
 no-after-requires c κs = search needs
 
 returns : tie.Need-returns
-returns c =
-    let start = c .before .before .before .before .before .before .before .before .before in
-    let long : length (start .args .values) ≡ mostL·any = search (start .good) in
-    after-read _ _ _ _ _ _ _ (start .pre) (c .before .before .before .before .before .before .before .front .ensures) long _ _ _ _ _ (c .before .before .before .before .found .given .1) (c .before .before .table .ensures) (c .before .further .ensures) (c .with-more .ensures)
+returns c = search after-read
 
 returns-2 : tie.Need-returns-2
 returns-2 c = search after-unread

@@ -1,6 +1,6 @@
--- `with_more` meets its contract: what was read, or its refusal. Assumes nothing.
-use borrow.Author.Needs.{needs}
+-- `with_more` meets its contract. Assumes nothing.
 use Rattle.form2.proofs.TermsLaws.{after-made, after-unmade}
+use borrow.Author.Needs.{needs}
 use Rattle.form2.proofs.terms.with_more.Statement.{statement}
 use Rattle.form2.proofs.terms.with_more.Tie as tie
 
