@@ -1,12 +1,12 @@
 -- The functions of src/shorter.rt: two parts of a roll beside each other, and the terms of a judged roll measured and written in form 2.
 use Prim.Native.Nat.{ℕ, zero, suc, zero-le, _+_, _*_, _-_, _≤_, _<_, min}
 use mathlib.Core.Path.{_≡_, refl, sym, ap, ap₂, _∙_}
-use mathlib.Core.Bool.{Bool, true, false, cond}
+use mathlib.Core.Bool.{Bool, true, false, cond, true≢false}
 use mathlib.Core.List.{List, [], _∷_, _++_, append-assoc}
 use native.Mathlib.Omega.{arith}
-use native.Mathlib.Nat.{not-suc-le-zero, min-le-left, min-le-right}
+use native.Mathlib.Nat.{not-suc-le-zero, min-le-left, min-le-right, min-eq-left}
 use native.Mathlib.Numerals.{add-one}
-use borrow.Author.Tests.{eq-eqb, ne-eqb, le-leb, lt-leb}
+use borrow.Author.Tests.{eq-eqb, ne-eqb, le-leb, lt-leb, leb-true, ltb-true}
 use lib.Dec.{eqb, leb}
 use lib.ListN.{length, getD, take, drop, length-append, length-drop, drop-of-length-le}
 use lib.Seq.{sets, length-sets, drop-cons, drop-drop, getD-take, getD-drop, length-take-le}
@@ -14,14 +14,14 @@ use Rattle.kind.specs.Limits.{mostL·any}
 use Rattle.laws.proofs.Lists.{sets-append, drop-take}
 use Rattle.number.specs.declared.Number.{Number}
 use Rattle.number.specs.declared.Number.the-variants as number
-use Rattle.number.specs.Numbers.{bytesOf, lengthOf, readAt}
-use Rattle.number.proofs.Reading.{read-inside}
+use Rattle.number.specs.Numbers.{oneByte, bytesOf, lengthOf, readAt}
+use Rattle.number.proofs.Reading.{read-one, read-inside}
 use Rattle.number.proofs.Writing.{length-few}
 use Rattle.roll.specs.declared.again.Head.{Head}
 use Rattle.roll.specs.inner.Again.{seenOf, seenAt, headAt, between}
-use Rattle.roll.proofs.AgainLaws.{head-inside}
+use Rattle.roll.proofs.AgainLaws.{seen-is, head-made, head-inside}
 use Rattle.form2.specs.Bytes.{shared, furtherOf}
-use Rattle.form2.specs.inner.Puts.{Put, twoBytes, plain2, plainLength2, psAt, headBytes2, againBytes2, SmallAgain, AgainMay, PartsMay}
+use Rattle.form2.specs.inner.Puts.{Put, twoBytes, plain2, plainLength2, psAt, headBytes2, againBytes2, SmallAgain, AgainMay, ShortRest, shortHead, PartsMay}
 use Rattle.form2.proofs.Sharing.{shares}
 
 -- ---- room
@@ -142,6 +142,41 @@ head-order s place inside =
     let b = seen-inside s (seenAt s place .next) a in
     let c = seen-inside s (seenAt s (seenAt s place .next) .next) b in
     omega arith
+
+-- ---- the short way
+
+pub not-short : (s : List ℕ) (at : ℕ) → false ≡ true → ShortRest s at
+not-short s at e = absurd (true≢false (sym e))
+
+pub short-is : (s : List ℕ) (at rest b count : ℕ) (q t : Bool) → at < length s → rest ≡ length s - at → 2 ≤ rest → b ≡ getD s at 0 → q ≡ oneByte b → q ≡ true → count ≡ getD s (at + 1) 0 → t ≡ oneByte count → t ≡ true → leb (count + 2) rest ≡ true → ShortRest s at
+short-is s at rest b count q t here left room y b-test b-small z count-test count-small fits =
+    let most : count + 2 ≤ rest = leb-true (count + 2) rest fits in
+    record {
+      boys = ap oneByte (sym y) ∙ sym b-test ∙ b-small;
+      count = ap oneByte (sym z) ∙ sym count-test ∙ count-small;
+      inside = omega arith;
+    }
+
+pub short-given : (s : List ℕ) (at : ℕ) (t : Bool) → (t ≡ true → ShortRest s at) → t ≡ true → ShortRest s at
+short-given s at t is e = is e
+
+pub short-made : (s : List ℕ) (scale at b count : ℕ) → b ≡ getD s at 0 → count ≡ getD s (at + 1) 0 → _≡_ {A = Head} (record { scale = scale; boys = b; from = at + 2; end = at + 2 + count }) (shortHead s scale at)
+short-made s scale at b count p q = rw (p, q)
+
+pub short-head : (s : List ℕ) (at scale next : ℕ) (r : Number) (h : Head) (t : Bool) → r ≡ readAt s at → r ≡ number.Is scale next → h ≡ shortHead s scale next → (t ≡ true → ShortRest s next) → t ≡ true → h ≡ headAt s at
+short-head s at scale next r h t is e answer so on =
+    let short = so on in
+    let one : number.Is (getD s next 0) (next + 1) ≡ readAt s next = read-one s next (getD s next 0) (omega (arith, short .inside)) refl (ltb-true (getD s next 0) 128 (short .boys)) in
+    let two : number.Is (getD s (next + 1) 0) (next + 1 + 1) ≡ readAt s (next + 1) = read-one s (next + 1) (getD s (next + 1) 0) (omega (arith, short .inside)) refl (ltb-true (getD s (next + 1) 0) 128 (short .count)) in
+    let sum : next + 2 ≡ next + 1 + 1 = omega arith in
+    let end : next + 2 + getD s (next + 1) 0 ≡ min (next + 1 + 1 + getD s (next + 1) 0) (length s) = ap (λ (n : ℕ). n + getD s (next + 1) 0) sum ∙ sym (min-eq-left (omega (arith, short .inside))) in
+    answer
+    ∙ ap (λ (n : ℕ). record { scale = scale; boys = getD s next 0; from = n; end = next + 2 + getD s (next + 1) 0 }) sum
+    ∙ head-made s at (record { value = scale; next = next }) (record { value = getD s next 0; next = next + 1 }) (record { value = getD s (next + 1) 0; next = next + 1 + 1 }) (next + 2 + getD s (next + 1) 0)
+    (seen-is s at r is scale next e)
+    (seen-is s next (number.Is (getD s next 0) (next + 1)) one (getD s next 0) (next + 1) refl)
+    (seen-is s (next + 1) (number.Is (getD s (next + 1) 0) (next + 1 + 1)) two (getD s (next + 1) 0) (next + 1 + 1) refl)
+    end
 
 pub record Again (s : List ℕ) (terms from end place left : ℕ) : Type 0 where
   pub inside : left ≤ terms

@@ -1,21 +1,26 @@
 // From form 1 to form 2: a roll that has been judged is read again and written; it is measured first where room is short.
 ghost use Prim.Native.Nat.{_+_, _≤_, min};
 ghost use mathlib.Core.Path.{_≡_};
+ghost use mathlib.Core.Bool.{true};
 ghost use mathlib.Core.List.{[]};
 ghost use lib.Dec.{leb};
 ghost use lib.ListN.{length};
 ghost use Rattle.kind.specs.Limits.{mostL·any};
 ghost use Rattle.roll.specs.Header.{checkOf};
 ghost use Rattle.roll.specs.Reading.{rollAt};
-ghost use Rattle.roll.specs.inner.Again.{between};
+ghost use Rattle.roll.specs.inner.Again.{between, headAt};
 ghost use Rattle.form2.specs.Bytes.{shared};
 ghost use Rattle.form2.specs.Moves.{inForm2, MoveTold, ToForm2Told};
-ghost use Rattle.form2.specs.inner.Puts.{Put, bytesIn, plainLength2, againBytes2, AgainMay, PartsMay, May2};
+ghost use Rattle.form2.specs.inner.Puts.{Put, bytesIn, plainLength2, againBytes2, AgainMay, ShortRest, shortHead, PartsMay, May2};
 use crate::header::FORM_TWO;
 use crate::moves::Moved;
 use crate::moves::has_room;
 use crate::puts::put_head;
 use crate::puts::put_term2;
+use number::Number;
+use number::one_byte;
+use number::wide;
+use roll::Head;
 use roll::Opened;
 use roll::Opening;
 use roll::head_at;
@@ -46,6 +51,53 @@ fn alike(roll: &[u8], a: usize, b: usize, c: usize, d: usize) -> usize
     i
 }
 
+// Whether a Boys order and a count stand here, one byte each, and the prefactors end inside the roll.
+fn is_short(roll: &[u8], at: usize) -> bool
+    ensures { λ r. ⌜ (r ≡ true → ShortRest (now (roll .entry)) at) ⌝ }
+{
+    if roll.len() <= at {
+        return false;
+    }
+    let rest = roll.len() - at;
+    if rest < 2 {
+        return false;
+    }
+    if one_byte(wide(roll[at])) {
+        let count = wide(roll[at + 1]);
+        if one_byte(count) {
+            return count as usize + 2 <= rest;
+        }
+    }
+    false
+}
+
+// A term whose numbers behind the scale are short.
+fn short_head(roll: &[u8], scale: u32, at: usize) -> Head
+    requires { ⌜ ShortRest (now roll) at ⌝ }
+    ensures { λ r. ⌜ r ≡ shortHead (now (roll .entry)) scale at ⌝ }
+{
+    let count = wide(roll[at + 1]) as usize;
+    Head {
+        scale,
+        boys: wide(roll[at]),
+        from: at + 2,
+        end: at + 2 + count,
+    }
+}
+
+// A term's numbers, and where its prefactors stand; most have a short way behind the scale.
+fn head(roll: &[u8], at: usize) -> Head
+    ensures { λ r. ⌜ r ≡ headAt (now (roll .entry)) at ⌝ }
+{
+    let read = number::read(roll, at);
+    if let Number::Is(scale, next) = read {
+        if is_short(roll, next) {
+            return short_head(roll, scale, next);
+        }
+    }
+    head_at(roll, at)
+}
+
 // How many bytes a term takes in form 2.
 fn length2(scale: u32, boys: u32, shared: u32, further: u32) -> usize
     requires { ⌜ further ≤ mostL·any ⌝ }
@@ -66,7 +118,7 @@ fn terms_size(roll: &[u8], at: usize, terms: u32) -> usize
     let mut left = terms;
     let mut size = 0;
     while 0 < left {
-        let h = head_at(roll, place);
+        let h = head(roll, place);
         let n = alike(roll, from, end, h.from, h.end);
         let further = h.end - h.from - n;
         size += length2(h.scale, h.boys, n as u32, further as u32);
@@ -90,7 +142,7 @@ fn put_terms(out: &mut [u8], start: usize, roll: &[u8], at: usize, terms: u32) -
     let mut left = terms;
     let mut to = start;
     while 0 < left {
-        let h = head_at(roll, place);
+        let h = head(roll, place);
         let n = alike(roll, from, end, h.from, h.end);
         from = h.from;
         end = h.end;

@@ -1,15 +1,16 @@
 -- Inside the crate: bytes that are put down one after the other, and what a move writes of a roll that has been judged.
 use Prim.Native.Nat.{ℕ, zero, suc, _+_, _≤_}
 use mathlib.Core.Path.{_≡_}
+use mathlib.Core.Bool.{true}
 use mathlib.Core.List.{List, [], _∷_, _++_}
-use lib.ListN.{length, take, drop}
+use lib.ListN.{length, getD, take, drop}
 use lib.Seq.{sets}
 use Rattle.kind.specs.Limits.{mostL·any}
 use Rattle.kind.specs.Kinds.{kindOf, numberOf, mostL}
 use Rattle.kind.specs.declared.Kind.{Kind}
 use Rattle.kind.specs.declared.Kind.the-variants.{Coulomb}
 use Rattle.kind.specs.declared.Named.the-variants as named
-use Rattle.number.specs.Numbers.{bytesOf, lengthOf, Bytes}
+use Rattle.number.specs.Numbers.{oneByte, bytesOf, lengthOf, Bytes}
 use Rattle.term.specs.Terms.{Term}
 use Rattle.roll.specs.declared.again.Head.{Head}
 use Rattle.roll.specs.declared.header.Opened.{Opened}
@@ -64,6 +65,16 @@ SmallAgain s place (suc left) = (headAt s place .end ≤ headAt s place .from + 
 pub record AgainMay (s : List ℕ) (place left : ℕ) : Type 0 where
   pub inside : place ≤ length s
   pub small : SmallAgain s place left
+
+-- a Boys order and a count of one byte each, and the prefactors end inside the roll
+pub record ShortRest (s : List ℕ) (at : ℕ) : Type 0 where
+  pub boys : oneByte (getD s at 0) ≡ true
+  pub count : oneByte (getD s (at + 1) 0) ≡ true
+  pub inside : at + 2 + getD s (at + 1) 0 ≤ length s
+
+-- a term of such numbers behind its scale
+abbrev pub shortHead : List ℕ → ℕ → ℕ → Head
+shortHead s scale at = record { scale = scale; boys = getD s at 0; from = at + 2; end = at + 2 + getD s (at + 1) 0 }
 
 -- two parts of a roll
 pub record PartsMay (s : List ℕ) (a b c d : ℕ) : Type 0 where

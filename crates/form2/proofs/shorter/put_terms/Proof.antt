@@ -14,29 +14,29 @@ abbrev μ-loop : tie.MeasureT-loop
 loop-holds : tie.Need-loop-holds Inv-loop μ-loop
 loop-holds c = search writing2-first
 
-head-at-requires : tie.Need-head-at-requires Inv-loop μ-loop
-head-at-requires c κs = search needs
+head-requires : tie.Need-head-requires Inv-loop μ-loop
+head-requires c κs = search needs
 
 alike-requires : tie.Need-alike-requires Inv-loop μ-loop
 alike-requires c κs = search writing2-parts
 
 cast-put-term2 : tie.Need-cast-put-term2 Inv-loop μ-loop
-cast-put-term2 c = omega (arith, write-shared _ _ _ _ _ _ _ _ _ _ _ _ _ (c .before .before .before .before .loop .inv) (c .before .before .before .loop-test .taken) (c .before .before .head-at .ensures) (c .before .alike .ensures), write-few _ _ _ _ _ _ _ _ _ _ _ _ _ (c .before .before .before .before .loop .inv) (c .before .before .before .loop-test .taken) (c .before .before .head-at .ensures) (c .before .alike .ensures), write-in _ _ _ _ _ _ _ _ _ _ _ _ _ (c .before .before .before .before .loop .inv) (c .before .before .before .loop-test .taken) (c .before .before .head-at .ensures) (c .before .alike .ensures))
+cast-put-term2 c = omega (arith, write-shared _ _ _ _ _ _ _ _ _ _ _ _ _ (c .before .before .before .before .loop .inv) (c .before .before .before .loop-test .taken) (c .before .before .head .ensures) (c .before .alike .ensures), write-few _ _ _ _ _ _ _ _ _ _ _ _ _ (c .before .before .before .before .loop .inv) (c .before .before .before .loop-test .taken) (c .before .before .head .ensures) (c .before .alike .ensures), write-in _ _ _ _ _ _ _ _ _ _ _ _ _ (c .before .before .before .before .loop .inv) (c .before .before .before .loop-test .taken) (c .before .before .head .ensures) (c .before .alike .ensures))
 
 add-put-term2 : tie.Need-add-put-term2 Inv-loop μ-loop
-add-put-term2 c = omega (arith, write-shared _ _ _ _ _ _ _ _ _ _ _ _ _ (c .before .before .before .before .loop .inv) (c .before .before .before .loop-test .taken) (c .before .before .head-at .ensures) (c .before .alike .ensures), write-few _ _ _ _ _ _ _ _ _ _ _ _ _ (c .before .before .before .before .loop .inv) (c .before .before .before .loop-test .taken) (c .before .before .head-at .ensures) (c .before .alike .ensures), write-in _ _ _ _ _ _ _ _ _ _ _ _ _ (c .before .before .before .before .loop .inv) (c .before .before .before .loop-test .taken) (c .before .before .head-at .ensures) (c .before .alike .ensures))
+add-put-term2 c = omega (arith, write-shared _ _ _ _ _ _ _ _ _ _ _ _ _ (c .before .before .before .before .loop .inv) (c .before .before .before .loop-test .taken) (c .before .before .head .ensures) (c .before .alike .ensures), write-few _ _ _ _ _ _ _ _ _ _ _ _ _ (c .before .before .before .before .loop .inv) (c .before .before .before .loop-test .taken) (c .before .before .head .ensures) (c .before .alike .ensures), write-in _ _ _ _ _ _ _ _ _ _ _ _ _ (c .before .before .before .before .loop .inv) (c .before .before .before .loop-test .taken) (c .before .before .head .ensures) (c .before .alike .ensures))
 
 sub-put-term2 : tie.Need-sub-put-term2 Inv-loop μ-loop
-sub-put-term2 c = omega (arith, write-shared _ _ _ _ _ _ _ _ _ _ _ _ _ (c .before .before .before .before .loop .inv) (c .before .before .before .loop-test .taken) (c .before .before .head-at .ensures) (c .before .alike .ensures), write-few _ _ _ _ _ _ _ _ _ _ _ _ _ (c .before .before .before .before .loop .inv) (c .before .before .before .loop-test .taken) (c .before .before .head-at .ensures) (c .before .alike .ensures), write-in _ _ _ _ _ _ _ _ _ _ _ _ _ (c .before .before .before .before .loop .inv) (c .before .before .before .loop-test .taken) (c .before .before .head-at .ensures) (c .before .alike .ensures))
+sub-put-term2 c = omega (arith, write-shared _ _ _ _ _ _ _ _ _ _ _ _ _ (c .before .before .before .before .loop .inv) (c .before .before .before .loop-test .taken) (c .before .before .head .ensures) (c .before .alike .ensures), write-few _ _ _ _ _ _ _ _ _ _ _ _ _ (c .before .before .before .before .loop .inv) (c .before .before .before .loop-test .taken) (c .before .before .head .ensures) (c .before .alike .ensures), write-in _ _ _ _ _ _ _ _ _ _ _ _ _ (c .before .before .before .before .loop .inv) (c .before .before .before .loop-test .taken) (c .before .before .head .ensures) (c .before .alike .ensures))
 
 part-put-term2-start : tie.Need-part-put-term2-start Inv-loop μ-loop
-part-put-term2-start c = omega (arith, write-shared _ _ _ _ _ _ _ _ _ _ _ _ _ (c .before .before .before .before .loop .inv) (c .before .before .before .loop-test .taken) (c .before .before .head-at .ensures) (c .before .alike .ensures), write-few _ _ _ _ _ _ _ _ _ _ _ _ _ (c .before .before .before .before .loop .inv) (c .before .before .before .loop-test .taken) (c .before .before .head-at .ensures) (c .before .alike .ensures), write-in _ _ _ _ _ _ _ _ _ _ _ _ _ (c .before .before .before .before .loop .inv) (c .before .before .before .loop-test .taken) (c .before .before .head-at .ensures) (c .before .alike .ensures))
+part-put-term2-start c = omega (arith, write-shared _ _ _ _ _ _ _ _ _ _ _ _ _ (c .before .before .before .before .loop .inv) (c .before .before .before .loop-test .taken) (c .before .before .head .ensures) (c .before .alike .ensures), write-few _ _ _ _ _ _ _ _ _ _ _ _ _ (c .before .before .before .before .loop .inv) (c .before .before .before .loop-test .taken) (c .before .before .head .ensures) (c .before .alike .ensures), write-in _ _ _ _ _ _ _ _ _ _ _ _ _ (c .before .before .before .before .loop .inv) (c .before .before .before .loop-test .taken) (c .before .before .head .ensures) (c .before .alike .ensures))
 
 part-put-term2-end : tie.Need-part-put-term2-end Inv-loop μ-loop
-part-put-term2-end c = omega (arith, write-shared _ _ _ _ _ _ _ _ _ _ _ _ _ (c .before .before .before .before .loop .inv) (c .before .before .before .loop-test .taken) (c .before .before .head-at .ensures) (c .before .alike .ensures), write-few _ _ _ _ _ _ _ _ _ _ _ _ _ (c .before .before .before .before .loop .inv) (c .before .before .before .loop-test .taken) (c .before .before .head-at .ensures) (c .before .alike .ensures), write-in _ _ _ _ _ _ _ _ _ _ _ _ _ (c .before .before .before .before .loop .inv) (c .before .before .before .loop-test .taken) (c .before .before .head-at .ensures) (c .before .alike .ensures))
+part-put-term2-end c = omega (arith, write-shared _ _ _ _ _ _ _ _ _ _ _ _ _ (c .before .before .before .before .loop .inv) (c .before .before .before .loop-test .taken) (c .before .before .head .ensures) (c .before .alike .ensures), write-few _ _ _ _ _ _ _ _ _ _ _ _ _ (c .before .before .before .before .loop .inv) (c .before .before .before .loop-test .taken) (c .before .before .head .ensures) (c .before .alike .ensures), write-in _ _ _ _ _ _ _ _ _ _ _ _ _ (c .before .before .before .before .loop .inv) (c .before .before .before .loop-test .taken) (c .before .before .head .ensures) (c .before .alike .ensures))
 
 put-term2-requires : tie.Need-put-term2-requires Inv-loop μ-loop
-put-term2-requires c κs = (write-short _ _ _ _ _ _ _ _ _ _ _ _ _ (c .before .before .before .before .before .loop .inv) (c .before .before .before .before .loop-test .taken) (c .before .before .before .head-at .ensures) (c .before .before .alike .ensures), write-room _ _ _ _ _ _ _ _ _ _ _ _ _ (c .before .before .before .before .before .loop .inv) (c .before .before .before .before .loop-test .taken) (c .before .before .before .head-at .ensures) (c .before .before .alike .ensures))
+put-term2-requires c κs = (write-short _ _ _ _ _ _ _ _ _ _ _ _ _ (c .before .before .before .before .before .loop .inv) (c .before .before .before .before .loop-test .taken) (c .before .before .before .head .ensures) (c .before .before .alike .ensures), write-room _ _ _ _ _ _ _ _ _ _ _ _ _ (c .before .before .before .before .before .loop .inv) (c .before .before .before .before .loop-test .taken) (c .before .before .before .head .ensures) (c .before .before .alike .ensures))
 
 sub-left : tie.Need-sub-left Inv-loop μ-loop
 sub-left c = search needs
@@ -60,7 +60,7 @@ put-terms-spec =
     Inv-loop
     μ-loop
     loop-holds
-    head-at-requires
+    head-requires
     alike-requires
     cast-put-term2
     add-put-term2
