@@ -13,6 +13,7 @@ pub mod MovesLaws
 pub mod Only
 pub mod Places
 pub mod PutsLaws
+pub mod QuickLaws
 pub mod Round
 pub mod Sharing
 pub mod ShorterLaws

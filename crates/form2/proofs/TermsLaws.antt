@@ -149,7 +149,7 @@ goes-is values count from p there long few inside is =
     rw (drop-cons (take count values) from 0 room) (ap (λ (q : ℕ). eqb q p) same)
 
 -- whether what stands behind the shared ones is what follows in the term before
-follows : (values : List ℕ) (count from p there : ℕ) → length values ≡ mostL·any → count ≤ mostL·any → there ≡ getD values from 0 → goesOn (drop from (take count values)) p ≡ (ltb from count && eqb there p)
+pub follows : (values : List ℕ) (count from p there : ℕ) → length values ≡ mostL·any → count ≤ mostL·any → there ≡ getD values from 0 → goesOn (drop from (take count values)) p ≡ (ltb from count && eqb there p)
 follows values count from p there long few is = by (ltb from count) refl
   where
     by : (b : Bool) → ltb from count ≡ b → goesOn (drop from (take count values)) p ≡ (b && eqb there p)

@@ -2,22 +2,32 @@
 ghost use mathlib.Core.Path.{_≡_};
 ghost use mathlib.Core.List.{[]};
 ghost use Prim.Native.Nat.{_≤_};
+ghost use lib.ListN.{length, take};
 ghost use Rattle.kind.specs.Limits.{mostL·any};
 ghost use Rattle.kind.specs.Kinds.{kindOf, mostL};
 ghost use Rattle.roll.specs.inner.Judged.{Honest};
-ghost use Rattle.form2.specs.Reading.{termsAfter};
+ghost use Rattle.form2.specs.Reading.{frontAt, termAfter, termsAfter};
 ghost use Rattle.form2.specs.Header.{check2Of};
-ghost use Rattle.form2.specs.inner.Held.{termLength, sizePlus, endSize, refusedSized, sizedAs, sizedOf};
+ghost use Rattle.form2.specs.inner.Held.{heldFront, AfterMay, AfterTold, termLength, sizePlus, endSize, refusedSized, sizedAs, sizedOf};
 use crate::header::Opened2;
 use crate::header::begun;
 use crate::header::header;
+use crate::quick::is_short;
+use crate::quick::place_short;
+use crate::quick::short_front;
+use crate::terms::ReadAfter;
+use crate::terms::ReadFront;
+use crate::terms::front;
+use crate::terms::no_after;
 use crate::terms::term_after;
 use kind::Kind;
 use kind::Named;
 use roll::Field;
 use roll::Opened;
 use roll::Opening;
+use roll::most_boys;
 use roll::refused_roll;
+use roll::within;
 
 // How many bytes terms take in form 1, or the first refusal.
 enum Size {
@@ -49,6 +59,55 @@ fn end_size(length: usize, place: usize, size: usize) -> Size
     Size::Refused(7, place)
 }
 
+// A term's four numbers, most by the short way; called once, so that the loop has it inside.
+fn numbers(roll: &[u8], at: usize, kind: Kind, l: u8, longest: u32) -> ReadFront
+    requires { ⌜ AfterMay kind l longest ⌝ }
+    ensures { λ r. ⌜ r ≡ heldFront (frontAt (now (roll .entry)) at kind l longest) ⌝ }
+{
+    let boys = most_boys(kind, l) as u32;
+    let most = kind.most_prefactors(l) as u32;
+    let found = within(roll, at, 1, Kind::MOST_SCALE);
+    if let Field::Is(scale, next) = found {
+        if is_short(roll, next, boys, longest, most) {
+            return short_front(roll, scale, next);
+        }
+    }
+    front(roll, at, kind, l, longest)
+}
+
+// The term at a place, as `term_after` has it, most by the short way.
+fn next_term(
+    roll: &[u8],
+    at: usize,
+    kind: Kind,
+    l: u8,
+    values: &mut [u8; Kind::PREFACTORS],
+    count: usize,
+) -> ReadAfter
+    requires { ⌜ AfterMay kind l count ⌝ }
+    requires { ⌜ length (now values) ≡ mostL·any ⌝ }
+    ensures { λ r. ⌜ AfterTold (now (values .entry)) (termAfter (now (roll .entry)) at kind l (take count (now (values .entry)))) r (now (values .exit)) ⌝ }
+{
+    let read = numbers(roll, at, kind, l, count as u32);
+    let found = read.found;
+    let shared = read.shared as usize;
+    match found {
+        Field::Is(left, next) => {
+            let table = kind.table();
+            let left = left as usize;
+            if place_short(roll, next, values, count, shared, left, table) {
+                return ReadAfter {
+                    found: Field::Is((shared + left) as u32, next + left),
+                    scale: read.scale,
+                    boys: read.boys,
+                };
+            }
+            term_after(roll, at, kind, l, values, count)
+        }
+        Field::Refused(refusal, place) => no_after(refusal, place),
+    }
+}
+
 // Goes over so many terms to the end of a roll, or to the first refusal.
 fn terms_size(roll: &[u8], at: usize, terms: u32, kind: Kind, l: u8) -> Size
     requires { ⌜ l ≤ mostL kind ⌝ }
@@ -60,7 +119,7 @@ fn terms_size(roll: &[u8], at: usize, terms: u32, kind: Kind, l: u8) -> Size
     let mut left = terms;
     let mut size = 0;
     while 0 < left {
-        let read = term_after(roll, place, kind, l, &mut values, count);
+        let read = next_term(roll, place, kind, l, &mut values, count);
         let found = read.found;
         match found {
             Field::Is(n, next) => {

@@ -5,6 +5,7 @@ mod judge;
 mod longer;
 mod moves;
 mod puts;
+mod quick;
 mod shorter;
 mod terms;
 

@@ -7,20 +7,42 @@ ghost use lib.Seq.{sets};
 ghost use Rattle.kind.specs.Kinds.{kindOf};
 ghost use Rattle.roll.specs.Bytes.{termsBytes};
 ghost use Rattle.roll.specs.inner.Judged.{termsGot};
-ghost use Rattle.form2.specs.Reading.{termsAfter, rollAt2};
+ghost use Rattle.form2.specs.Reading.{frontAt, termsAfter, rollAt2};
 ghost use Rattle.form2.specs.Moves.{inForm1, MoveTold, ToForm1Told};
+ghost use Rattle.form2.specs.inner.Held.{heldFront, AfterMay};
 ghost use Rattle.form2.specs.inner.Puts.{bytesIn, TermsMay1, May1};
 use crate::judge::judge;
 use crate::moves::Moved;
 use crate::moves::has_room;
 use crate::puts::put_head;
 use crate::puts::put_term1;
+use crate::quick::is_short;
+use crate::quick::short_front;
+use crate::terms::ReadFront;
 use crate::terms::front;
 use kind::Kind;
 use kind::Named;
 use roll::Field;
 use roll::Opened;
 use roll::Opening;
+use roll::most_boys;
+use roll::within;
+
+// A term's four numbers, most by the short way; called once, so that the loop has it inside.
+fn numbers(roll: &[u8], at: usize, kind: Kind, l: u8, longest: u32) -> ReadFront
+    requires { ⌜ AfterMay kind l longest ⌝ }
+    ensures { λ r. ⌜ r ≡ heldFront (frontAt (now (roll .entry)) at kind l longest) ⌝ }
+{
+    let boys = most_boys(kind, l) as u32;
+    let most = kind.most_prefactors(l) as u32;
+    let found = within(roll, at, 1, Kind::MOST_SCALE);
+    if let Field::Is(scale, next) = found {
+        if is_short(roll, next, boys, longest, most) {
+            return short_front(roll, scale, next);
+        }
+    }
+    front(roll, at, kind, l, longest)
+}
 
 // Writes so many terms in form 1: what a term shares with the one before is copied from where that one was written.
 fn put_terms(out: &mut [u8], start: usize, roll: &[u8], at: usize, terms: u32, kind: Kind, l: u8)
@@ -33,9 +55,9 @@ fn put_terms(out: &mut [u8], start: usize, roll: &[u8], at: usize, terms: u32, k
     let mut left = terms;
     let mut to = start;
     while 0 < left {
-        let numbers = front(roll, place, kind, l, count);
-        let found = numbers.found;
-        let shared = numbers.shared;
+        let read = numbers(roll, place, kind, l, count);
+        let found = read.found;
+        let shared = read.shared;
         match found {
             Field::Is(further, next) => {
                 place = next + further as usize;
@@ -43,8 +65,8 @@ fn put_terms(out: &mut [u8], start: usize, roll: &[u8], at: usize, terms: u32, k
                 to = put_term1(
                     out,
                     to,
-                    numbers.scale,
-                    numbers.boys,
+                    read.scale,
+                    read.boys,
                     from,
                     shared as usize,
                     &roll[next..place],

@@ -137,7 +137,7 @@ fn more(
 }
 
 // Whether a prefactor is the one that follows the first `from` in the term before, which has `count`; `there` stands behind those.
-fn goes_on(there: u32, count: usize, from: usize, prefactor: u32) -> bool
+pub(crate) fn goes_on(there: u32, count: usize, from: usize, prefactor: u32) -> bool
     ensures { λ r. ⌜ r ≡ (ltb from count && eqb there prefactor) ⌝ }
 {
     if count <= from {
@@ -177,7 +177,7 @@ fn further(
 }
 
 // What stands beside a refusal.
-fn no_after(refusal: u8, place: usize) -> ReadAfter
+pub(crate) fn no_after(refusal: u8, place: usize) -> ReadAfter
     ensures { λ r. ⌜ r ≡ heldAfter (refused refusal place) ⌝ }
 {
     ReadAfter {

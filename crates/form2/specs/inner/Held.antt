@@ -1,10 +1,10 @@
 -- Inside the crate: what each reading is as the code holds it, and the same answers made of what is held.
 use Prim.Native.Nat.{ℕ, _+_, _-_, _≤_}
 use mathlib.Core.Path.{_≡_}
-use mathlib.Core.Bool.{cond}
+use mathlib.Core.Bool.{Bool, true, false, cond}
 use mathlib.Core.List.{List, [], _++_}
 use lib.Dec.{eqb}
-use lib.ListN.{length, take, replicate}
+use lib.ListN.{length, getD, take, drop, replicate}
 use lib.Seq.{sets}
 use Rattle.kind.specs.Limits.{mostL·any, tablePlaces}
 use Rattle.kind.specs.Kinds.{mostL, mostPrefactors}
@@ -28,7 +28,7 @@ use Rattle.form2.specs.declared.judge.Size.the-variants as size
 use Rattle.form2.specs.declared.judge.Sized.{Sized}
 use Rattle.form2.specs.declared.terms.ReadFront.{ReadFront}
 use Rattle.form2.specs.declared.terms.ReadAfter.{ReadAfter}
-use Rattle.form2.specs.Reading.{Front, termsAfter, rollAt2}
+use Rattle.form2.specs.Reading.{Front, furtherAt, termsAfter, rollAt2}
 use Rattle.form2.specs.Header.{judged2}
 use Rattle.form2.specs.Cursor.{refusedStep2}
 
@@ -81,6 +81,30 @@ pub record MoreMay (from more table : ℕ) : Type 0 where
   pub room : from + more ≤ mostL·any
   pub some : 1 ≤ table
   pub most : table ≤ tablePlaces
+
+-- ---- the short way: behind the scale all numbers are one byte each
+
+-- a Boys order, a shared length and a number of further prefactors within their limits
+pub record ShortFront (s : List ℕ) (at limit longest most : ℕ) : Type 0 where
+  pub inside : at + 3 ≤ length s
+  pub boys : getD s at 0 ≤ limit
+  pub shared : getD s (at + 1) 0 ≤ longest
+  pub total : getD s (at + 1) 0 + getD s (at + 2) 0 ≤ most
+
+abbrev pub shortFront : List ℕ → ℕ → ℕ → ReadFront
+shortFront s scale at = record { found = field.Is (getD s (at + 2) 0) (at + 3); scale = scale; boys = getD s at 0; shared = getD s (at + 1) 0 }
+
+-- further prefactors that may be put into their places
+pub record ShortMay (values : List ℕ) (count from left table : ℕ) : Type 0 where
+  pub more : MoreMay from left table
+  pub few : count ≤ mostL·any
+  pub long : length values ≡ mostL·any
+
+-- they stand in their places, or nothing has changed
+pub record ShortTold (s : List ℕ) (at : ℕ) (values : List ℕ) (count from left table : ℕ) (r : Bool) (after : List ℕ) : Type 0 where
+  pub placed : r ≡ true → MoreTold values from (furtherAt s at left table (drop from (take count values))) (field.Is (from + left) (at + left)) after
+  pub inside : r ≡ true → at + left ≤ length s
+  pub kept : r ≡ false → after ≡ values
 
 -- ---- a step
 

@@ -14,8 +14,8 @@ abbrev μ-loop : tie.MeasureT-loop
 loop-holds : tie.Need-loop-holds Inv-loop μ-loop
 loop-holds c = search sizing-first
 
-term-after-requires : tie.Need-term-after-requires Inv-loop μ-loop
-term-after-requires c κs = (search sizing-may, search sizing-long)
+next-term-requires : tie.Need-next-term-requires Inv-loop μ-loop
+next-term-requires c κs = (search sizing-may, search sizing-long)
 
 enum-known-found : tie.Need-enum-known-found Inv-loop μ-loop
 enum-known-found c = search needs
@@ -25,7 +25,7 @@ term-length-requires c κs = search read-few
 
 add-size : tie.Need-add-size Inv-loop μ-loop
 add-size c =
-    omega (arith, sizing-fits _ _ _ _ _ _ _ _ _ _ _ _ (c .before .before .before .before .before .before .before .loop .inv) (c .before .before .before .before .before .before .loop-test .taken) (c .before .before .before .before .term-after .ensures) _ _ _ (c .before .before .found .given .1) (c .term-length .ensures))
+    omega (arith, sizing-fits _ _ _ _ _ _ _ _ _ _ _ _ (c .before .before .before .before .before .before .before .loop .inv) (c .before .before .before .before .before .before .loop-test .taken) (c .before .before .before .before .next-term .ensures) _ _ _ (c .before .before .found .given .1) (c .term-length .ensures))
 
 cast-count : tie.Need-cast-count Inv-loop μ-loop
 cast-count c = search needs
@@ -58,7 +58,7 @@ terms-size-spec =
     Inv-loop
     μ-loop
     loop-holds
-    term-after-requires
+    next-term-requires
     enum-known-found
     term-length-requires
     add-size

@@ -14,8 +14,8 @@ abbrev μ-loop : tie.MeasureT-loop
 loop-holds : tie.Need-loop-holds Inv-loop μ-loop
 loop-holds c = search writing1-first
 
-front-requires : tie.Need-front-requires Inv-loop μ-loop
-front-requires c κs = search writing1-may
+numbers-requires : tie.Need-numbers-requires Inv-loop μ-loop
+numbers-requires c κs = search writing1-may
 
 enum-known-found : tie.Need-enum-known-found Inv-loop μ-loop
 enum-known-found c = search needs
@@ -24,10 +24,10 @@ cast-place : tie.Need-cast-place Inv-loop μ-loop
 cast-place c = search needs
 
 add-place : tie.Need-add-place Inv-loop μ-loop
-add-place c = omega (arith, write1-inside _ _ _ _ _ _ _ _ _ _ _ _ _ (c .before .before .before .before .before .loop .inv) _ (c .before .before .before .before .loop-test .taken) (c .before .before .before .front .ensures) _ _ (c .before .found .given .1))
+add-place c = omega (arith, write1-inside _ _ _ _ _ _ _ _ _ _ _ _ _ (c .before .before .before .before .before .loop .inv) _ (c .before .before .before .before .loop-test .taken) (c .before .before .before .numbers .ensures) _ _ (c .before .found .given .1))
 
 add-count : tie.Need-add-count Inv-loop μ-loop
-add-count c = omega (arith, write1-few _ _ _ _ _ _ _ _ _ _ _ _ _ (c .before .before .before .before .before .loop .inv) _ (c .before .before .before .before .loop-test .taken) (c .before .before .before .front .ensures) _ _ (c .before .found .given .1))
+add-count c = omega (arith, write1-few _ _ _ _ _ _ _ _ _ _ _ _ _ (c .before .before .before .before .before .loop .inv) _ (c .before .before .before .before .loop-test .taken) (c .before .before .before .numbers .ensures) _ _ (c .before .found .given .1))
 
 cast-put-term1 : tie.Need-cast-put-term1 Inv-loop μ-loop
 cast-put-term1 c = search needs
@@ -39,7 +39,7 @@ part-put-term1-start : tie.Need-part-put-term1-start Inv-loop μ-loop
 part-put-term1-start c = search needs
 
 part-put-term1-end : tie.Need-part-put-term1-end Inv-loop μ-loop
-part-put-term1-end c = omega (arith, write1-inside _ _ _ _ _ _ _ _ _ _ _ _ _ (c .before .before .before .before .before .before .loop .inv) _ (c .before .before .before .before .before .loop-test .taken) (c .before .before .before .before .front .ensures) _ _ (c .before .before .found .given .1))
+part-put-term1-end c = omega (arith, write1-inside _ _ _ _ _ _ _ _ _ _ _ _ _ (c .before .before .before .before .before .before .loop .inv) _ (c .before .before .before .before .before .loop-test .taken) (c .before .before .before .before .numbers .ensures) _ _ (c .before .before .found .given .1))
 
 put-term1-requires : tie.Need-put-term1-requires Inv-loop μ-loop
 put-term1-requires c κs = search write1-may
@@ -48,7 +48,7 @@ cast-from : tie.Need-cast-from Inv-loop μ-loop
 cast-from c = search needs
 
 sub-from : tie.Need-sub-from Inv-loop μ-loop
-sub-from c = omega (arith, write1-back _ _ _ _ _ _ _ _ _ _ _ _ _ (c .before .before .before .before .before .before .before .before .before .before .loop .inv) _ (c .before .before .before .before .before .before .before .before .before .loop-test .taken) (c .before .before .before .before .before .before .before .before .front .ensures) _ _ (c .before .before .before .before .before .before .found .given .1) _ _ (c .before .before .put-term1 .ensures))
+sub-from c = omega (arith, write1-back _ _ _ _ _ _ _ _ _ _ _ _ _ (c .before .before .before .before .before .before .before .before .before .before .loop .inv) _ (c .before .before .before .before .before .before .before .before .before .loop-test .taken) (c .before .before .before .before .before .before .before .before .numbers .ensures) _ _ (c .before .before .before .before .before .before .found .given .1) _ _ (c .before .before .put-term1 .ensures))
 
 enum-told : tie.Need-enum-told Inv-loop μ-loop
 enum-told c = search needs
@@ -81,7 +81,7 @@ put-terms-spec =
     Inv-loop
     μ-loop
     loop-holds
-    front-requires
+    numbers-requires
     enum-known-found
     cast-place
     add-place
