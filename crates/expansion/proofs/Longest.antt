@@ -13,7 +13,7 @@ use Rattle.kind.specs.Limits.{mostOrder, mostTerms, mostScale, requestOrders}
 use Rattle.kind.specs.Kinds.{numberOf, ordersOf, mostL, mostPrefactors, tableOf}
 use Rattle.kind.proofs.Within.{number-within, orders-within, l-within, table-within}
 use Rattle.term.specs.Terms.{Term}
-use Rattle.number.specs.Numbers.{bytesOf, lengthOf}
+use Rattle.number.specs.Numbers.{groups, bytesOf, lengthOf}
 use Rattle.roll.specs.Bytes.{numbersBytes, termBytes, termsBytes, rollBytes}
 use Rattle.roll.specs.Reading.{Roll}
 use Rattle.roll.specs.Fits.{CentresFit, Below, TermFits, TermsFit, RollFits}

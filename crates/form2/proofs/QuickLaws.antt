@@ -128,6 +128,9 @@ module _ (s : List ℕ) (at : ℕ) (before : List ℕ) (from count : ℕ) where
                 ∙ ap (λ (n : ℕ). sets before from (take n bytes)) (sym (add-one i));
           }
 
+      pub placed-never : (last b : ℕ) → SmallBytes s at (at + count) last → i < count → b ≡ getD s (at + i) 0 → last < b → values ≡ sets before from (between s at (at + count))
+      placed-never last b small less byte over = absurd (let most = small .each (at + i) (omega arith) (omega arith) in omega arith)
+
       pub placed-done : count ≤ i → values ≡ sets before from (between s at (at + count))
       placed-done done = p .stored ∙ ap (sets before from) (take-all i (between s at (at + count)) (omega (arith, part-long)))
 
@@ -161,6 +164,10 @@ module _ (s : List ℕ) (at : ℕ) (values : List ℕ) (count from left table : 
         inside = λ e. omega arith;
         kept = λ e. absurd (true≢false e);
       }
+
+-- bytes that were looked at may be copied
+pub short-bytes : (s : List ℕ) (at left last : ℕ) (t : Bool) → (t ≡ true → SmallBytes s at (at + left) last) → t ≡ true → SmallBytes s at (at + left) last
+short-bytes s at left last t so on = so on
 
 pub short-in : (s : List ℕ) (at : ℕ) (values : List ℕ) (count from left table : ℕ) (r : Bool) (after : List ℕ) → ShortTold s at values count from left table r after → r ≡ true → at + left ≤ length s
 short-in s at values count from left table r after told on = told .inside on

@@ -66,20 +66,26 @@ fn all_small(roll: &[u8], at: usize, end: usize, last: u32) -> bool
     true
 }
 
-// Copies bytes into the places from `from` on.
+// Copies bytes that are at most `last` into the places from `from` on: they are few, and one by one they cost less than a call that copies.
 fn place_bytes(
     roll: &[u8],
     at: usize,
     values: &mut [u8; Kind::PREFACTORS],
     from: usize,
     count: usize,
+    last: u32,
 )
     requires { ⌜ (at + count ≤ length (now roll)) × (from + count ≤ mostL·any) ⌝ }
+    requires { ⌜ SmallBytes (now roll) at (at + count) last ⌝ }
     ensures { λ _. ⌜ now (values .exit) ≡ sets (now (values .entry)) from (between (now (roll .entry)) at (at + count)) ⌝ }
 {
     let mut i = 0;
     while i < count {
-        values[from + i] = roll[at + i];
+        let b = roll[at + i];
+        if last < wide(b) {
+            return;
+        }
+        values[from + i] = b;
         i += 1;
     }
 }
@@ -106,12 +112,13 @@ pub(crate) fn place_short(
     if roll.len() - at < left {
         return false;
     }
-    if all_small(roll, at, at + left, (table - 1) as u32) {
+    let last = (table - 1) as u32;
+    if all_small(roll, at, at + left, last) {
         let there = wide(values[from]);
         if goes_on(there, count, from, wide(roll[at])) {
             return false;
         }
-        place_bytes(roll, at, values, from, left);
+        place_bytes(roll, at, values, from, left, last);
         return true;
     }
     false

@@ -85,7 +85,7 @@ fn short_head(roll: &[u8], scale: u32, at: usize) -> Head
     }
 }
 
-// A term's numbers, and where its prefactors stand; most have a short way behind the scale.
+// A term's numbers, and where its prefactors stand, most by a short way behind the scale; called once, so that the loop has it inside.
 fn head(roll: &[u8], at: usize) -> Head
     ensures { λ r. ⌜ r ≡ headAt (now (roll .entry)) at ⌝ }
 {
@@ -118,7 +118,7 @@ fn terms_size(roll: &[u8], at: usize, terms: u32) -> usize
     let mut left = terms;
     let mut size = 0;
     while 0 < left {
-        let h = head(roll, place);
+        let h = head_at(roll, place);
         let n = alike(roll, from, end, h.from, h.end);
         let further = h.end - h.from - n;
         size += length2(h.scale, h.boys, n as u32, further as u32);

@@ -1,6 +1,6 @@
 -- `place_short` meets its contract: a law for each way out. Assumes nothing.
 use borrow.Author.Needs.{needs}
-use Rattle.form2.proofs.QuickLaws.{short-none, short-not, short-all}
+use Rattle.form2.proofs.QuickLaws.{short-none, short-not, short-bytes, short-all}
 use Rattle.form2.proofs.quick.place_short.Statement.{statement}
 use Rattle.form2.proofs.quick.place_short.Tie as tie
 
@@ -16,14 +16,14 @@ sub-if3 c = search needs
 returns-3 : tie.Need-returns-3
 returns-3 c = search short-not
 
+sub-last : tie.Need-sub-last
+sub-last c = search needs
+
+cast-last : tie.Need-cast-last
+cast-last c = search needs
+
 add-all-small : tie.Need-add-all-small
 add-all-small c = search needs
-
-sub-all-small : tie.Need-sub-all-small
-sub-all-small c = search needs
-
-cast-all-small : tie.Need-cast-all-small
-cast-all-small c = search needs
 
 all-small-requires : tie.Need-all-small-requires
 all-small-requires c κs = search needs
@@ -47,7 +47,7 @@ returns-4 : tie.Need-returns-4
 returns-4 c = search short-not
 
 place-bytes-requires : tie.Need-place-bytes-requires
-place-bytes-requires c κs = search needs
+place-bytes-requires c κs = (search needs, search short-bytes)
 
 returns-5 : tie.Need-returns-5
 returns-5 c = search short-all
@@ -63,9 +63,9 @@ place-short-spec =
     returns-2
     sub-if3
     returns-3
+    sub-last
+    cast-last
     add-all-small
-    sub-all-small
-    cast-all-small
     all-small-requires
     element-copy-out-wide
     wide-requires

@@ -14,29 +14,29 @@ abbrev μ-loop : tie.MeasureT-loop
 loop-holds : tie.Need-loop-holds Inv-loop μ-loop
 loop-holds c = search sizing2-first
 
-head-requires : tie.Need-head-requires Inv-loop μ-loop
-head-requires c κs = search needs
+head-at-requires : tie.Need-head-at-requires Inv-loop μ-loop
+head-at-requires c κs = search needs
 
 alike-requires : tie.Need-alike-requires Inv-loop μ-loop
 alike-requires c κs = search sizing2-parts
 
 sub-further : tie.Need-sub-further Inv-loop μ-loop
-sub-further c = omega (arith, size-shared _ _ _ _ _ _ _ _ _ _ (c .before .before .before .before .loop .inv) (c .before .before .before .loop-test .taken) (c .before .before .head .ensures) (c .before .alike .ensures), size-few _ _ _ _ _ _ _ _ _ _ (c .before .before .before .before .loop .inv) (c .before .before .before .loop-test .taken) (c .before .before .head .ensures) (c .before .alike .ensures))
+sub-further c = omega (arith, size-shared _ _ _ _ _ _ _ _ _ _ (c .before .before .before .before .loop .inv) (c .before .before .before .loop-test .taken) (c .before .before .head-at .ensures) (c .before .alike .ensures), size-few _ _ _ _ _ _ _ _ _ _ (c .before .before .before .before .loop .inv) (c .before .before .before .loop-test .taken) (c .before .before .head-at .ensures) (c .before .alike .ensures))
 
 sub-further-2 : tie.Need-sub-further-2 Inv-loop μ-loop
-sub-further-2 c = omega (arith, size-shared _ _ _ _ _ _ _ _ _ _ (c .before .before .before .before .loop .inv) (c .before .before .before .loop-test .taken) (c .before .before .head .ensures) (c .before .alike .ensures), size-few _ _ _ _ _ _ _ _ _ _ (c .before .before .before .before .loop .inv) (c .before .before .before .loop-test .taken) (c .before .before .head .ensures) (c .before .alike .ensures))
+sub-further-2 c = omega (arith, size-shared _ _ _ _ _ _ _ _ _ _ (c .before .before .before .before .loop .inv) (c .before .before .before .loop-test .taken) (c .before .before .head-at .ensures) (c .before .alike .ensures), size-few _ _ _ _ _ _ _ _ _ _ (c .before .before .before .before .loop .inv) (c .before .before .before .loop-test .taken) (c .before .before .head-at .ensures) (c .before .alike .ensures))
 
 cast-length2 : tie.Need-cast-length2 Inv-loop μ-loop
-cast-length2 c = omega (arith, size-shared _ _ _ _ _ _ _ _ _ _ (c .before .before .before .before .loop .inv) (c .before .before .before .loop-test .taken) (c .before .before .head .ensures) (c .before .alike .ensures), size-few _ _ _ _ _ _ _ _ _ _ (c .before .before .before .before .loop .inv) (c .before .before .before .loop-test .taken) (c .before .before .head .ensures) (c .before .alike .ensures))
+cast-length2 c = omega (arith, size-shared _ _ _ _ _ _ _ _ _ _ (c .before .before .before .before .loop .inv) (c .before .before .before .loop-test .taken) (c .before .before .head-at .ensures) (c .before .alike .ensures), size-few _ _ _ _ _ _ _ _ _ _ (c .before .before .before .before .loop .inv) (c .before .before .before .loop-test .taken) (c .before .before .head-at .ensures) (c .before .alike .ensures))
 
 cast-length2-2 : tie.Need-cast-length2-2 Inv-loop μ-loop
-cast-length2-2 c = omega (arith, size-shared _ _ _ _ _ _ _ _ _ _ (c .before .before .before .before .loop .inv) (c .before .before .before .loop-test .taken) (c .before .before .head .ensures) (c .before .alike .ensures), size-few _ _ _ _ _ _ _ _ _ _ (c .before .before .before .before .loop .inv) (c .before .before .before .loop-test .taken) (c .before .before .head .ensures) (c .before .alike .ensures))
+cast-length2-2 c = omega (arith, size-shared _ _ _ _ _ _ _ _ _ _ (c .before .before .before .before .loop .inv) (c .before .before .before .loop-test .taken) (c .before .before .head-at .ensures) (c .before .alike .ensures), size-few _ _ _ _ _ _ _ _ _ _ (c .before .before .before .before .loop .inv) (c .before .before .before .loop-test .taken) (c .before .before .head-at .ensures) (c .before .alike .ensures))
 
 length2-requires : tie.Need-length2-requires Inv-loop μ-loop
-length2-requires c κs = omega (arith, size-shared _ _ _ _ _ _ _ _ _ _ (c .before .before .before .before .loop .inv) (c .before .before .before .loop-test .taken) (c .before .before .head .ensures) (c .before .alike .ensures), size-few _ _ _ _ _ _ _ _ _ _ (c .before .before .before .before .loop .inv) (c .before .before .before .loop-test .taken) (c .before .before .head .ensures) (c .before .alike .ensures))
+length2-requires c κs = omega (arith, size-shared _ _ _ _ _ _ _ _ _ _ (c .before .before .before .before .loop .inv) (c .before .before .before .loop-test .taken) (c .before .before .head-at .ensures) (c .before .alike .ensures), size-few _ _ _ _ _ _ _ _ _ _ (c .before .before .before .before .loop .inv) (c .before .before .before .loop-test .taken) (c .before .before .head-at .ensures) (c .before .alike .ensures))
 
 add-size : tie.Need-add-size Inv-loop μ-loop
-add-size c = omega (arith, size-fits _ _ _ _ _ _ _ _ _ _ (c .before .before .before .before .before .loop .inv) (c .before .before .before .before .loop-test .taken) (c .before .before .before .head .ensures) (c .before .before .alike .ensures) _ (c .length2 .ensures))
+add-size c = omega (arith, size-fits _ _ _ _ _ _ _ _ _ _ (c .before .before .before .before .before .loop .inv) (c .before .before .before .before .loop-test .taken) (c .before .before .before .head-at .ensures) (c .before .before .alike .ensures) _ (c .length2 .ensures))
 
 sub-left : tie.Need-sub-left Inv-loop μ-loop
 sub-left c = search needs
@@ -57,7 +57,7 @@ terms-size-spec =
     Inv-loop
     μ-loop
     loop-holds
-    head-requires
+    head-at-requires
     alike-requires
     sub-further
     sub-further-2
