@@ -30,7 +30,7 @@ isGrouped Nuclear = false
 isGrouped Moment = false
 isGrouped Coulomb = true
 
--- the buffer has 40 bytes a term
+-- the buffer has 40 bytes a term (D-97)
 abbrev pub enough : ℕ → Roll → Bool
 enough size r = leb (entryRoom * length (r .terms)) size
 
