@@ -3,6 +3,7 @@ pub mod LayingLaws
 pub mod Only
 pub mod PutsLaws
 pub mod Rearranged
+pub mod RestoringLaws
 pub mod Rows
 pub mod SameBits
 pub mod SummingLaws

@@ -1,3 +1,4 @@
 pub mod Grouping
 pub mod Evaluation
+pub mod Restoring
 pub mod inner

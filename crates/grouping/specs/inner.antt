@@ -1,2 +1,3 @@
 pub mod Grouped
+pub mod Held
 pub mod Laying

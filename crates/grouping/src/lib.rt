@@ -1,4 +1,4 @@
-// The evaluation that is lent a grouping buffer: a Coulomb roll's terms are laid into it by Boys order and summed in one pass over it.
+// The evaluation that is lent a grouping buffer: a Coulomb roll's terms are laid into it by Boys order and summed in one pass over it; and its terms by number.
 ghost use mathlib.Core.Path.{_≡_};
 ghost use Rattle.grouping.specs.Evaluation.{GroupedTold};
 ghost use Rattle.grouping.specs.inner.Grouped.{tableOf, barsOf, summedOf, GroupsMay, InGroupsTold, CursorMay, CursorTold};
@@ -13,7 +13,11 @@ use roll::Opening;
 use summing::sum;
 
 mod laying;
+mod restoring;
 mod summing;
+
+pub use restoring::Restored;
+pub use restoring::grouped_term;
 
 // Bytes of the buffer for each term.
 const ENTRY: usize = 40;
