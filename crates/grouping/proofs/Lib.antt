@@ -1,6 +1,7 @@
 pub mod GroupedLaws
 pub mod LayingLaws
 pub mod Only
+pub mod OwnList
 pub mod PutsLaws
 pub mod Rearranged
 pub mod RestoringLaws
