@@ -117,6 +117,13 @@ typedef struct {
     uint8_t boys, count, prefactors[XEW_PREFACTORS], found, refusal; /* found: 0 refused, 1 term, 2 end */
 } xew_step;
 
+/* A term of a grouping, as in xew_step. */
+typedef struct {
+    size_t place;
+    uint32_t scale;
+    uint8_t boys, count, prefactors[XEW_PREFACTORS], refusal;
+} xew_restored;
+
 /* Where a reader of a form 2 roll stands: a cursor, whose kind is 0 to 4, and the prefactors of the term before in the
  * first count places of earlier, zeros after them; none before the first term. */
 typedef struct {
@@ -241,6 +248,14 @@ xew_value xew_evaluate(const uint8_t *roll, size_t roll_len, xew_centre a, xew_c
 xew_value xew_evaluate_grouped(const uint8_t *roll, size_t roll_len, xew_centre a, xew_centre b, xew_centre c,
                                xew_centre d, double aux, const double *boys, size_t boys_len, uint8_t *buffer,
                                size_t buffer_len);
+
+/* The term with a number, counted from 1, of a grouping that xew_evaluate_grouped left in the front of a buffer: so the order
+ * of the roll can be restored. l and terms are the roll's L and term count. The grouping may be anything: so many entries
+ * are read from its front on, and what follows is not looked at. Refusals: 7 at 0 for l above 24; 13 for a number that is
+ * not from 1 to terms; then 7 or 14 with the place of the first fault: an entry that does not read, a Boys order below that
+ * of the entry before, a number not above that of the entry before in the same group, a second entry with the number
+ * asked, and, behind the last entry, that none had it. Where every number from 1 to terms is answered it is a grouping. */
+xew_restored xew_grouped_term(const uint8_t *grouping, size_t grouping_len, uint8_t l, uint32_t terms, uint32_t number);
 
 /* J and K of the integrals i and the density d, row by row: n from 1 to 16, i has n*n*n*n floats, d, j and k have n*n.
  * Every entry is summed on its own, from 0.0, lambda outer and sigma inner: J at (mu, nu) over i at (mu, nu, lambda,

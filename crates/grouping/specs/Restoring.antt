@@ -69,7 +69,7 @@ unfoldable pub restoredFrom : List ℕ → ℕ → ℕ → ℕ → Passed → �
 restoredFrom b l terms asked p at zero = ended p at
 restoredFrom b l terms asked p at (suc left) = onEntry (nextAt b l terms asked p at) (λ e next. restoredFrom b l terms asked (passedOn p asked (e .number) (held (e .term))) next left)
 
--- 7 at 0 for L above Coulomb's, then 13 for a number that is not from 1 to the number of terms; then so many entries are read from place 0 on
+-- 7 at 0 for L above Coulomb's, then 13 for a number that is not from 1 to the number of terms; then so many entries are read from place 0 on (D-98)
 unfoldable pub restoredOf : List ℕ → ℕ → ℕ → ℕ → Restored
 restoredOf b l terms number =
     unless (leb l (mostL Coulomb)) (refusedTerm 7 0)

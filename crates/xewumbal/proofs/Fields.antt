@@ -46,6 +46,8 @@ use Rattle.integrals.specs.declared.Value.the-variants as value
 use Rattle.roll.specs.Reading.{rollAt}
 use Rattle.integrals.specs.Evaluation.{evaluateOf}
 use Rattle.grouping.specs.Evaluation.{ofRoll as groupedOfRoll, GroupedTold}
+use Rattle.grouping.specs.Restoring.{restoredOf}
+use Rattle.grouping.specs.declared.restoring.Restored.{Restored}
 use Rattle.jk.specs.declared.Answer.{Answer}
 use Rattle.jk.specs.Outcome.{Outcome, outcome, jkOf, refusalOf as jkRefusal}
 use Rattle.xewumbal.specs.declared.xew_centre.{«xew_centre»}
@@ -60,9 +62,10 @@ use Rattle.xewumbal.specs.declared.xew_cursor2.{«xew_cursor2»}
 use Rattle.xewumbal.specs.declared.xew_opened2.{«xew_opened2»}
 use Rattle.xewumbal.specs.declared.xew_step2.{«xew_step2»}
 use Rattle.xewumbal.specs.declared.xew_moved.{«xew_moved»}
+use Rattle.xewumbal.specs.declared.xew_restored.{«xew_restored»}
 use Rattle.xewumbal.specs.declared.xew_total.{«xew_total»}
 use Rattle.xewumbal.specs.declared.xew_scales.{«xew_scales»}
-use Rattle.xewumbal.specs.Answers.{ExpandCallTold, ListCallTold, GroupedCallTold, JkCallTold, centreIn, cursorIn, hostExpanded, hostListed, hostComponent, hostCursor, hostOpened, foundStep, hostStep, hostTotal, hostScales, hostTable, hostValue}
+use Rattle.xewumbal.specs.Answers.{ExpandCallTold, ListCallTold, GroupedCallTold, hostRestored, groupedTermAnswer, JkCallTold, centreIn, cursorIn, hostExpanded, hostListed, hostComponent, hostCursor, hostOpened, foundStep, hostStep, hostTotal, hostScales, hostTable, hostValue}
 use Rattle.xewumbal.specs.Answers.{Expand2CallTold, ToForm2CallTold, ToForm1CallTold, cursor2In, hostCursor2, hostOpened2, foundStep2, hostStep2, hostMoved}
 use Rattle.xewumbal.specs.Answers.{measureAnswer, shell2Answer, shell4Answer, openAnswer, checkAnswer, nextAnswer, open2Answer, check2Answer, next2Answer, scaleTotalAnswer, rollTotalAnswer, prefactorsAnswer, evaluateAnswer}
 
@@ -239,6 +242,10 @@ pub grouped-answered : (a b c d : «xew_centre») (p q r s : Centre) (roll : Lis
 grouped-answered a b c d p q r s roll aux boys before v x after pa qb rc sd told is =
     let same : v ≡ groupedOfRoll (rollAt roll) (length before) (centreIn a) (centreIn b) (centreIn c) (centreIn d) aux boys = cc (told .answer, pa, qb, rc, sd) in
     record { answer = is ∙ ap hostValue same; buffer = told .buffer }
+
+pub grouped-term-answered : (grouping : List ℕ) (l terms number : ℕ) (r : Restored) (x : «xew_restored») → r ≡ restoredOf grouping l terms number → x ≡ hostRestored r → x ≡ groupedTermAnswer grouping l terms number
+unfolding groupedTermAnswer
+grouped-term-answered grouping l terms number r x told is = is ∙ ap hostRestored told
 
 pub jk-answered : (n : ℕ) (i d beforeJ beforeK : List Float) (a : Answer) (afterJ afterK : List Float) (x : ℕ) → outcome a afterJ afterK ≡ jkOf n i d beforeJ beforeK → x ≡ jkRefusal a → JkCallTold n i d beforeJ beforeK x afterJ afterK
 jk-answered n i d beforeJ beforeK a afterJ afterK x told is =

@@ -20,7 +20,7 @@ use Rattle.xewumbal.specs.declared.xew_cursor2.{«xew_cursor2»}
 use Rattle.xewumbal.specs.declared.xew_moved.{«xew_moved»}
 use Rattle.xewumbal.specs.declared.xew_value.{«xew_value»}
 use Rattle.xewumbal.specs.Answers.{hostExpanded, hostListed, hostMoved, measureAnswer, shell2Answer, shell4Answer, openAnswer, checkAnswer, nextAnswer, open2Answer, check2Answer, next2Answer}
-use Rattle.xewumbal.specs.Answers.{scaleTotalAnswer, rollTotalAnswer, prefactorsAnswer, evaluateAnswer, hostValue, centreIn}
+use Rattle.xewumbal.specs.Answers.{scaleTotalAnswer, rollTotalAnswer, prefactorsAnswer, evaluateAnswer, groupedTermAnswer, hostValue, centreIn}
 use Rattle.xewumbal.proofs.xew_expand.Reads.{Post as Expand}
 use Rattle.xewumbal.proofs.xew_measure.Reads.{Post as Measure}
 use Rattle.xewumbal.proofs.xew_expand2.Reads.{Post as Expand2}
@@ -40,6 +40,7 @@ use Rattle.xewumbal.proofs.xew_roll_total.Reads.{Post as RollTotal}
 use Rattle.xewumbal.proofs.xew_prefactors.Reads.{Post as Prefactors}
 use Rattle.xewumbal.proofs.xew_evaluate.Reads.{Post as Evaluate}
 use Rattle.xewumbal.proofs.xew_evaluate_grouped.Reads.{Post as EvaluateGrouped}
+use Rattle.xewumbal.proofs.xew_grouped_term.Reads.{Post as GroupedTerm}
 use Rattle.xewumbal.proofs.xew_jk.Reads.{Post as Jk}
 
 module _ (κs : Lfts 2) (kind : ℕ) (orders out : Lent ℕ) (start : ℕ) where
@@ -113,6 +114,9 @@ pub evaluate-grouped-only : (κs : Lfts 3) (roll : Lent ℕ) (a b c d : «xew_ce
     Alone {A = «xew_value» × List ℕ} (λ x. EvaluateGrouped κs (roll ▸ a ▸ b ▸ c ▸ d ▸ aux ▸ boys ▸ buffer ▸ end) (x .0) (roll ▸ a ▸ b ▸ c ▸ d ▸ aux ▸ boys ▸ buffer then (x .1) ▸ end))
     (hostValue (groupedOfRoll (rollAt (roll .now)) (length (buffer .now)) (centreIn a) (centreIn b) (centreIn c) (centreIn d) aux (boys .now)), bufferOf (rollAt (roll .now)) (buffer .now))
 evaluate-grouped-only κs roll a b c d aux boys buffer = alone (λ x p i. (p .answer i, p .buffer i))
+
+pub grouped-term-only : (κs : Lfts 1) (grouping : Lent ℕ) (l terms number : ℕ) → let g = grouping ▸ l ▸ terms ▸ number ▸ end in Alone (λ r. GroupedTerm κs g r g) (groupedTermAnswer (grouping .now) l terms number)
+grouped-term-only κs grouping l terms number = alone (λ r p. p)
 
 module _ (κs : Lfts 4) (n : ℕ) (i d j k : Lent Float) where
   pub jk-only :

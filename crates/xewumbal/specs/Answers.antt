@@ -37,6 +37,8 @@ use Rattle.geometry.specs.Checks.{prefactorTableOf, refusalOf as tableRefusal}
 use Rattle.integrals.specs.declared.Value.{Value}
 use Rattle.integrals.specs.Evaluation.{evaluateOf, floatOf, placeOf, refusalOf as valueRefusal}
 use Rattle.grouping.specs.Evaluation.{ofRoll as groupedOfRoll, bufferOf}
+use Rattle.grouping.specs.Restoring.{restoredOf}
+use Rattle.grouping.specs.declared.restoring.Restored.{Restored}
 use Rattle.jk.specs.Outcome.{jkOf, refusalOf as jkRefusal}
 use Rattle.xewumbal.specs.declared.xew_centre.{«xew_centre»}
 use Rattle.xewumbal.specs.declared.xew_written.{«xew_written»}
@@ -46,6 +48,7 @@ use Rattle.xewumbal.specs.declared.xew_table.{«xew_table»}
 use Rattle.xewumbal.specs.declared.xew_cursor.{«xew_cursor»}
 use Rattle.xewumbal.specs.declared.xew_opened.{«xew_opened»}
 use Rattle.xewumbal.specs.declared.xew_step.{«xew_step»}
+use Rattle.xewumbal.specs.declared.xew_restored.{«xew_restored»}
 use Rattle.xewumbal.specs.declared.xew_cursor2.{«xew_cursor2»}
 use Rattle.xewumbal.specs.declared.xew_opened2.{«xew_opened2»}
 use Rattle.xewumbal.specs.declared.xew_step2.{«xew_step2»}
@@ -220,6 +223,14 @@ evaluateAnswer roll a b c d aux boys = hostValue (evaluateOf roll (centreIn a) (
 pub record GroupedCallTold (roll : List ℕ) (a b c d : «xew_centre») (aux : Float) (boys : List Float) (before : List ℕ) (r : «xew_value») (after : List ℕ) : Type 0 where
   pub answer : r ≡ hostValue (groupedOfRoll (rollAt roll) (length before) (centreIn a) (centreIn b) (centreIn c) (centreIn d) aux boys)
   pub buffer : after ≡ bufferOf (rollAt roll) before
+
+-- ---- xew_grouped_term: the term with a number, and a refusal with its place
+
+abbrev pub hostRestored : Restored → «xew_restored»
+hostRestored r = record { place = r .place; scale = r .term .scale; boys = r .term .boys; count = r .term .count; prefactors = r .term .prefactors; refusal = r .refusal }
+
+unfoldable pub groupedTermAnswer : List ℕ → ℕ → ℕ → ℕ → «xew_restored»
+groupedTermAnswer grouping l terms number = hostRestored (restoredOf grouping l terms number)
 
 -- ---- xew_jk: the refusal alone
 

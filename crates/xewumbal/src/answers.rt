@@ -2,7 +2,7 @@
 ghost use mathlib.Core.Path.{_≡_};
 ghost use Rattle.jk.specs.Outcome.{refusalOf};
 ghost use Rattle.xewumbal.specs.Answers.{centreIn, cursorIn, cursor2In, hostExpanded, hostListed, hostComponent, hostCursor, hostOpened, foundStep, hostStep};
-ghost use Rattle.xewumbal.specs.Answers.{hostCursor2, hostOpened2, foundStep2, hostStep2, hostMoved, hostTotal, hostScales, hostTable, hostValue};
+ghost use Rattle.xewumbal.specs.Answers.{hostCursor2, hostOpened2, foundStep2, hostStep2, hostMoved, hostTotal, hostScales, hostTable, hostValue, hostRestored};
 use crate::xew_centre;
 use crate::xew_component;
 use crate::xew_cursor;
@@ -10,6 +10,7 @@ use crate::xew_cursor2;
 use crate::xew_moved;
 use crate::xew_opened;
 use crate::xew_opened2;
+use crate::xew_restored;
 use crate::xew_scales;
 use crate::xew_step;
 use crate::xew_step2;
@@ -24,6 +25,7 @@ use form2::Opened2;
 use form2::Step2;
 use geometry::Centre;
 use geometry::Table;
+use grouping::Restored;
 use integrals::Value;
 use jk::Answer;
 use roll::Cursor;
@@ -197,6 +199,21 @@ pub(crate) fn step(s: Step) -> xew_step
         roll::Found::Refused(refusal, place) => found_step(s, 0, place, refusal),
         roll::Found::Term => found_step(s, 1, 0, 0),
         roll::Found::End => found_step(s, 2, 0, 0),
+    }
+}
+
+pub(crate) fn restored(r: Restored) -> xew_restored
+    ensures { λ x. ⌜ x ≡ hostRestored r ⌝ }
+{
+    let term = r.term;
+    let prefactors = term.prefactors;
+    xew_restored {
+        place: r.place,
+        scale: term.scale,
+        boys: term.boys,
+        count: term.count,
+        prefactors,
+        refusal: r.refusal,
     }
 }
 

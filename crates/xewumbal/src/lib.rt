@@ -5,7 +5,7 @@ mod answers;
 ghost use mathlib.Core.Path.{_≡_};
 ghost use Rattle.xewumbal.specs.Answers.{ExpandCallTold, Expand2CallTold, ListCallTold, ToForm2CallTold, ToForm1CallTold, GroupedCallTold, JkCallTold};
 ghost use Rattle.xewumbal.specs.Answers.{measureAnswer, shell2Answer, shell4Answer, openAnswer, checkAnswer, nextAnswer, open2Answer, check2Answer, next2Answer};
-ghost use Rattle.xewumbal.specs.Answers.{scaleTotalAnswer, rollTotalAnswer, prefactorsAnswer, evaluateAnswer};
+ghost use Rattle.xewumbal.specs.Answers.{scaleTotalAnswer, rollTotalAnswer, prefactorsAnswer, evaluateAnswer, groupedTermAnswer};
 use kind::Kind;
 
 // Raised when a struct, a meaning or an answer changes. The header and the binding have the same (D-85).
@@ -100,6 +100,16 @@ pub struct xew_step2 {
     pub count: u8,
     pub prefactors: [u8; Kind::PREFACTORS],
     pub found: u8,
+    pub refusal: u8,
+}
+
+#[repr(C)]
+pub struct xew_restored {
+    pub place: usize,
+    pub scale: u32,
+    pub boys: u8,
+    pub count: u8,
+    pub prefactors: [u8; Kind::PREFACTORS],
     pub refusal: u8,
 }
 
@@ -308,6 +318,13 @@ pub extern "C" fn xew_evaluate_grouped(
     let r = answers::centre(c);
     let s = answers::centre(d);
     answers::value(grouping::evaluate_grouped(roll, p, q, r, s, aux, boys, buffer))
+}
+
+#[no_mangle]
+pub extern "C" fn xew_grouped_term(grouping: &[u8], l: u8, terms: u32, number: u32) -> xew_restored
+    ensures { λ r. ⌜ r ≡ groupedTermAnswer (now (grouping .entry)) l terms number ⌝ }
+{
+    answers::restored(grouping::grouped_term(grouping, l, terms, number))
 }
 
 #[no_mangle]
