@@ -12,6 +12,9 @@ pub(crate) const MOST: usize = 1048576;
 // The most bytes that a question can have lent to the library: more than any roll takes (D-89).
 pub(crate) const LARGE: usize = 16777216;
 
+// The most bytes of a grouping buffer.
+pub(crate) const LARGEST: usize = 67108864;
+
 const FILL: u8 = 0xa5;
 // The bits of a float that is filled.
 const FILL_BITS: u64 = 0xa5a5_a5a5_a5a5_a5a5;

@@ -50,6 +50,7 @@ enum Question {
     Form2In,
     Form1,
     Form1In,
+    Grouped,
     Unknown,
 }
 
@@ -91,6 +92,7 @@ fn of(shape: usize) -> Question {
         25 => Question::Form2In,
         26 => Question::Form1,
         27 => Question::Form1In,
+        28 => Question::Grouped,
         _ => Question::Unknown,
     }
 }
@@ -105,6 +107,7 @@ fn lends(q: Question, n: [u64; NUMBERS]) -> Lent {
         Question::Form2 | Question::Form1 => usual(lent::LARGE as u64),
         Question::Form2In | Question::Form1In => said(n[0], n[1]),
         Question::List => usual(LISTING_LENT),
+        Question::Grouped => said(n[0], 0),
         _ => usual(0),
     }
 }
@@ -141,22 +144,32 @@ pub(crate) fn answer(asked: Asked, given: &[u8], floats: &mut [f64], lent: &mut 
     let size = least(l.size, lent.len());
     let roll = &given[0..bytes];
     let plain = in_numbers(q, n, asked.count, roll, &floats[0..count]);
-    let told = looked_at(q, n, l.start, roll, &mut lent[0..size], plain);
+    let told = looked_at(
+        q,
+        n,
+        l.start,
+        roll,
+        &floats[0..count],
+        &mut lent[0..size],
+        plain,
+    );
     in_floats(q, n, &mut floats[0..count], told)
 }
 
 // The same for a question that has bytes lent alone, by way of another buffer.
-pub(crate) fn answer_in(asked: Asked, given: &[u8], lent: &mut [u8]) -> Told {
+pub(crate) fn answer_in(asked: Asked, given: &[u8], floats: &[f64], lent: &mut [u8]) -> Told {
     let n = asked.numbers;
     let q = of(asked.question);
     let l = lends(q, n);
     let bytes = least(asked.bytes, given.len());
+    let count = least(asked.floats, floats.len());
     let size = least(l.size, lent.len());
     looked_at(
         q,
         n,
         l.start,
         &given[0..bytes],
+        &floats[0..count],
         &mut lent[0..size],
         answers::unknown(),
     )
@@ -198,11 +211,12 @@ fn looked_at(
     n: [u64; NUMBERS],
     start: usize,
     roll: &[u8],
+    floats: &[f64],
     lent: &mut [u8],
     told: Told,
 ) -> Told {
     lent::fill(lent);
-    let told = in_bytes(q, n, start, roll, lent, told);
+    let told = in_bytes(q, n, start, roll, floats, lent, told);
     lent::looked(lent, told)
 }
 
@@ -212,6 +226,7 @@ fn in_bytes(
     n: [u64; NUMBERS],
     start: usize,
     roll: &[u8],
+    floats: &[f64],
     lent: &mut [u8],
     told: Told,
 ) -> Told {
@@ -242,6 +257,7 @@ fn in_bytes(
             start,
         ),
         Question::List => lists::told(listing::listing(roll, lent, 0)),
+        Question::Grouped => values::grouped(roll, floats, lent),
         _ => told,
     }
 }

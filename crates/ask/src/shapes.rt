@@ -55,12 +55,12 @@ fn ended(a: Asked, end: usize) -> Asked {
     b
 }
 
-// B, W and P are numbers below 2^8, 2^32 and 2^64, L the length of a lent buffer, R a roll, * floats, each after a blank,
+// B, W and P are numbers below 2^8, 2^32 and 2^64, L the length of a lent buffer, G of a grouping buffer, R a roll, * floats, each after a blank,
 // + a number below 2^8 after a blank or nothing, ^ whatever is left. What is read after a misfit is dropped.
 fn item(mark: u8, line: &[u8], a: Asked, bytes: &mut [u8], floats: &mut [f64]) -> Asked {
     match mark {
         b'\n' => ended(a, line.len()),
-        b'B' | b'W' | b'P' | b'L' => words::number(line, a, most(mark)),
+        b'B' | b'W' | b'P' | b'L' | b'G' => words::number(line, a, most(mark)),
         b'+' => words::perhaps(line, a, most(mark)),
         b'R' => words::roll(line, a, bytes),
         b'*' => words::floats(line, a, floats),
@@ -75,6 +75,7 @@ fn most(mark: u8) -> u64 {
         b'B' | b'+' => 255,
         b'W' => 4294967295,
         b'L' => lent::LARGE as u64,
+        b'G' => lent::LARGEST as u64,
         _ => u64::MAX,
     }
 }

@@ -11,7 +11,7 @@ use forms::Told;
 use lines::State;
 use words::Asked;
 
-// Shapes: B, W and P are numbers below 2^8, 2^32 and 2^64, L a buffer's length, R a roll, * floats, + one number below 2^8 or
+// Shapes: B, W and P are numbers below 2^8, 2^32 and 2^64, L a buffer's length, G a grouping buffer's, R a roll, * floats, + one number below 2^8 or
 // none, ^ any bytes; the first is the empty line. `questions::of` has their numbers.
 pub(crate) fn turn(
     input: &[u8],
@@ -52,6 +52,7 @@ form2 R
 form2 R L P
 form1 R
 form1 R L P
+grouped G R*
 ",
         line,
         given,
@@ -73,18 +74,34 @@ fn answered(
 ) -> usize {
     let room = questions::room(asked);
     if lent.len() < room.said {
-        return in_large(s, asked, room.size, line, given, floats, out, used);
+        return in_larger(s, asked, room.size, line, given, floats, out, used);
     }
     let told = questions::answer(asked, given, floats, lent);
     if lent.len() < answers::wanted(told, room.size) {
-        return in_large(s, asked, room.size, line, given, floats, out, used);
+        return in_larger(s, asked, room.size, line, given, floats, out, used);
     }
     say(answers::heard(s, told), line, lent, floats, out, used)
 }
 
-// The answer by way of a larger buffer, to a question that has bytes lent alone. It stands on the stack only here: the compiler
-// puts no function that calls itself into its caller, unless that call comes last. No question needs more than there is, so the
-// call is not made.
+// The answer to a question that has bytes lent alone, by way of a larger buffer that has the room.
+fn in_larger(
+    s: State,
+    asked: Asked,
+    room: usize,
+    line: &[u8],
+    given: &[u8],
+    floats: &[f64],
+    out: &mut [u8],
+    used: usize,
+) -> usize {
+    if lent::LARGE < room {
+        return in_largest(s, asked, room, line, given, floats, out, used);
+    }
+    in_large(s, asked, room, line, given, floats, out, used)
+}
+
+// The answer by way of a larger buffer. It stands on the stack only here: the compiler puts no function that calls itself into its caller, unless that call comes last. No question needs more
+// than there is, so the call is not made.
 fn in_large(
     s: State,
     asked: Asked,
@@ -100,13 +117,46 @@ fn in_large(
         return output::room(out, next);
     }
     let mut bytes = large_bytes();
-    let told = questions::answer_in(asked, given, &mut bytes);
+    let told = questions::answer_in(asked, given, floats, &mut bytes);
+    say(answers::heard(s, told), line, &bytes, floats, out, used)
+}
+
+// The same by way of the largest one.
+fn in_largest(
+    s: State,
+    asked: Asked,
+    room: usize,
+    line: &[u8],
+    given: &[u8],
+    floats: &[f64],
+    out: &mut [u8],
+    used: usize,
+) -> usize {
+    if lent::LARGEST < room {
+        let next = in_largest(
+            s,
+            asked,
+            room - lent::LARGEST,
+            line,
+            given,
+            floats,
+            out,
+            used,
+        );
+        return output::room(out, next);
+    }
+    let mut bytes = largest_bytes();
+    let told = questions::answer_in(asked, given, floats, &mut bytes);
     say(answers::heard(s, told), line, &bytes, floats, out, used)
 }
 
 // Made by a function of its own: its length is then known from its type.
 fn large_bytes() -> [u8; lent::LARGE] {
     [0; lent::LARGE]
+}
+
+fn largest_bytes() -> [u8; lent::LARGEST] {
+    [0; lent::LARGEST]
 }
 
 // Prints an answer after the `used` bytes that wait in `out`.

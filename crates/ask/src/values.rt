@@ -1,4 +1,5 @@
-// `eval ROLL A B C D AUX F0 F1 ..` and `table KIND A B C D`: the integral of a roll, and the prefactor table of a kind.
+// `eval ROLL A B C D AUX F0 F1 ..`, `grouped BUFFER` with the same, and `table KIND A B C D`: the integral of a roll, plain and by way of
+// a grouping buffer, and the prefactor table of a kind.
 ghost use Prim.Native.Nat.{_+_, _≤_};
 ghost use lib.ListN.{length};
 use crate::answers;
@@ -11,11 +12,16 @@ use geometry::Centre;
 use geometry::Table;
 use geometry::Tabled;
 use integrals::Value;
+use kind::Kind;
 use questions::byte;
+use roll::Cursor;
+use roll::Opened;
 use words::NUMBERS;
 
 // The floats of four centres.
 const CENTRES: usize = 16;
+// The bytes of a grouping buffer for each term.
+const ENTRY: usize = 40;
 // The most Boys numbers that a question can have.
 const MOST_BOYS: usize = 65536;
 
@@ -59,6 +65,41 @@ pub(crate) fn value(roll: &[u8], floats: &[f64]) -> Told {
     }
     let four = four_of(floats);
     value_told(integrals::evaluate(roll, four.a, four.b, four.c, four.d, floats[CENTRES], boys))
+}
+
+// The same by way of a grouping buffer; of that the answer owns the grouping.
+pub(crate) fn grouped(roll: &[u8], floats: &[f64], lent: &mut [u8]) -> Told {
+    if floats.len() <= CENTRES {
+        return answers::unknown();
+    }
+    let boys = &floats[CENTRES + 1..];
+    if MOST_BOYS < boys.len() {
+        return answers::unknown();
+    }
+    let f = four_of(floats);
+    let value = grouping::evaluate_grouped(roll, f.a, f.b, f.c, f.d, floats[CENTRES], boys, lent);
+    let mut told = value_told(value);
+    told.long = owned(value, roll::open(roll));
+    told
+}
+
+// How many bytes the grouping may take: none where the roll is not read or has no room, and for kinds that are not grouped.
+fn owned(value: Value, opened: Opened) -> usize {
+    let cursor = opened.cursor;
+    match value {
+        Value::Is(_) => grouping_of(cursor),
+        Value::Refused(refusal, _) => match refusal {
+            6 | 7 | 14 => 0,
+            _ => grouping_of(cursor),
+        },
+    }
+}
+
+fn grouping_of(cursor: Cursor) -> usize {
+    if cursor.kind == Kind::Coulomb.number() {
+        return ENTRY * cursor.left as usize;
+    }
+    0
 }
 
 // A value is finite where it comes back.
