@@ -115,6 +115,12 @@ short-is s at rest a b count p q t here left room x a-test a-small y b-test b-sm
 pub short-made : (s : List ℕ) (at a b c : ℕ) → Short s at → a ≡ getD s at 0 → b ≡ getD s (at + 1) 0 → c ≡ getD s (at + 2) 0 → _≡_ {A = Head} (record { scale = a; boys = b; from = at + 3; end = at + 3 + c }) (headAt s at)
 short-made s at a b c short x y z = rw (x, y, z) (sym (short-head s at short))
 
+pub short-boys : (s : List ℕ) (at b : ℕ) → Short s at → b ≡ getD s (at + 1) 0 → b ≡ headAt s at .boys
+short-boys s at b short byte = byte ∙ ap (λ (h : Head). h .boys) (sym (short-head s at short))
+
+pub short-end : (s : List ℕ) (at b : ℕ) → Short s at → b ≡ getD s (at + 2) 0 → at + 3 + b ≡ headAt s at .end
+short-end s at b short byte = ap (λ (n : ℕ). at + 3 + n) byte ∙ ap (λ (h : Head). h .end) (sym (short-head s at short))
+
 pub short-given : (s : List ℕ) (at : ℕ) (t : Bool) → (t ≡ true → Short s at) → t ≡ true → Short s at
 short-given s at t is e = is e
 

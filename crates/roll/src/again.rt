@@ -98,6 +98,22 @@ fn short_head(roll: &[u8], at: usize) -> Head
     }
 }
 
+// The Boys order of such a term.
+fn short_boys(roll: &[u8], at: usize) -> usize
+    requires { ⌜ Short (now roll) at ⌝ }
+    ensures { λ r. ⌜ r ≡ boysAt (now (roll .entry)) at ⌝ }
+{
+    wide(roll[at + 1]) as usize
+}
+
+// The place after such a term.
+fn short_end(roll: &[u8], at: usize) -> usize
+    requires { ⌜ Short (now roll) at ⌝ }
+    ensures { λ r. ⌜ r ≡ endAt (now (roll .entry)) at ⌝ }
+{
+    at + 3 + wide(roll[at + 2]) as usize
+}
+
 // A term's numbers, and where its prefactors stand. Most terms are short.
 pub fn head_at(roll: &[u8], at: usize) -> Head
     ensures { λ r. ⌜ r ≡ headAt (now (roll .entry)) at ⌝ }
@@ -112,7 +128,10 @@ pub fn head_at(roll: &[u8], at: usize) -> Head
 pub fn boys_at(roll: &[u8], at: usize) -> usize
     ensures { λ r. ⌜ r ≡ boysAt (now (roll .entry)) at ⌝ }
 {
-    let h = head_at(roll, at);
+    if is_short(roll, at) {
+        return short_boys(roll, at);
+    }
+    let h = long_head(roll, at);
     h.boys as usize
 }
 
@@ -120,6 +139,9 @@ pub fn boys_at(roll: &[u8], at: usize) -> usize
 pub fn end_at(roll: &[u8], at: usize) -> usize
     ensures { λ r. ⌜ r ≡ endAt (now (roll .entry)) at ⌝ }
 {
-    let h = head_at(roll, at);
+    if is_short(roll, at) {
+        return short_end(roll, at);
+    }
+    let h = long_head(roll, at);
     h.end
 }
