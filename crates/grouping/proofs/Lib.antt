@@ -1,4 +1,5 @@
 pub mod GroupedLaws
+pub mod InOrder
 pub mod LayingLaws
 pub mod Only
 pub mod OwnList

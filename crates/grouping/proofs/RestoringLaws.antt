@@ -63,6 +63,10 @@ step-held number c (got t next) = refl
 step-held number c (refused r place) = refl
 
 module _ (b : List ℕ) (l terms at : ℕ) (f : Field) (is : f ≡ withinAt b at 1 terms) where
+  pub entry-unread : (n place : ℕ) (r : ReadEntry) → f ≡ field.Refused n place → r ≡ noEntry n place → r ≡ heldEntry (entryAt b l terms at)
+  unfolding entryAt
+  entry-unread n place r e answer = let read : withinAt b at 1 terms ≡ field.Refused n place = sym is ∙ e in answer ∙ rw read
+
   pub entry-read : (number place kind : ℕ) (x : Step) (r : ReadEntry) → f ≡ field.Is number place → kind ≡ numberOf Coulomb → x ≡ stepOf (record { place = place; left = 1; kind = kind; l = l }) b → r ≡ ofStep number x → l ≤ mostL Coulomb → r ≡ heldEntry (entryAt b l terms at)
   unfolding entryAt
   entry-read number place kind x r e four step answer small =
@@ -71,10 +75,6 @@ module _ (b : List ℕ) (l terms at : ℕ) (f : Field) (is : f ≡ withinAt b at
       let c : Cursor = record { place = place; left = 1; kind = numberOf Coulomb; l = l } in
       let gone : x ≡ stepped c (termAt b place Coulomb l) = step ∙ ap (λ (k : ℕ). stepOf (record { place = place; left = 1; kind = k; l = l }) b) four ∙ one-step b place l small inside in
       answer ∙ ap (ofStep number) gone ∙ step-held number c (termAt b place Coulomb l) ∙ rw read
-
-  pub entry-unread : (n place : ℕ) (r : ReadEntry) → f ≡ field.Refused n place → r ≡ noEntry n place → r ≡ heldEntry (entryAt b l terms at)
-  unfolding entryAt
-  entry-unread n place r e answer = let read : withinAt b at 1 terms ≡ field.Refused n place = sym is ∙ e in answer ∙ rw read
 
 -- ---- behind those passed
 
