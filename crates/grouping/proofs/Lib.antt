@@ -1,3 +1,4 @@
+pub mod Accepted
 pub mod GroupedLaws
 pub mod InOrder
 pub mod LayingLaws
