@@ -328,13 +328,14 @@ accepted-start b l terms n none = by (leb l (mostL Coulomb)) (leb 1 n && leb n t
 pub record Accepted (b : List ℕ) (l terms : ℕ) (d : Term) : Type 0 where
   pub ts : List Term
   pub rest : List ℕ
+  pub small : l ≤ mostL Coulomb
   pub long : length ts ≡ terms
   pub fit : TermsFit Coulomb l ts
   pub told : (n : ℕ) → 1 ≤ n → n ≤ terms → restoredOf b l terms n ≡ restoredTerm (held (getD ts (n - 1) d))
   pub bytes : b ≡ entriesBytes (grouping l ts) ++ rest
 
-of-entries : (b : List ℕ) (l terms : ℕ) (d : Term) → Bytes b → ((n : ℕ) → 1 ≤ n → n ≤ terms → restoredOf b l terms n .refusal ≡ 0) → ((n : ℕ) → 1 ≤ n → n ≤ terms → restoredFrom b l terms n nonePassed 0 terms .refusal ≡ 0) → (es : List Entry) → length es ≡ terms → EntriesAt b l terms 0 es → Ordered 0 0 es → Accepted b l terms d
-of-entries b l terms d bytes never start es count reads ordered =
+of-entries : (b : List ℕ) (l terms : ℕ) (d : Term) → Bytes b → l ≤ mostL Coulomb → ((n : ℕ) → 1 ≤ n → n ≤ terms → restoredOf b l terms n .refusal ≡ 0) → ((n : ℕ) → 1 ≤ n → n ≤ terms → restoredFrom b l terms n nonePassed 0 terms .refusal ≡ 0) → (es : List Entry) → length es ≡ terms → EntriesAt b l terms 0 es → Ordered 0 0 es → Accepted b l terms d
+of-entries b l terms d bytes small never start es count reads ordered =
     let read = entries-bytes b l terms bytes es 0 reads in
     let each : (m : ℕ) → 1 ≤ m → m < 1 + terms → (t : Term) × Picked m t =
     λ m above below.
@@ -349,6 +350,7 @@ of-entries b l terms d bytes never start es count reads ordered =
     record {
       ts = ts;
       rest = drop (read .0) b;
+      small = small;
       long = list .1;
       fit = fit;
       told = λ n above below.
@@ -365,4 +367,4 @@ pub accepted : (b : List ℕ) (l terms : ℕ) (d : Term) → Bytes b → 1 ≤ t
 accepted b l terms d bytes some never =
     let start : (n : ℕ) → 1 ≤ n → n ≤ terms → restoredFrom b l terms n nonePassed 0 terms .refusal ≡ 0 = λ n above below. ap (λ (r : Restored). r .refusal) (sym (accepted-start b l terms n (never n above below) .1)) ∙ never n above below in
     let x = accepted-entries b l terms 1 terms nonePassed 0 (start 1 (omega arith) some) in
-    of-entries b l terms d bytes never start (x .0) (x .1) (x .2) (x .3)
+    of-entries b l terms d bytes (accepted-start b l terms 1 (never 1 (omega arith) some) .0) never start (x .0) (x .1) (x .2) (x .3)

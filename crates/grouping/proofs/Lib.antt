@@ -10,3 +10,4 @@ pub mod RestoringLaws
 pub mod Rows
 pub mod SameBits
 pub mod SummingLaws
+pub mod Worked
