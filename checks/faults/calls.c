@@ -10,6 +10,7 @@
 
 static uint8_t bytes[MOST_BYTES];
 struct arena roll_arena, orders_arena, out_arena, boys_arena, i_arena, d_arena, j_arena, k_arena;
+struct arena buffer_arena, grouping_arena;
 
 static void try_shell_list(void)
 {
@@ -124,10 +125,10 @@ static void try_jk(void)
     }
 }
 
-/* The number of a large scene, which is rare since it takes seconds; the first five come early. */
+/* The number of a large scene, which is rare since it takes seconds; one of each comes early. */
 static uint64_t large_scene(void)
 {
-    return call.scene % 700 == 350 ? call.scene / 700 % 50 : UINT64_MAX;
+    return call.scene % 200 == 100 ? call.scene / 200 % 200 : UINT64_MAX;
 }
 
 /* A largest request, or a roll of as many terms as one may have and one of one more. */
@@ -136,17 +137,21 @@ static void play_large(uint64_t number)
     if (number < LARGEST) {
         struct slice roll = try_expand(&largest[number], largest[number].length, 0);
         try_evaluate(roll, expected_open(roll.mine, roll.length));
+        try_grouping(roll, expected_open(roll.mine, roll.length));
         try_to_form2(roll, expected_open(roll.mine, roll.length));
         try_expand2(&largest[number]);
         return;
     }
     for (uint32_t more = 0; more < 2; more++) {
-        struct slice roll = lend_copy(&roll_arena, "roll", bytes, most_terms_roll(bytes, XEW_MOST_TERMS + more), 1);
+        size_t length = most_terms_roll(bytes, 0, XEW_MOST_TERMS + more);
+        struct slice roll = lend_copy(&roll_arena, "roll", bytes, length, 1);
         xew_opened opened = try_open(roll), checked = try_check(roll);
         hold(same_opened(opened, checked), "xew_open and xew_check disagree");
         try_evaluate(roll, checked);
         try_roll_total(roll, checked);
         try_to_form2(roll, checked);
+        roll = lend_copy(&roll_arena, "roll", bytes, most_terms_roll(bytes, 4, XEW_MOST_TERMS + more), 1);
+        try_grouping(roll, try_check(roll));
     }
 }
 
@@ -174,6 +179,15 @@ static void play_forms(void)
     try_expand2(call.scene % 60 == 9 ? &over[call.scene / 60 % OVER] : once_in(2) ? known_request() : &request);
 }
 
+/* Calls on a Coulomb roll that reads, and on its grouping. */
+static void play_grouping(void)
+{
+    struct slice roll = lend_copy(&roll_arena, "roll", bytes, coulomb_roll(bytes, MOST_BYTES), 1);
+    xew_opened checked = try_check(roll);
+    for (int i = 0; i < 3; i++)
+        try_grouping(roll, checked);
+}
+
 static void play(void)
 {
     struct slice roll = lend_copy(&roll_arena, "roll", bytes, any_roll(bytes), 1);
@@ -188,6 +202,7 @@ static void play(void)
     try_roll_total(roll, checked);
     try_evaluate(roll, checked);
     try_evaluate(roll, checked);
+    try_evaluate_grouped(roll, checked);
     try_to_form2(roll, checked);
 
     if (once_in(100))
@@ -228,6 +243,8 @@ int main(int words, char **word)
     make_arena(&orders_arena, XEW_ORDERS, false);
     make_arena(&out_arena, MOST_BYTES, true);
     make_arena(&boys_arena, 48 * 8, false);
+    make_arena(&buffer_arena, MOST_BUFFER, true);
+    make_arena(&grouping_arena, MOST_BUFFER, false);
     make_arena(&i_arena, 65537 * 8, false);
     make_arena(&d_arena, 257 * 8, false);
     make_arena(&j_arena, 257 * 8, true);
@@ -246,6 +263,8 @@ int main(int words, char **word)
             play_large(large_scene());
         else if (call.scene % 3 == 0)
             play_forms();
+        else if (call.scene % 6 == 4)
+            play_grouping();
         else
             play();
     } while (words == 4 && call.number < calls);

@@ -56,7 +56,8 @@ struct request {
 };
 #define MOST_BYTES 16777216
 #define MOST_LIST (3 * (XEW_MOST_ORDER + 1) * (XEW_MOST_ORDER + 2) / 2)
-#define LARGEST 4
+#define MOST_BUFFER (XEW_ENTRY * XEW_MOST_TERMS + 1000) /* for a grouping, and some more */
+#define LARGEST 6
 #define OVER 4
 extern const struct request largest[LARGEST], over[OVER];
 void make_requests(void);
@@ -64,12 +65,20 @@ const struct request *known_request(void); /* one with its roll */
 void any_request(struct request *request);
 size_t any_roll(uint8_t *out); /* at most MOST_BYTES */
 size_t good_roll(uint8_t *out, size_t most); /* one that reads, of at most so many bytes */
-size_t most_terms_roll(uint8_t *out, uint32_t terms); /* so many terms in as few bytes as can be */
+size_t most_terms_roll(uint8_t *out, uint8_t kind, uint32_t terms); /* so many terms in as few bytes as can be */
+size_t coulomb_roll(uint8_t *out, size_t most); /* one that reads */
 size_t any_roll2(uint8_t *out); /* the same in form 2 */
 size_t good_roll2(uint8_t *out, size_t most);
 size_t any_start(size_t length, size_t need);
 xew_cursor any_cursor(xew_cursor cursor, size_t length);
 xew_cursor2 any_cursor2(xew_cursor2 cursor, size_t length);
+struct asked {
+    uint8_t l;
+    uint32_t terms, number;
+};
+/* Changes a grouping that reads, of the L and the terms that are told, and what is asked of it. Answers its length
+ * then. */
+size_t any_grouping(uint8_t *grouping, size_t length, struct asked *asked);
 
 /* inputs.c: floats. */
 double any_float(void);
@@ -111,5 +120,14 @@ size_t put(uint8_t *out, uint64_t number); /* writes a number; answers its bytes
  * shared length is so much more than the longest, with the further prefactors that then follow; UINT32_MAX for none. */
 size_t in_form2(const uint8_t *roll, size_t length, uint8_t *out, uint32_t odd, int more);
 size_t in_form1(const uint8_t *roll, size_t length, uint8_t *out); /* the way back */
+
+/* expected_grouping.c: the same of a grouping, and which of its own faults was met last. */
+enum disorder { IN_ORDER, L_BEYOND, ANOTHER_NUMBER, BOYS_FALLS, NUMBER_FALLS, ASKED_TWICE, MISSING, DISORDERS };
+extern enum disorder disorder;
+/* The term of an entry, which stands behind its number. */
+xew_step entry_term(const uint8_t *grouping, size_t length, size_t at, uint8_t l);
+/* The grouping of a Coulomb roll that reads; answers its length. */
+size_t expected_grouping(xew_opened checked, const uint8_t *roll, size_t length, uint8_t *out);
+xew_restored expected_grouped_term(const uint8_t *grouping, size_t length, struct asked asked);
 
 #endif

@@ -39,6 +39,8 @@ const struct request largest[LARGEST] = {
     { .kind = 4, .orders = { 1, 1, 0, 4, 0, 1, 1, 3, 0, 3, 0, 0 }, .length = 15001920 }, /* the longest roll */
     { .kind = 2, .orders = { 6, 0, 0, 6, 0, 0 }, .length = 4665226 },
     { .kind = 3, .orders = { 6, 0, 0, 6, 0, 0, 6, 0, 0 }, .length = 2971075 },
+    { .kind = 0, .orders = { 6, 0, 0, 6, 0, 0 }, .length = 10458 },
+    { .kind = 1, .orders = { 6, 0, 0, 6, 0, 0 }, .length = 127541 },
 };
 
 /* Requests over the cap. */
@@ -187,10 +189,12 @@ static size_t made_up(uint8_t *out, bool good)
     return at;
 }
 
-size_t most_terms_roll(uint8_t *out, uint32_t terms)
+size_t most_terms_roll(uint8_t *out, uint8_t kind, uint32_t terms)
 {
-    memset(out, 0, 7);
-    size_t at = 7 + put(out + 7, terms);
+    size_t at = 1u + orders_used[kind];
+    memset(out, 0, at);
+    out[0] = kind;
+    at += put(out + at, terms);
     for (uint32_t term = 0; term < terms; term++, at += 3)
         memcpy(out + at, (uint8_t[]){ 1, 0, 0 }, 3);
     return at;
@@ -268,6 +272,15 @@ size_t good_roll(uint8_t *out, size_t most)
     }
 }
 
+size_t coulomb_roll(uint8_t *out, size_t most)
+{
+    for (;;) {
+        size_t length = good_roll(out, most);
+        if (out[0] == 4)
+            return length;
+    }
+}
+
 xew_cursor any_cursor(xew_cursor cursor, size_t length)
 {
     static const uint8_t ls[] = { 0, 1, 8, 11, 12, 13, 16, 17, 18, 19, 23, 24, 25, 128, 255 };
@@ -328,6 +341,89 @@ xew_cursor2 any_cursor2(xew_cursor2 cursor, size_t length)
     for (int i = cursor.count; i < XEW_PREFACTORS && once_in(2); i++)
         cursor.earlier[i] = (uint8_t)bits(); /* behind the term before nothing is looked at */
     return cursor;
+}
+
+/* An entry of a grouping: where it begins, where its term and its Boys order stand, and where it ends. */
+struct entry {
+    size_t begins, term, boys, ends;
+    uint64_t number;
+};
+
+static struct entry entry_of(const uint8_t *grouping, size_t length, uint8_t l, uint64_t which)
+{
+    struct entry entry = { 0 };
+    uint64_t scale;
+    for (uint64_t i = 0; i <= which; i++) {
+        entry.begins = entry.term = entry.ends;
+        number(grouping, length, &entry.term, 1, UINT32_MAX, &entry.number);
+        entry.ends = entry_term(grouping, length, entry.term, l).next.place;
+    }
+    entry.boys = entry.term;
+    number(grouping, length, &entry.boys, 1, UINT32_MAX, &scale);
+    return entry;
+}
+
+/* Another number in an entry. */
+static size_t renumbered(uint8_t *out, size_t length, struct entry entry, uint64_t to)
+{
+    uint8_t bytes[10];
+    size_t count = put(bytes, to);
+    memmove(out + entry.begins + count, out + entry.term, length - entry.term);
+    memcpy(out + entry.begins, bytes, count);
+    return length + count - (entry.term - entry.begins);
+}
+
+/* An entry twice. */
+static size_t repeated(uint8_t *out, size_t length, struct entry entry)
+{
+    memmove(out + entry.ends, out + entry.begins, length - entry.begins);
+    return length + entry.ends - entry.begins;
+}
+
+/* Two entries, one after the other, exchanged. */
+static void exchange(uint8_t *out, struct entry entry, struct entry next)
+{
+    uint8_t bytes[XEW_ENTRY];
+    size_t size = entry.ends - entry.begins;
+    memcpy(bytes, out + entry.begins, size);
+    memmove(out + entry.begins, out + next.begins, next.ends - next.begins);
+    memcpy(out + next.ends - size, bytes, size);
+}
+
+size_t any_grouping(uint8_t *out, size_t length, struct asked *asked)
+{
+    static const uint8_t ls[] = { 0, 1, 12, 23, 24, 25, 26, 128, 255 };
+    const uint32_t terms = asked->terms, counts[] = { terms - 1, terms + 1, 0, 1, XEW_MOST_TERMS + 1, UINT32_MAX };
+    const uint32_t numbers[] = { 0, 1, terms, terms + 1, UINT32_MAX };
+    uint64_t which = below(terms);
+    struct entry entry = entry_of(out, length, asked->l, which);
+    uint64_t other = entry.number + (uint64_t[]){ 1, 1, 2, 3, UINT64_MAX }[below(5)];
+    asked->number = (uint32_t)(1 + below(terms));
+    switch (below(10)) {
+    case 0: break;
+    case 1:
+    case 2: length = mutated(out, mutated(out, length)); break;
+    case 3:
+    case 4:
+    case 5: /* its number has gone then, or comes up twice */
+        asked->number = (uint32_t)(once_in(2) ? entry.number : other);
+        length = renumbered(out, length, entry, other);
+        break;
+    case 6: out[entry.boys] = (uint8_t)below(asked->l + 2u); break;
+    case 7: length = repeated(out, length, entry); break;
+    case 8:
+        if (which + 1 < terms)
+            exchange(out, entry, entry_of(out, length, asked->l, which + 1));
+        break;
+    default: length = once_in(4) ? noise(out) : once_in(4) ? 0 : below(length);
+    }
+    if (once_in(6))
+        asked->l = once_in(2) ? ONE_OF(ls) : (uint8_t)(asked->l + 1 - 2 * below(2));
+    if (once_in(6))
+        asked->terms = ONE_OF(counts);
+    if (once_in(6))
+        asked->number = ONE_OF(numbers);
+    return length;
 }
 
 double any_float(void)

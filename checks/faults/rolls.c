@@ -104,31 +104,34 @@ uint64_t try_roll_total(struct slice roll, xew_opened checked)
     return sum;
 }
 
+void any_numbers(xew_opened checked, struct numbers *numbers)
+{
+    size_t right = checked.cursor.kind == 2 || checked.cursor.kind == 4 ? checked.cursor.l + 1u : 0;
+    any_centres(numbers->centres);
+    any_floats(&numbers->aux, 1);
+    numbers->length = right;
+    if (once_in(5))
+        numbers->length = (size_t[]){ 0, right + 1, right ? right - 1 : 1, below(40) }[below(4)];
+    any_floats(numbers->boys, numbers->length);
+}
+
 void try_evaluate(struct slice roll, xew_opened checked)
 {
-    struct {
-        xew_centre centres[4];
-        double aux;
-    } lent;
-    double numbers[48];
-    const xew_centre *c = lent.centres;
-    any_centres(lent.centres);
-    any_floats(&lent.aux, 1);
-    size_t right = checked.cursor.kind == 2 || checked.cursor.kind == 4 ? checked.cursor.l + 1u : 0, length = right;
-    if (once_in(5))
-        length = (size_t[]){ 0, right + 1, right ? right - 1 : 1, below(40) }[below(4)];
-    any_floats(numbers, length);
-    struct slice boys = lend_copy(&boys_arena, "boys", numbers, length, sizeof(double));
-    uint8_t expected = expected_value(checked, c, lent.aux, numbers, length);
+    struct numbers with;
+    any_numbers(checked, &with);
+    const xew_centre *c = with.centres;
+    struct slice boys = lend_copy(&boys_arena, "boys", with.boys, with.length, sizeof(double));
+    uint8_t expected = expected_value(checked, c, with.aux, with.boys, with.length);
     xew_value first = { 0 };
     maybe_null(&roll, EVALUATE_ROLL);
     maybe_null(&boys, EVALUATE_BOYS);
     for (int again = 0; again < 2; again++) {
-        BEGIN(EVALUATE, "roll_len boys_len", roll.length, length);
+        BEGIN(EVALUATE, "roll_len boys_len", roll.length, boys.length);
         with_slice(&roll);
         with_slice(&boys);
-        with_floats(&lent.centres[0].x, 17);
-        xew_value value = xew_evaluate(roll.lent, roll.length, c[0], c[1], c[2], c[3], lent.aux, boys.lent, length);
+        with_floats(&with.centres[0].x, 17);
+        xew_value value =
+            xew_evaluate(roll.lent, roll.length, c[0], c[1], c[2], c[3], with.aux, boys.lent, boys.length);
         count(EVALUATE, value.refusal, again);
         hold(value.refusal == expected || (!expected && value.refusal == 11), "xew_evaluate: another refusal");
         hold(value.place == checked.place, "xew_evaluate: a place that is not check's");
@@ -161,6 +164,7 @@ void try_cuts(const uint8_t *bytes, size_t length)
         if (!opened.refusal)
             hold(step.refusal == 14 && step.place == checked.place, "a cut term that is not 14 where check says");
         try_evaluate(roll, checked);
+        try_evaluate_grouped(roll, checked);
         try_roll_total(roll, checked);
     }
 }

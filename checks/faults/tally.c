@@ -7,7 +7,7 @@
 /* The refusals of each function, as the header lists them. */
 static const struct {
     const char *name;
-    uint8_t refusals[7];
+    uint8_t refusals[8];
 } functions[FUNCTIONS] = {
     [EXPAND] = { "xew_expand", { 1, 2, 3, 5, 4, 6 } },
     [MEASURE] = { "xew_measure", { 1, 2, 3, 4 } },
@@ -27,6 +27,8 @@ static const struct {
     [ROLL_TOTAL] = { "xew_roll_total", { 7, 14 } },
     [PREFACTORS] = { "xew_prefactors", { 1, 8, 9, 11 } },
     [EVALUATE] = { "xew_evaluate", { 7, 14, 8, 9, 10, 11 } },
+    [EVALUATE_GROUPED] = { "xew_evaluate_grouped", { 7, 14, 6, 8, 9, 10, 11 } },
+    [GROUPED_TERM] = { "xew_grouped_term", { 7, 13, 14 } },
     [JK] = { "xew_jk", { 12, 8, 11 } },
 };
 
@@ -50,6 +52,10 @@ static const struct {
     [TOTAL_ROLL] = { ROLL_TOTAL, "roll" },
     [EVALUATE_ROLL] = { EVALUATE, "roll" },
     [EVALUATE_BOYS] = { EVALUATE, "boys" },
+    [GROUPED_ROLL] = { EVALUATE_GROUPED, "roll" },
+    [GROUPED_BOYS] = { EVALUATE_GROUPED, "boys" },
+    [GROUPED_BUFFER] = { EVALUATE_GROUPED, "buffer" },
+    [GROUPING] = { GROUPED_TERM, "grouping" },
     [JK_I] = { JK, "i" },
     [JK_D] = { JK, "d" },
     [JK_J] = { JK, "j" },
@@ -67,10 +73,12 @@ static const struct {
 enum { REFUSALS = 15, LARGE = sizeof large / sizeof *large }; /* no refusal, and 1 to 14 */
 
 static const char *const fault_names[FAULTS] = { "", "shares beyond", "too many", "not the longest" };
+static const char *const disorder_names[DISORDERS] = { "", "L beyond", "another number", "Boys order falls",
+                                                       "number falls", "asked twice", "missing" };
 
 uint64_t further_calls;
 static uint64_t answers[FUNCTIONS][REFUSALS], found[FUNCTIONS][3], faults[FAULTS], rolls[LARGE], empties[EMPTIES];
-static uint64_t just_over, most_histories;
+static uint64_t disorders[DISORDERS], left[REFUSALS], just_over, most_histories;
 
 void begin(enum function f, const char *labels, size_t words_count, const uint64_t *words)
 {
@@ -100,7 +108,7 @@ void hold(bool good, const char *what)
 void count(enum function f, uint8_t refusal, int again)
 {
     if (refusal != 0)
-        hold(refusal < REFUSALS && memchr(functions[f].refusals, refusal, 6),
+        hold(refusal < REFUSALS && memchr(functions[f].refusals, refusal, sizeof functions[f].refusals),
              "a refusal that the header does not list here");
     if (again) {
         further_calls++;
@@ -118,6 +126,16 @@ void count_found(enum function f, uint8_t which)
 void count_fault(enum fault met)
 {
     faults[met]++;
+}
+
+void count_disorder(enum disorder met)
+{
+    disorders[met]++;
+}
+
+void count_left(uint8_t refusal)
+{
+    left[refusal]++;
 }
 
 void count_roll(xew_written written)
@@ -178,9 +196,17 @@ bool report(void)
         }
         for (int i = 1; f == CHECK2 && i < FAULTS; i++)
             show(name, fault_names[i], faults[i]);
+        for (int i = 1; f == GROUPED_TERM && i < DISORDERS; i++)
+            show(name, disorder_names[i], disorders[i]);
+        if (f == EVALUATE_GROUPED)
+            show(name, "grouped", left[0]);
         for (const uint8_t *refusal = functions[f].refusals; *refusal; refusal++) {
             snprintf(label, sizeof label, "refused %d", *refusal);
             show(name, label, answers[f][*refusal]);
+            if (f != EVALUATE_GROUPED || *refusal < 8 || *refusal > 11)
+                continue;
+            snprintf(label, sizeof label, "grouped beside %d", *refusal);
+            show(name, label, left[*refusal]);
         }
         for (int i = 0; i < EMPTIES; i++)
             if (nulls[i].function == f) {

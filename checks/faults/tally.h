@@ -6,17 +6,18 @@
 
 enum function {
     EXPAND, MEASURE, EXPAND2, SHELL_LIST, SHELL2, SHELL4, OPEN, CHECK, NEXT, OPEN2, CHECK2, NEXT2, TO_FORM2, TO_FORM1,
-    SCALE_TOTAL, ROLL_TOTAL, PREFACTORS, EVALUATE, JK, FUNCTIONS
+    SCALE_TOTAL, ROLL_TOTAL, PREFACTORS, EVALUATE, EVALUATE_GROUPED, GROUPED_TERM, JK, FUNCTIONS
 };
 
 /* Slices that may be of length 0 and null. */
 enum empty {
     EXPAND_OUT, EXPAND2_OUT, LIST_OUT, OPEN_ROLL, CHECK_ROLL, NEXT_ROLL, OPEN2_ROLL, CHECK2_ROLL, NEXT2_ROLL,
-    TO_FORM2_ROLL, TO_FORM2_OUT, TO_FORM1_ROLL, TO_FORM1_OUT, TOTAL_ROLL, EVALUATE_ROLL, EVALUATE_BOYS, JK_I, JK_D, JK_J,
-    JK_K, EMPTIES
+    TO_FORM2_ROLL, TO_FORM2_OUT, TO_FORM1_ROLL, TO_FORM1_OUT, TOTAL_ROLL, EVALUATE_ROLL, EVALUATE_BOYS, GROUPED_ROLL,
+    GROUPED_BOYS, GROUPED_BUFFER, GROUPING, JK_I, JK_D, JK_J, JK_K, EMPTIES
 };
 
 extern struct arena roll_arena, orders_arena, out_arena, boys_arena, i_arena, d_arena, j_arena, k_arena;
+extern struct arena buffer_arena, grouping_arena;
 extern uint64_t further_calls; /* second calls with the same arguments, and steps through a roll */
 
 /* tally.c */
@@ -29,6 +30,8 @@ void hold(bool good, const char *what);
 void count(enum function f, uint8_t refusal, int again); /* again: 1 for the second call with the same arguments */
 void count_found(enum function f, uint8_t found); /* of xew_next or xew_next2 */
 void count_fault(enum fault met); /* of a form 2 roll */
+void count_disorder(enum disorder met); /* of a grouping */
+void count_left(uint8_t refusal); /* a grouping left in its buffer beside a value, or beside a refusal */
 void count_roll(xew_written written);
 void count_histories(uint64_t histories); /* of a request over the cap */
 void maybe_null(struct slice *slice, enum empty which); /* where the length is 0, half of the time */
@@ -43,6 +46,13 @@ xew_opened try_check(struct slice roll);
 void try_next(struct slice roll, xew_cursor cursor);
 xew_cursor step_through(struct slice roll, xew_opened opened, xew_opened checked);
 uint64_t try_roll_total(struct slice roll, xew_opened checked); /* the sum */
+struct numbers { /* what a host gives beside a roll */
+    xew_centre centres[4];
+    double aux;
+    double boys[48];
+    size_t length; /* of boys */
+};
+void any_numbers(xew_opened checked, struct numbers *numbers);
 void try_evaluate(struct slice roll, xew_opened checked);
 void try_cuts(const uint8_t *bytes, size_t length); /* of a roll that reads */
 struct slice try_expand(const struct request *request, size_t length, size_t start);
@@ -57,5 +67,9 @@ void try_cuts2(const uint8_t *bytes, size_t length); /* of a roll that reads */
 void try_to_form2(struct slice roll, xew_opened checked);
 void try_to_form1(struct slice roll, xew_opened2 checked);
 void try_expand2(const struct request *request);
+
+/* grouping.c: calls that lay terms out by Boys order, and that ask for them, each made twice */
+size_t try_evaluate_grouped(struct slice roll, xew_opened checked); /* the grouping's bytes; 0 where there is none */
+void try_grouping(struct slice roll, xew_opened checked); /* a grouping asked for its terms, then forged */
 
 #endif

@@ -1,6 +1,8 @@
 /* Stand-ins that are wrong on purpose, before the library's functions (ld --wrap), so that checks/faults/run self can
  * show that each is caught. WRONG in the environment names the one. */
 #include "../../include/xewumbal.h"
+#include <math.h>
+#include <stdbool.h>
 #include <stdlib.h>
 #include <string.h>
 
@@ -108,6 +110,138 @@ xew_value __wrap_xew_evaluate(const uint8_t *roll, size_t roll_len, xew_centre a
     if (is("forgets-the-boys-count") && value.refusal == 10)
         value.refusal = 0;
     return value;
+}
+
+/* The bytes of a Coulomb roll's grouping: its terms, and a number for each. */
+static size_t grouping_size(xew_opened opened, size_t roll_len)
+{
+    size_t size = roll_len - opened.cursor.place;
+    for (uint32_t number = 1; number <= opened.cursor.left; number++)
+        size += number < 128 ? 1 : number < 16384 ? 2 : 3;
+    return size;
+}
+
+/* The term of a grouping's entry. */
+static xew_step term_of(const uint8_t *grouping, size_t length, size_t at, uint8_t l)
+{
+    while (at < length && grouping[at] >= 128)
+        at++;
+    return xew_next((xew_cursor){ at + 1, 1, 4, l }, grouping, length);
+}
+
+/* Where the last entry of a grouping begins. */
+static size_t last_entry(const uint8_t *grouping, size_t length, uint8_t l)
+{
+    for (size_t at = 0;;) {
+        size_t next = term_of(grouping, length, at, l).next.place;
+        if (next >= length)
+            return at;
+        at = next;
+    }
+}
+
+xew_value __real_xew_evaluate_grouped(const uint8_t *roll, size_t roll_len, xew_centre a, xew_centre b, xew_centre c,
+                                      xew_centre d, double aux, const double *boys, size_t boys_len, uint8_t *buffer,
+                                      size_t buffer_len);
+xew_value __wrap_xew_evaluate_grouped(const uint8_t *roll, size_t roll_len, xew_centre a, xew_centre b, xew_centre c,
+                                      xew_centre d, double aux, const double *boys, size_t boys_len, uint8_t *buffer,
+                                      size_t buffer_len)
+{
+    xew_opened opened = __real_xew_check(roll, roll_len);
+    size_t terms = opened.cursor.left, room = terms * XEW_ENTRY;
+    bool is_grouped = !opened.refusal && opened.cursor.kind == 4 && buffer_len >= room;
+    if (is("judges-the-buffer-first") && buffer_len == 0)
+        return (xew_value){ 0, 0, 6 };
+    uint8_t *before = malloc(buffer_len + 1), *spare = malloc(room + 1);
+    if (!before || !spare)
+        abort();
+    if (buffer_len > 0)
+        memcpy(before, buffer, buffer_len);
+    xew_value value = __real_xew_evaluate_grouped(roll, roll_len, a, b, c, d, aux, boys, boys_len, buffer, buffer_len);
+    size_t size = is_grouped ? grouping_size(opened, roll_len) : 0;
+    if (is("leaves-no-grouping-beside-10") && value.refusal == 10 && is_grouped)
+        memcpy(buffer, before, buffer_len);
+    if (is("writes-beside-a-buffer-too-short") && value.refusal == 6 && buffer_len > 0)
+        buffer[0] ^= 1;
+    if (is("changes-a-byte-behind-the-grouping") && is_grouped && size < buffer_len)
+        buffer[size] ^= 1;
+    if (is("takes-39-bytes-a-term") && value.refusal == 6 && buffer_len >= 39 * terms) {
+        value = __real_xew_evaluate_grouped(roll, roll_len, a, b, c, d, aux, boys, boys_len, spare, room);
+        memcpy(buffer, spare, grouping_size(opened, roll_len));
+    }
+    if (is("loses-a-term") && terms > 1 && is_grouped) {
+        size_t last = last_entry(buffer, size, opened.cursor.l);
+        memcpy(buffer + last, before + last, size - last);
+    }
+    if (is("needs-a-buffer-for-every-kind") && opened.cursor.kind == 0 && !opened.refusal && buffer_len < room)
+        value = (xew_value){ 0, 0, 6 };
+    if (is("sums-to-another-last-bit") && !value.refusal && is_grouped)
+        value.value = nextafter(value.value, 0);
+    free(before);
+    free(spare);
+    return value;
+}
+
+static xew_restored restored(xew_step term)
+{
+    xew_restored answer = { .scale = term.scale, .boys = term.boys, .count = term.count };
+    memcpy(answer.prefactors, term.prefactors, sizeof answer.prefactors);
+    return answer;
+}
+
+/* A number of a grouping that reads. */
+static uint32_t number_at(const uint8_t *grouping, size_t at)
+{
+    uint32_t number = 0;
+    for (int i = 0; i < 5; i++) {
+        number |= (uint32_t)(grouping[at + i] & 127) << 7 * i;
+        if (grouping[at + i] < 128)
+            break;
+    }
+    return number;
+}
+
+/* What is refused 7, read whatever order its entries have: the term with the number asked where a Boys order fell at
+ * the place of the refusal, or the last term where no entry had the number asked. */
+static xew_restored read_loosely(const uint8_t *grouping, size_t length, uint8_t l, uint32_t terms, uint32_t asked,
+                                 xew_restored refused)
+{
+    xew_step found = { 0 }, term = { 0 };
+    size_t at = 0;
+    int fell = 0;
+    for (uint32_t entry = 0; entry < terms; entry++) {
+        uint8_t before = term.boys;
+        term = term_of(grouping, length, at, l);
+        if (term.found != 1)
+            return refused;
+        fell |= at == refused.place && term.boys < before;
+        found = number_at(grouping, at) == asked ? term : found;
+        at = term.next.place;
+    }
+    if (is("takes-a-fallen-boys-order") && fell && found.found == 1)
+        return restored(found);
+    return is("answers-a-missing-number") && at == refused.place ? restored(term) : refused;
+}
+
+xew_restored __real_xew_grouped_term(const uint8_t *grouping, size_t grouping_len, uint8_t l, uint32_t terms,
+                                     uint32_t number);
+xew_restored __wrap_xew_grouped_term(const uint8_t *grouping, size_t grouping_len, uint8_t l, uint32_t terms,
+                                     uint32_t number)
+{
+    if (is("reads-a-grouping-past-the-end") && grouping)
+        seen = grouping[grouping_len];
+    xew_restored answer = __real_xew_grouped_term(grouping, grouping_len, l, terms, number);
+    if (answer.refusal == 7 && l <= 4 * XEW_MOST_ORDER)
+        answer = read_loosely(grouping, grouping_len, l, terms, number, answer);
+    if (is("says-13-for-an-L-beyond") && l > 4 * XEW_MOST_ORDER && number == 0)
+        answer = (xew_restored){ .refusal = 13 };
+    if (is("restores-by-the-place-in-the-grouping") && !answer.refusal) {
+        xew_step term = { 0 };
+        for (uint32_t i = 0; i < number; i++)
+            term = term_of(grouping, grouping_len, term.next.place, l);
+        answer = restored(term);
+    }
+    return answer;
 }
 
 xew_written __real_xew_expand2(uint8_t kind, const uint8_t (*orders)[12], uint8_t *out, size_t out_len, size_t start);
