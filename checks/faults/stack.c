@@ -21,6 +21,7 @@ static const uint8_t deepest[XEW_ORDERS] = { 2, 0, 0, 3, 1, 1, 4, 1, 1, 1, 0, 0 
 static const uint8_t most_orders[XEW_ORDERS] = { 6, 0, 0, 6, 0, 0, 6, 0, 0, 6, 0, 0 };
 static uint8_t *rolls[XEW_KINDS], out[MOST_BYTES];
 static uint8_t *rolls2[XEW_KINDS]; /* in form 2 */
+static uint8_t buffer[XEW_ENTRY * XEW_MOST_TERMS]; /* for groupings */
 static xew_opened opened[XEW_KINDS];
 static size_t lengths[XEW_KINDS], lengths2[XEW_KINDS];
 static uint8_t triples[TRIPLES][3];
@@ -248,6 +249,23 @@ CALLER void evaluate(void)
     }
 }
 
+CALLER void evaluate_grouped(void)
+{
+    FROM_HERE;
+    for (int k = 0; k < XEW_KINDS; k++) {
+        size_t boys = k == 2 || k == 4 ? opened[k].cursor.l + 1u : 0;
+        note(xew_evaluate_grouped(rolls[k], lengths[k], a, b, c, d, 1, floats, boys, buffer, sizeof buffer).refusal);
+    }
+}
+
+/* The last term of the grouping that the row before has left. */
+CALLER void grouped_term(void)
+{
+    FROM_HERE;
+    xew_cursor cursor = opened[4].cursor;
+    note(xew_grouped_term(buffer, sizeof buffer, cursor.l, cursor.left, cursor.left).refusal);
+}
+
 CALLER void jk(void)
 {
     FROM_HERE;
@@ -322,6 +340,8 @@ int main(int words, char **word)
     row("xew_roll_total, the most terms of each kind", roll_total);
     row("xew_prefactors, each kind", prefactors);
     row("xew_evaluate, the most terms of each kind", evaluate);
+    row("xew_evaluate_grouped, the same", evaluate_grouped);
+    row("xew_grouped_term, the last of the most", grouped_term);
     row("xew_jk, size 16", jk);
     printf("  %-44s %6zu\n", "the deepest", most);
     return 0;
