@@ -194,12 +194,21 @@ pub enum Table {
     Refused(Refusal),
 }
 
-/// The answer of [`evaluate`].
+/// The answer of [`evaluate`] and [`evaluate_grouped`].
 #[derive(Clone, Copy, Debug, PartialEq)]
 pub enum Value {
     /// The integral.
     Is(f64),
-    /// By 7 or 14, 8, 9, 10 or 11.
+    /// By 7 or 14, 8, 9, 10 or 11; of [`evaluate_grouped`] after 7 and 14 also by 6.
+    Refused(Refusal),
+}
+
+/// The answer of [`grouped_term`].
+#[derive(Clone, Copy, Debug, PartialEq, Eq)]
+pub enum Restored {
+    /// The term with the number.
+    Term(Term),
+    /// By 7, 13 or 14; the places of 7 and 14 are those of the grouping.
     Refused(Refusal),
 }
 
@@ -393,6 +402,18 @@ pub fn evaluate_grouped(roll: &[u8], a: Centre, b: Centre, c: Centre, d: Centre,
     match Refusal::of(answer.refusal, answer.place) {
         Some(refusal) => Value::Refused(refusal),
         None => Value::Is(answer.value),
+    }
+}
+
+/// The term with a number, counted from 1, of a grouping that [`evaluate_grouped`] left in the front of a buffer, so that the
+/// order of the roll can be restored. `l` and `terms` are the roll's L and term count. The grouping may be anything: so many
+/// entries are read from its front on, and the first fault is told; what follows them is not looked at.
+pub fn grouped_term(grouping: &[u8], l: u8, terms: u32, number: u32) -> Restored {
+    let answer = raw::grouped_term(grouping, l, terms, number);
+    let raw::Restored { scale, boys, count, prefactors, .. } = answer;
+    match Refusal::of(answer.refusal, answer.place) {
+        Some(refusal) => Restored::Refused(refusal),
+        None => Restored::Term(Term { scale, boys, count, prefactors }),
     }
 }
 

@@ -102,6 +102,16 @@ pub struct Step2 {
 }
 
 #[repr(C)]
+pub struct Restored {
+    pub place: usize,
+    pub scale: u32,
+    pub boys: u8,
+    pub count: u8,
+    pub prefactors: [u8; PREFACTORS],
+    pub refusal: u8,
+}
+
+#[repr(C)]
 pub struct Moved {
     pub length: usize,
     pub place: usize,
@@ -131,6 +141,7 @@ const _: () = assert!(size_of::<Opened>() == 40 && size_of::<Step>() == 56);
 const _: () = assert!(size_of::<Cursor2>() == 48 && size_of::<Opened2>() == 72);
 const _: () = assert!(size_of::<Step2>() == 88 && size_of::<Moved>() == 24);
 const _: () = assert!(size_of::<Total>() == 16 && size_of::<Scales>() == 24);
+const _: () = assert!(size_of::<Restored>() == 40);
 
 #[rustfmt::skip]
 extern "C" {
@@ -155,6 +166,7 @@ extern "C" {
                     aux: f64, boys: *const f64, boys_len: usize) -> Value;
     fn xew_evaluate_grouped(roll: *const u8, roll_len: usize, a: Centre, b: Centre, c: Centre, d: Centre,
                             aux: f64, boys: *const f64, boys_len: usize, buffer: *mut u8, buffer_len: usize) -> Value;
+    fn xew_grouped_term(grouping: *const u8, grouping_len: usize, l: u8, terms: u32, number: u32) -> Restored;
     fn xew_jk(n: usize, i: *const f64, i_len: usize, d: *const f64, d_len: usize,
               j: *mut f64, j_len: usize, k: *mut f64, k_len: usize) -> u8;
 }
@@ -236,6 +248,10 @@ pub fn evaluate_grouped(roll: &[u8], a: Centre, b: Centre, c: Centre, d: Centre,
     unsafe {
         xew_evaluate_grouped(roll.as_ptr(), roll.len(), a, b, c, d, aux, boys.as_ptr(), boys.len(), buffer.as_mut_ptr(), buffer.len())
     }
+}
+
+pub fn grouped_term(grouping: &[u8], l: u8, terms: u32, number: u32) -> Restored {
+    unsafe { xew_grouped_term(grouping.as_ptr(), grouping.len(), l, terms, number) }
 }
 
 #[rustfmt::skip]

@@ -1,7 +1,7 @@
 //! The refusals, by the numbers and words of documents 01 and 02 (D-86).
 use core::fmt;
 
-/// Why a call refused. Nothing that was lent has changed then.
+/// Why a call refused. Nothing that was lent has changed then, but for the grouping that `evaluate_grouped` leaves.
 #[derive(Clone, Copy, Debug, PartialEq, Eq)]
 pub enum Refusal {
     Kind,

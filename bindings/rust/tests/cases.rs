@@ -270,6 +270,123 @@ fn values() {
     assert_eq!((j, k), ([1.5], [1.5]));
 }
 
+/// Document 01's roll of Coulomb Ax1 Cx1: [0,2] [0,5]o1 [4,2]o1 [4,5]o2 [22]o1.
+const COULOMB_ORDERS: [u8; ORDERS] = [1, 0, 0, 0, 0, 0, 1, 0, 0, 0, 0, 0];
+
+/// Its grouping: the group of Boys order 0 has term 1, that of 1 terms 2, 3 and 5, that of 2 term 4. An entry is the
+/// number, then scale, Boys order, prefactor count and prefactors.
+const GROUPING: [u8; 29] = [1, 1, 0, 2, 0, 2, 2, 1, 1, 2, 0, 5, 3, 1, 1, 2, 4, 2, 5, 1, 1, 1, 22, 4, 1, 2, 2, 4, 5];
+
+const CENTRES: [Centre; 4] = [
+    Centre { x: 0.1, y: -0.2, z: 0.3, exponent: 1.1 },
+    Centre { x: 0.7, y: 0.4, z: -0.5, exponent: 0.9 },
+    Centre { x: -0.6, y: 0.8, z: 0.2, exponent: 1.7 },
+    Centre { x: 0.5, y: -0.9, z: 1.3, exponent: 0.6 },
+];
+
+fn grouped(roll: &[u8], [a, b, c, d]: [Centre; 4], boys: &[f64], buffer: &mut [u8]) -> Value {
+    evaluate_grouped(roll, a, b, c, d, 1.5, boys, buffer)
+}
+
+/// A Coulomb roll in a buffer of 40 bytes a term and one byte more, then one less: the value has the bits of `evaluate`,
+/// each number gives the roll's term, and what stands behind the grouping is as it was.
+fn in_forty_a_term(orders: [u8; ORDERS], room: usize) {
+    let (roll, [a, b, c, d]) = (expanded(COULOMB, orders), CENTRES);
+    let l = orders.iter().sum();
+    let boys: Vec<f64> = (0..=l).map(|n| 0.8 / f64::from(2 * n + 1)).collect();
+    let listed = terms(&roll);
+    assert_eq!(room, ENTRY * listed.len());
+    let mut buffer = vec![UNTOUCHED; room + 1];
+    let value = grouped(&roll, CENTRES, &boys, &mut buffer[..room]);
+    match (value, evaluate(&roll, a, b, c, d, 1.5, &boys)) {
+        (Value::Is(ours), Value::Is(plain)) => assert_eq!(ours.to_bits(), plain.to_bits()),
+        both => panic!("{both:?}"),
+    }
+    for (number, term) in (1..).zip(&listed) {
+        match grouped_term(&buffer, l, listed.len() as u32, number) {
+            Restored::Term(t) => assert_eq!((t.scale, t.boys, t.prefactors().to_vec()), *term),
+            refused => panic!("{number}: {refused:?}"),
+        }
+    }
+    // The terms follow the kind, twelve orders and the count; here each number of an entry is one byte.
+    let size = roll.len() - 14 + listed.len();
+    assert!(buffer[size..].iter().all(|&byte| byte == UNTOUCHED));
+    let mut less = vec![UNTOUCHED; room - 1];
+    assert_eq!(grouped(&roll, CENTRES, &boys, &mut less), Value::Refused(Refusal::NoRoom));
+    assert!(less.iter().all(|&byte| byte == UNTOUCHED));
+}
+
+#[test]
+fn grouped_in_forty_bytes_a_term() {
+    in_forty_a_term([0; ORDERS], 40);
+    in_forty_a_term(COULOMB_ORDERS, 200);
+    in_forty_a_term(one_at(&[0, 3, 6, 9]), 2160);
+}
+
+#[test]
+fn the_grouping_stays_beside_later_refusals() {
+    let roll = expanded(COULOMB, COULOMB_ORDERS);
+    let with = |change: fn(&mut Centre)| {
+        let mut centres = CENTRES;
+        change(&mut centres[0]);
+        centres
+    };
+    let three = [0.8; 3];
+    let cases: [(Refusal, [Centre; 4], &[f64]); 4] = [
+        (Refusal::InputNotFinite, with(|a| (a.x, a.exponent) = (f64::NAN, 0.0)), &[]),
+        (Refusal::Exponent, with(|a| a.exponent = 0.0), &[]),
+        (Refusal::BoysCount, with(|a| a.x = 1e200), &[]),
+        (Refusal::ResultNotFinite, with(|a| a.x = 1e200), &three),
+    ];
+    for (refusal, centres, boys) in cases {
+        let mut buffer = [UNTOUCHED; 203];
+        assert_eq!(grouped(&roll, centres, boys, &mut buffer), Value::Refused(refusal));
+        assert_eq!((&buffer[..29], &buffer[29..]), (&GROUPING[..], &[UNTOUCHED; 174][..]));
+        let mut short = [UNTOUCHED; 199];
+        assert_eq!(grouped(&roll, centres, boys, &mut short), Value::Refused(Refusal::NoRoom));
+        let mut bad = roll.clone();
+        bad[13] = 0; // its term count
+        assert_eq!(grouped(&bad, centres, boys, &mut short), Value::Refused(Refusal::BadRoll { place: 13 }));
+        assert_eq!(grouped(&roll[..20], centres, boys, &mut short), Value::Refused(Refusal::CutRoll { place: 20 }));
+        assert_eq!(short, [UNTOUCHED; 199]);
+    }
+}
+
+/// For other kinds the buffer is not looked at.
+#[test]
+fn other_kinds_are_not_grouped() {
+    let mut buffer = [UNTOUCHED; 100];
+    assert_eq!(evaluate_grouped(&ROLL, UNIT, UNIT, UNIT, UNIT, 1.0, &[], &mut buffer), Value::Is(0.25));
+    assert_eq!(buffer, [UNTOUCHED; 100]);
+    assert_eq!(evaluate_grouped(&ROLL, UNIT, UNIT, UNIT, UNIT, 1.0, &[], &mut []), Value::Is(0.25));
+}
+
+/// The first fault of a grouping in reading order, after L and the number asked.
+#[test]
+fn faults_of_a_grouping() {
+    let refused = |grouping: &[u8], asked| match grouped_term(grouping, 2, 5, asked) {
+        Restored::Refused(refusal) => refusal,
+        term => panic!("{term:?}"),
+    };
+    let with = |place: usize, byte: u8, asked| {
+        let mut grouping = GROUPING;
+        grouping[place] = byte;
+        refused(&grouping, asked)
+    };
+    let wrong = |place| Refusal::BadRoll { place };
+    assert_eq!(grouped_term(&[], 25, 5, 0), Restored::Refused(wrong(0)));
+    assert_eq!((refused(&[], 0), refused(&[], 6)), (Refusal::ComponentNumber, Refusal::ComponentNumber));
+    assert_eq!((with(0, 0, 1), with(6, 6, 1)), (wrong(0), wrong(6))); // no number from 1 to 5
+    assert_eq!((with(8, 3, 1), with(28, 23, 1)), (wrong(8), wrong(28))); // a Boys order above L; no prefactor
+    assert_eq!(with(2, 2, 1), wrong(6)); // the Boys order falls from 2
+    assert_eq!(with(12, 2, 1), wrong(12)); // 2 is not above 2
+    assert_eq!(with(23, 5, 5), wrong(23)); // a second 5
+    assert_eq!(with(23, 5, 4), wrong(29)); // no 4
+    for cut in 0..GROUPING.len() {
+        assert_eq!(refused(&GROUPING[..cut], 1), Refusal::CutRoll { place: cut });
+    }
+}
+
 /// J is the sum of I(mu, nu, lambda, sigma) D(lambda, sigma), K that of I(mu, lambda, nu, sigma) D(lambda, sigma).
 #[test]
 fn j_and_k_are_not_exchanged() {

@@ -84,6 +84,50 @@ fn most_roll() {
     assert!(matches!(check(&room), Opened::Roll { orders: read, .. } if read == orders));
 }
 
+/// The roll with the most terms, in a buffer of 40 bytes for each and in one less.
+#[test]
+fn largest_grouping() {
+    let orders = [2, 1, 0, 2, 0, 2, 1, 3, 0, 1, 0, 2];
+    let mut roll = vec![0; 14908072];
+    assert_eq!(expand(COULOMB, &orders, &mut roll, 0), Expanded::Roll { length: 14908072, terms: 1048572 });
+    let [a, b, c, d] = [1.0, 0.5, -0.25, 0.125].map(|x| Centre { x, y: x * x, z: -x, exponent: 1.0 + x * x });
+    let boys: Vec<f64> = (0..15).map(|n| 0.8 / f64::from(2 * n + 1)).collect();
+    let mut buffer = vec![0xa5; 41942880];
+    assert_eq!(buffer.len(), ENTRY * 1048572);
+    let short = evaluate_grouped(&roll, a, b, c, d, 1.5, &boys, &mut buffer[1..]);
+    assert_eq!(short, Value::Refused(Refusal::NoRoom));
+    assert!(buffer.iter().all(|&byte| byte == 0xa5));
+    match (evaluate_grouped(&roll, a, b, c, d, 1.5, &boys, &mut buffer), evaluate(&roll, a, b, c, d, 1.5, &boys)) {
+        (Value::Is(ours), Value::Is(plain)) => assert_eq!(ours.to_bits(), plain.to_bits()),
+        both => panic!("{both:?}"),
+    }
+    // The roll's terms, which follow 16 bytes, and a number of one, two or three bytes for each.
+    let size = roll.len() - 16 + 127 + 2 * (16383 - 127) + 3 * (1048572 - 16383);
+    assert!(buffer[size..].iter().all(|&byte| byte == 0xa5));
+    let mut cursor = Cursor { place: 16, left: 1048572, kind: COULOMB, l: 14 };
+    assert!(matches!(open(&roll), Opened::Roll { cursor: first, .. } if first == cursor));
+    for number in 1..=1048572 {
+        let term = match cursor.next(&roll) {
+            Step::Term { term, next } => {
+                cursor = next;
+                term
+            }
+            other => panic!("{other:?}"),
+        };
+        if [1, 127, 128, 16383, 16384, 1048572].contains(&number) {
+            assert_eq!(grouped_term(&buffer[..size], 14, 1048572, number), Restored::Term(term));
+        }
+    }
+}
+
+#[test]
+fn largest_l_of_a_grouping() {
+    let most = 4 * MOST_ORDER;
+    let grouping = [1, 1, most, 0];
+    assert!(matches!(grouped_term(&grouping, most, 1, 1), Restored::Term(term) if term.boys == most));
+    assert_eq!(grouped_term(&grouping, most + 1, 1, 1), Restored::Refused(Refusal::BadRoll { place: 0 }));
+}
+
 #[test]
 fn most_scale() {
     let first = Cursor { place: 8, left: 1, kind: OVERLAP, l: 0 };
