@@ -3,6 +3,7 @@
 
 mod components;
 mod forms;
+mod grouped;
 mod matrices;
 mod measure;
 mod numbers;

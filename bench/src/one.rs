@@ -1,7 +1,7 @@
 //! One call of one request, so many times, for a profiler.
 
 use crate::numbers::Numbers;
-use crate::ours::{self, ROOM};
+use crate::ours::{self, ENTRY, ROOM};
 use crate::requests::{self, Request};
 use crate::rust_side;
 
@@ -18,7 +18,9 @@ pub fn run(name: &str, call: &str, count: &str) -> Result<(), String> {
     let request = find(name)?;
     let count: u32 = count.parse().map_err(|_| format!("no count: {}", count))?;
     let mut out = vec![0; ROOM];
-    let length = ours::expand(&request, &mut out).length;
+    let written = ours::expand(&request, &mut out);
+    let length = written.length;
+    let mut buffer = vec![0; ENTRY * written.terms as usize];
     let with = Numbers::of(&request);
     let mut bits = 0;
     for _ in 0..count {
@@ -27,9 +29,16 @@ pub fn run(name: &str, call: &str, count: &str) -> Result<(), String> {
             "measure" => u64::from(ours::measure(&request).terms),
             "check" => u64::from(ours::check(&out[..length]).cursor.left),
             "evaluate" => ours::evaluate(&out[..length], &with).value.to_bits(),
+            "grouped" => {
+                let answer = ours::evaluate_grouped(&out[..length], &with, &mut buffer);
+                answer.value.to_bits()
+            }
             "terms" => rust_side::terms(&request).len() as u64,
             "get" => rust_side::value(&request, &with.centres).to_bits(),
-            _ => return Err("the calls are: expand measure check evaluate terms get".to_string()),
+            _ => {
+                let calls = "expand measure check evaluate grouped terms get";
+                return Err(format!("the calls are: {}", calls));
+            }
         }
     }
     println!("{} {} {} times: {:x}", name, call, count, bits);

@@ -7,6 +7,8 @@ use crate::requests::Request;
 
 /// Any roll fits into so many bytes; the longest has 15,001,920.
 pub const ROOM: usize = 1 << 24;
+/// A grouping buffer has so many bytes for each term.
+pub const ENTRY: usize = 40;
 
 pub fn expand(request: &Request, out: &mut [u8]) -> Written {
     raw::expand(request.kind, &request.orders, out, 0)
@@ -19,6 +21,11 @@ pub fn measure(request: &Request) -> Written {
 pub fn evaluate(roll: &[u8], with: &Numbers) -> Value {
     let [a, b, c, d] = with.centres;
     raw::evaluate(roll, a, b, c, d, with.aux, &with.boys)
+}
+
+pub fn evaluate_grouped(roll: &[u8], with: &Numbers, buffer: &mut [u8]) -> Value {
+    let [a, b, c, d] = with.centres;
+    raw::evaluate_grouped(roll, a, b, c, d, with.aux, &with.boys, buffer)
 }
 
 /// The roll of a request that is not refused.

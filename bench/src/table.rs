@@ -2,9 +2,11 @@
 
 use crate::components::{self, COUNT};
 use crate::forms;
+use crate::grouped;
 use crate::matrices::{self, SIZES};
 use crate::measure::Row;
 use crate::totals;
+use std::fmt::Display;
 use std::time::Duration;
 
 /// The least ratios that are asked for: of an expansion with Boys orders and without, and of an evaluation.
@@ -27,11 +29,14 @@ impl Table {
         heading(&format!("{}{}", columns, goal));
     }
 
-    fn row(&self, cells: &str, goal: f64, is_met: bool) {
-        match (self.has_goals, is_met) {
-            (false, _) => println!("| {} |", cells),
-            (_, true) => println!("| {} | {} | yes |", cells, goal),
-            (_, false) => println!("| {} | {} | no |", cells, goal),
+    fn row(&self, cells: &str, goal: impl Display, is_met: bool) {
+        self.ended(cells, goal, if is_met { "yes" } else { "no" });
+    }
+
+    fn ended(&self, cells: &str, goal: impl Display, met: &str) {
+        match self.has_goals {
+            true => println!("| {} | {} | {} |", cells, goal, met),
+            false => println!("| {} |", cells),
         }
     }
 
@@ -72,6 +77,38 @@ impl Table {
             );
             self.row(&cells, EVALUATION, theirs / ours >= EVALUATION);
         }
+    }
+
+    /// A goal for each of the three ratios, where there is one.
+    fn print_grouped(&self, rows: &[&Row]) -> Result<(), String> {
+        self.head("grouped | terms | get_coulomb, ns a term | xew_evaluate | xew_evaluate_grouped | get_coulomb through xew_evaluate | get_coulomb through grouped | xew_evaluate through grouped");
+        for row in rows.iter().filter(|row| row.request.kind == 4) {
+            let times = grouped::times(&row.request, Duration::from_millis(100))?;
+            let [theirs, plain, grouped] = times.map(|took| took / row.terms);
+            let ratios = [theirs / plain, theirs / grouped, plain / grouped];
+            let cells = format!(
+                "{} | {} | {:.1} | {:.1} | {:.1} | {:.1} | {:.1} | {:.2}",
+                row.request.title(),
+                row.terms,
+                theirs,
+                plain,
+                grouped,
+                ratios[0],
+                ratios[1],
+                ratios[2]
+            );
+            let goals = grouped::goals(&row.request);
+            let words = goals.map(|goal| match goal > 0.0 {
+                true => goal.to_string(),
+                false => "-".to_string(),
+            });
+            let is_met = ratios.iter().zip(&goals).all(|(ratio, goal)| ratio >= goal);
+            match goals == [0.0; 3] {
+                true => self.ended(&cells, "-", "-"),
+                false => self.row(&cells, words.join(", "), is_met),
+            }
+        }
+        Ok(())
     }
 
     fn print_refusals(&self, rows: &[&Row], largest: f64) {
@@ -201,6 +238,7 @@ pub fn print(rows: &[Row], has_goals: bool) -> Result<(), String> {
     let time = largest.map_or(f64::NAN, |row| row.expansion[1]);
     table.print_refusals(&refused, time);
     table.print_components();
+    table.print_grouped(&accepted)?;
     print_matrices()?;
     print_forms(&accepted)?;
     print_totals()
