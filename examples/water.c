@@ -76,8 +76,10 @@ static xew_centre product(xew_centre a, xew_centre b, double *overlap)
     return (xew_centre){u * a.x + v * b.x, u * a.y + v * b.y, u * a.z + v * b.z, z};
 }
 
-/* One integral over primitives, by the roll of its orders. */
-static double primitive(int kind, const uint8_t *roll, size_t length, const xew_centre c[4], int l)
+/* One integral over primitives, by the roll of its orders. A Coulomb roll's terms are grouped in the buffer and summed
+ * in one pass; for other kinds it is not looked at. */
+static double primitive(int kind, const uint8_t *roll, size_t length, const xew_centre c[4], int l, uint8_t *buffer,
+                        size_t room)
 {
     double boys[MOST_L + 1], aux, other;
     xew_centre p = product(c[0], c[1], &aux);
@@ -91,7 +93,7 @@ static double primitive(int kind, const uint8_t *roll, size_t length, const xew_
         aux *= 2 * sqrt(rho / PI) * other;
     }
     size_t count = kind == NUCLEAR || kind == COULOMB ? l + 1 : 0;
-    xew_value answer = xew_evaluate(roll, length, c[0], c[1], c[2], c[3], aux, boys, count);
+    xew_value answer = xew_evaluate_grouped(roll, length, c[0], c[1], c[2], c[3], aux, boys, count, buffer, room);
     accept(answer.refusal, answer.place);
     return answer.value;
 }
@@ -106,10 +108,11 @@ static double integral(int kind, const int *f, int count)
         if (basis[f[i]].axis >= 0) orders[3 * i + basis[f[i]].axis] = 1, l++;
     xew_written size = xew_measure(kind, &orders);
     accept(size.refusal, 0);
-    size_t room = size.length + size.terms; /* what the roll takes at most in form 2 */
-    uint8_t *stored = malloc(room), *roll = malloc(size.length);
-    if (stored == NULL || roll == NULL) perror("water"), exit(1);
-    xew_written written = xew_expand2(kind, &orders, stored, room, 0);
+    size_t most = size.length + size.terms;       /* what the roll takes at most in form 2 */
+    size_t room = (size_t)XEW_ENTRY * size.terms; /* for the groups of a Coulomb roll */
+    uint8_t *stored = malloc(most), *roll = malloc(size.length), *buffer = malloc(room);
+    if (stored == NULL || roll == NULL || buffer == NULL) perror("water"), exit(1);
+    xew_written written = xew_expand2(kind, &orders, stored, most, 0);
     accept(written.refusal, 0);
     xew_moved moved = xew_to_form1(stored, written.length, roll, size.length, 0); /* judged, and back in form 1 */
     accept(moved.refusal, moved.place);
@@ -126,10 +129,12 @@ static double integral(int kind, const int *f, int count)
         }
         for (int a = 0; a < (kind == NUCLEAR ? ATOMS : 1); a++) {
             if (kind == NUCLEAR) c[2] = atoms[a];
-            sum += factor * (kind == NUCLEAR ? charges[a] : 1) * primitive(kind, roll, moved.length, c, l);
+            double value = primitive(kind, roll, moved.length, c, l, buffer, room);
+            sum += factor * (kind == NUCLEAR ? charges[a] : 1) * value;
         }
     }
     free(roll);
+    free(buffer);
     return sum;
 }
 
