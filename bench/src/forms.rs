@@ -6,12 +6,13 @@ use crate::requests::Request;
 use crate::timing::{in_turn, Call};
 use std::time::Duration;
 
-/// Bytes in form 1 and form 2, and nanoseconds of a call: xew_expand, xew_expand2, xew_check, xew_to_form2, xew_to_form1.
+/// Bytes in form 1 and form 2, and nanoseconds of a call: xew_expand and xew_expand2, xew_check and xew_check2 of the roll in
+/// each form, xew_to_form2 and xew_to_form1.
 pub struct Forms {
     pub terms: f64,
     pub bytes: [f64; 2],
     pub written: [f64; 2],
-    pub check: f64,
+    pub checks: [f64; 2],
     pub moved: [f64; 2],
 }
 
@@ -39,9 +40,10 @@ pub fn times(request: &Request, time: Duration) -> Result<Forms, String> {
         ],
         time,
     );
-    let [check, to_two, to_one] = in_turn(
+    let [check, check2, to_two, to_one] = in_turn(
         [
             Call::new(|| u64::from(ours::check(&one).cursor.left)),
+            Call::new(|| u64::from(raw::check2(&two).cursor.cursor.left)),
             Call::new(|| u64::from(raw::to_form2(&one, &mut out, 0).terms)),
             Call::new(|| u64::from(raw::to_form1(&two, &mut other, 0).terms)),
         ],
@@ -51,7 +53,7 @@ pub fn times(request: &Request, time: Duration) -> Result<Forms, String> {
         terms: f64::from(written.terms),
         bytes: [one.len() as f64, two.len() as f64],
         written: [first, second],
-        check,
+        checks: [check, check2],
         moved: [to_two, to_one],
     })
 }

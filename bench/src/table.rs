@@ -203,22 +203,24 @@ fn print_totals() -> Result<(), String> {
     Ok(())
 }
 
-/// A move may take three times the time of xew_check of the roll in form 1; the writer of form 2 no longer than form 1's.
+/// A move may take three times as long as the judge of the roll that is moved; the writer of form 2 no longer than form 1's.
 fn print_forms(rows: &[&Row]) -> Result<(), String> {
-    heading("two forms | form 1, bytes | form 2, bytes | ratio | xew_expand, ns a term | xew_expand2 | xew_check | xew_to_form2, times check | xew_to_form1, times check");
+    heading("two forms | form 1, bytes | form 2, bytes | ratio | xew_expand, ns a term | xew_expand2 | xew_check | xew_check2 | xew_to_form2, times check | xew_to_form1, times check2 | xew_to_form1, times check");
     for row in rows {
         let took = forms::times(&row.request, Duration::from_millis(100))?;
         println!(
-            "| {} | {} | {} | {:.3} | {:.1} | {:.1} | {:.1} | {:.2} | {:.2} |",
+            "| {} | {} | {} | {:.3} | {:.1} | {:.1} | {:.1} | {:.1} | {:.2} | {:.2} | {:.2} |",
             row.request.title(),
             took.bytes[0],
             took.bytes[1],
             took.bytes[1] / took.bytes[0],
             took.written[0] / took.terms,
             took.written[1] / took.terms,
-            took.check / took.terms,
-            took.moved[0] / took.check,
-            took.moved[1] / took.check
+            took.checks[0] / took.terms,
+            took.checks[1] / took.terms,
+            took.moved[0] / took.checks[0],
+            took.moved[1] / took.checks[1],
+            took.moved[1] / took.checks[0]
         );
     }
     Ok(())
