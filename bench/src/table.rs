@@ -203,7 +203,8 @@ fn print_totals() -> Result<(), String> {
     Ok(())
 }
 
-/// A move may take three times as long as the judge of the roll that is moved; the writer of form 2 no longer than form 1's.
+/// A move may take three times the time of xew_check of the roll in form 1; the writer of form 2 no longer than form 1's. Beside
+/// it stands xew_check2, the judge of the roll that the way back moves.
 fn print_forms(rows: &[&Row]) -> Result<(), String> {
     heading("two forms | form 1, bytes | form 2, bytes | ratio | xew_expand, ns a term | xew_expand2 | xew_check | xew_check2 | xew_to_form2, times check | xew_to_form1, times check2 | xew_to_form1, times check");
     for row in rows {
