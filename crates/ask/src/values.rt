@@ -20,8 +20,6 @@ use words::NUMBERS;
 
 // The floats of four centres.
 const CENTRES: usize = 16;
-// The bytes of a grouping buffer for each term.
-const ENTRY: usize = 40;
 // The most Boys numbers that a question can have.
 const MOST_BOYS: usize = 65536;
 
@@ -97,7 +95,7 @@ fn owned(value: Value, opened: Opened) -> usize {
 
 fn grouping_of(cursor: Cursor) -> usize {
     if cursor.kind == Kind::Coulomb.number() {
-        return ENTRY * cursor.left as usize;
+        return grouping::ENTRY * cursor.left as usize;
     }
     0
 }

@@ -20,7 +20,7 @@ pub use restoring::Restored;
 pub use restoring::grouped_term;
 
 // Bytes of the buffer for each term.
-const ENTRY: usize = 40;
+pub const ENTRY: usize = 40;
 
 // The host's centres and aux.
 struct Given {
