@@ -1,0 +1,3 @@
+pub mod EndsLaws
+pub mod FormsLaws
+pub mod InForms

@@ -1,0 +1,4 @@
+-- What the contracts of inner functions speak of, beside what 02 says.
+pub mod Ends
+pub mod Forms
+pub mod Renewing
