@@ -16,11 +16,11 @@ use Rattle.salvaging.specs.inner.Ends.{behind, untilLast, countAt, endAt
 
 -- ---- bytes that two slices begin with
 
-shared-heads : (p q : ℕ) (ps qs : List ℕ) (b : Bool) → eqb p q ≡ b → shared (p ∷ ps) (q ∷ qs) ≡ cond b (suc (shared ps qs)) 0
+pub shared-heads : (p q : ℕ) (ps qs : List ℕ) (b : Bool) → eqb p q ≡ b → shared (p ∷ ps) (q ∷ qs) ≡ cond b (suc (shared ps qs)) 0
 unfolding shared
 shared-heads p q ps qs b e = rw e
 
-none-shared : (qs : List ℕ) → shared [] qs ≡ 0
+pub none-shared : (qs : List ℕ) → shared [] qs ≡ 0
 unfolding shared
 none-shared qs = refl
 
@@ -108,11 +108,11 @@ module _ (n : ℕ) (s : List ℕ) (at place : ℕ) (inside : endAt n s at ≤ le
 
 -- ---- terms that end within a place
 
-turn : (n : ℕ) (s : List ℕ) (most at left : ℕ) (b : Bool) → ltb most (endAt n s at) ≡ b → endsWithin n s most at (suc left) ≡ cond b 0 (suc (endsWithin n s most (endAt n s at) left))
+pub turn : (n : ℕ) (s : List ℕ) (most at left : ℕ) (b : Bool) → ltb most (endAt n s at) ≡ b → endsWithin n s most at (suc left) ≡ cond b 0 (suc (endsWithin n s most (endAt n s at) left))
 unfolding endsWithin
 turn n s most at left b e = rw e
 
-none-left : (n : ℕ) (s : List ℕ) (most at : ℕ) → endsWithin n s most at 0 ≡ 0
+pub none-left : (n : ℕ) (s : List ℕ) (most at : ℕ) → endsWithin n s most at 0 ≡ 0
 unfolding endsWithin
 none-left n s most at = refl
 

@@ -101,14 +101,44 @@ end-by scale front count rest s at n small behind is =
     omega (arith, until, behind, there)
 
 module _ (k : Kind) (l : ℕ) (t : Term) (small : l ≤ mostL k) (fit : TermFits k l t) where
-  ps : List ℕ
-  ps = t .prefactors
+  low-scale : t .scale < 2 ^ 32
+  low-scale = omega (arith, fit .scale)
 
-  few-scale : t .scale < 2 ^ 32
-  few-scale = omega (arith, fit .scale)
+  low-boys : t .boys < 128
+  low-boys = omega (arith, fit .boys, most-boys k l, l-within k)
 
-  boys-byte : bytesOf (t .boys) ≡ t .boys ∷ []
-  boys-byte = bytes-last (t .boys) (omega (arith, fit .boys, most-boys k l, l-within k))
+  low-count : length (t .prefactors) < 128
+  low-count = omega (arith, fit .count, few-prefactors k l small)
 
-  few-long : length ps < 128
-  few-long = let few = few-prefactors k l small in omega (arith, fit .count)
+  end-one : (s rest : List ℕ) (at : ℕ) → drop at s ≡ termBytes t ++ rest → endAt 2 s at ≡ at + length (termBytes t)
+  unfolding termBytes lengthOf
+  end-one s rest at is =
+      let ps = t .prefactors in
+      let one = bytes-last (t .boys) low-boys in
+      let two = bytes-last (length ps) low-count in
+      let plain = one-byte-each (tableOf k) ps (table-within k) (fit .prefactors) in
+      let written : termBytes t ≡ bytesOf (t .scale) ++ ((t .boys ∷ []) ++ (length ps ∷ ps)) = rw (one, two, plain) refl in
+      let end = end-by (t .scale) (t .boys ∷ []) (length ps) (ps ++ rest) s at 2 low-scale refl (is ∙ ap (λ (x : List ℕ). x ++ rest) written ∙ append-assoc (bytesOf (t .scale)) ((t .boys ∷ []) ++ (length ps ∷ ps)) rest) in
+      let long = ap length written ∙ length-append (bytesOf (t .scale)) ((t .boys ∷ []) ++ (length ps ∷ ps)) in
+      omega (arith, end, long)
+
+  end-two : (earlier s rest : List ℕ) (at : ℕ) → drop at s ≡ termBytes2 earlier t ++ rest → endAt 3 s at ≡ at + length (termBytes2 earlier t)
+  unfolding termBytes2 lengthOf
+  end-two earlier s rest at is =
+      let fs = furtherOf earlier (t .prefactors) in
+      let n = shared earlier (t .prefactors) in
+      let whole = further-length earlier (t .prefactors) in
+      let few = low-count in
+      let one = bytes-last (t .boys) low-boys in
+      let two = bytes-last n (omega arith) in
+      let three = bytes-last (length fs) (omega arith) in
+      let plain = one-byte-each (tableOf k) fs (table-within k) (below-further (tableOf k) earlier (t .prefactors) (fit .prefactors)) in
+      let written : termBytes2 earlier t ≡ bytesOf (t .scale) ++ ((t .boys ∷ n ∷ []) ++ (length fs ∷ fs)) = rw (one, two, three, plain) refl in
+      let end = end-by (t .scale) (t .boys ∷ n ∷ []) (length fs) (fs ++ rest) s at 3 low-scale refl (is ∙ ap (λ (x : List ℕ). x ++ rest) written ∙ append-assoc (bytesOf (t .scale)) ((t .boys ∷ n ∷ []) ++ (length fs ∷ fs)) rest) in
+      let long = ap length written ∙ length-append (bytesOf (t .scale)) ((t .boys ∷ n ∷ []) ++ (length fs ∷ fs)) in
+      omega (arith, end, long)
+
+-- a term ends behind its writing
+pub term-end : (f : Form) (k : Kind) (l : ℕ) (earlier : List ℕ) (t : Term) (s rest : List ℕ) (at : ℕ) → l ≤ mostL k → TermFits k l t → drop at s ≡ termBytesIn f earlier t ++ rest → endAt (behind f) s at ≡ at + length (termBytesIn f earlier t)
+term-end One k l earlier t s rest at small fit is = end-one k l t small fit s rest at is
+term-end Two k l earlier t s rest at small fit is = end-two k l t small fit earlier s rest at is

@@ -1,3 +1,4 @@
 pub mod EndsLaws
 pub mod FormsLaws
 pub mod InForms
+pub mod Kept
