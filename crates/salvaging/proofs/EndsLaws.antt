@@ -167,3 +167,6 @@ whole-behind f n s terms is w = rw is w
 
 pub ends-behind : (f : Form) (n : ℕ) (a s : List ℕ) (most terms r : ℕ) → n ≡ behind f → most ≡ shared a s → r ≡ endsWithin n s most 0 terms → r ≡ endsWithin (behind f) s (shared a s) 0 terms
 ends-behind f n a s most terms r is same told = told ∙ ap₂ (λ (m p : ℕ). endsWithin m s p 0 terms) is same
+
+pub kept-few : (n : ℕ) (s : List ℕ) (most terms r : ℕ) → r ≡ endsWithin n s most 0 terms → r ≤ terms
+kept-few n s most terms r is = omega (arith, is, ends-few n s most 0 terms)
