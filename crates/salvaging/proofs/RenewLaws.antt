@@ -4,32 +4,44 @@ use mathlib.Core.Path.{_≡_, refl, sym, ap, ap₂, _∙_}
 use mathlib.Core.Bool.{Bool, true, false, cond, not}
 use mathlib.Core.List.{List, [], _∷_, _++_}
 use native.Mathlib.Omega.{arith}
-use borrow.Author.Tests.{eq-eqb, ne-eqb, eqb-true, eqb-false}
+use borrow.Author.Tests.{eq-eqb, ne-eqb, eqb-true, eqb-false, ltb-false}
 use lib.Dec.{eqb}
 use lib.ListN.{length, take, drop}
-use Rattle.laws.proofs.Parts.{part-all}
+use lib.Seq.{length-sets}
+use Rattle.laws.proofs.Cases.{clash}
+use Rattle.laws.proofs.Parts.{part-all, sets-placed}
+use Rattle.laws.specs.Placed.{placed}
 use Rattle.laws.specs.Total.{total}
-use Rattle.number.specs.Numbers.{lengthOf}
+use Rattle.kind.specs.Limits.{mostTerms}
+use Rattle.kind.specs.Kinds.{kindOf, numberOf}
+use Rattle.kind.specs.declared.Named.{Named}
+use Rattle.kind.specs.declared.Named.the-variants.{Is}
+use Rattle.kind.proofs.KindNumber.{kind-number}
+use Rattle.number.specs.Numbers.{lengthOf, Bytes}
 use Rattle.term.specs.Terms.{Term}
 use Rattle.roll.specs.declared.cursor.Cursor.{Cursor}
-use Rattle.roll.specs.Reading.{got, Header}
+use Rattle.roll.specs.declared.header.Opened.{Opened}
+use Rattle.roll.specs.declared.header.Opening.the-variants as opening
+use Rattle.roll.specs.Reading.{Reading, got, refused, Header}
+use Rattle.roll.specs.Header.{cursorAt, heldHeader}
 use Rattle.form2.specs.Bytes.{shared}
 use Rattle.expansion.specs.declared.Expanded.{Expanded}
 use Rattle.expansion.specs.declared.Expanded.the-variants as expanded
-use Rattle.expansion.specs.Expanding.{_exceeds_, tooMany, termsOf, kindIn, outIn, FormTold}
+use Rattle.expansion.specs.Expanding.{_exceeds_, tooMany, termsOf, kindIn, namedIn, outIn, FormTold}
 use Rattle.expansion.specs.inner.Requests.{RequestWithin}
+use Rattle.expansion.proofs.Demanded.{answered, cut}
 use Rattle.salvaging.specs.declared.forms.Form.{Form}
 use Rattle.salvaging.specs.declared.After.{After}
 use Rattle.salvaging.specs.declared.After.the-variants as after
 use Rattle.salvaging.specs.declared.Told.{Told}
 use Rattle.salvaging.specs.declared.Salvaged.{Salvaged}
 use Rattle.salvaging.specs.declared.Salvaged.the-variants as answer
-use Rattle.salvaging.specs.Salvage.{headerIn, rollIn, requestOf, freshTerms, freshRoll, Leading, leading, leadingOf, afterOf, toldOf, salvagedIn, bytesOut}
+use Rattle.salvaging.specs.Salvage.{formOf, headerIn, rollIn, requestOf, freshTerms, freshRoll, Leading, leading, leadingOf, afterOf, toldOf, salvagedIn, bytesOut, salvagedOf, outOf, SalvageTold}
 use Rattle.salvaging.specs.inner.Ends.{behind, Whole, endsWithin}
 use Rattle.salvaging.specs.inner.Forms.{termsBytesIn}
-use Rattle.salvaging.specs.inner.Renewing.{afterBy, HeaderOf, ToldMay, ToldFrom}
-use Rattle.salvaging.proofs.Fresh.{HeaderIs, header-is, header-long, fresh-fits, freshFrom, fresh-tail}
-use Rattle.salvaging.proofs.Kept.{ends-lead, lead-place}
+use Rattle.salvaging.specs.inner.Renewing.{afterBy, HeaderOf, ToldMay, ToldFrom, RenewMay, RenewTold}
+use Rattle.salvaging.proofs.Fresh.{HeaderIs, header-is, header-long, request-within, fresh-fits, freshFrom, fresh-tail}
+use Rattle.salvaging.proofs.Kept.{terms-whole, ends-lead, lead-place}
 
 -- ---- a damaged roll against the fresh one
 
@@ -116,3 +128,164 @@ module _ (f : Form) (s : List ℕ) (h : Header) (next : ℕ) (within : RequestWi
       by false true six = refl
       by false false true = refl
       by false false false = refl
+
+-- what is known of a header's request, whichever the answer
+record Asked (f : Form) (s : List ℕ) (h : Header) (next : ℕ) (before : List ℕ) (start : ℕ) (w : Expanded) (now : List ℕ) : Type 0 where
+  pub parts : HeaderIs f s h next
+  pub within : RequestWithin (h .kind) (requestOf h)
+  pub answer : w ≡ kindIn (rollIn f) (h .kind) (requestOf h) before start
+  pub out : now ≡ outIn (rollIn f) w (Is (h .kind)) (requestOf h) before start
+
+module _ (f : Form) (s : List ℕ) (o : Opened) (before : List ℕ) (start : ℕ) (may : RenewMay f s o) (w : Expanded) (now : List ℕ) (told : FormTold (rollIn f) (o .cursor .kind) (o .orders) before start w now) where
+  abbrev hd : Header
+  hd = may .header .h
+
+  asked : Asked f s (may .header .h) (may .header .next) before start w now
+  unfolding requestOf
+  asked =
+      let parts = header-is f s hd (may .header .next) (may .bytes) (may .header .reads) in
+      let kind : kindOf (o .cursor .kind) ≡ Is (hd .kind) = ap (λ (x : Opened). kindOf (x .cursor .kind)) (may .held) ∙ kind-number (hd .kind) in
+      let orders : o .orders ≡ requestOf hd = ap (λ (x : Opened). x .orders) (may .held) in
+      let is : w ≡ kindIn (rollIn f) (hd .kind) (requestOf hd) before start = told .answer ∙ ap₂ (λ (n : Named) (os : List ℕ). namedIn (rollIn f) n os before start) kind orders in
+      record {
+        parts = parts;
+        within = request-within hd (parts .places) (parts .sums);
+        answer = is;
+        out =
+            told .out
+            ∙ ap (λ (x : Expanded). outIn (rollIn f) x (kindOf (o .cursor .kind)) (o .orders) before start) (sym (told .answer))
+            ∙ ap₂ (λ (n : Named) (os : List ℕ). outIn (rollIn f) w n os before start) kind orders;
+      }
+
+  -- the answer that the definition gives
+  salvaged : (r : Told) → r ≡ toldOf f s (may .header .h) (may .header .next) → asSalvaged r w ≡ salvagedIn f s (headerIn f s) before start
+  salvaged r is =
+      let a = asked in
+      ap₂ asSalvaged is (a .answer)
+      ∙ sym (answered-as f s hd (may .header .next) (a .within) before start)
+      ∙ ap (λ (x : Reading Header). salvagedIn f s x before start) (sym (may .header .reads))
+
+  pub renew-refused : (n : ℕ) → w ≡ expanded.Refused n → RenewTold f s before start (answer.Refused n 0) now
+  renew-refused n e =
+      let a = asked in
+      let told-is = toldOf f s hd (may .header .next) in
+      let is : answer.Refused n 0 ≡ salvagedIn f s (headerIn f s) before start = ap (asSalvaged told-is) (sym e) ∙ salvaged told-is refl in
+      record {
+        answer = is;
+        out = a .out ∙ ap (λ (x : Expanded). outIn (rollIn f) x (Is (hd .kind)) (requestOf hd) before start) e ∙ ap (λ (x : Salvaged). bytesOut x f (headerIn f s) before start) is;
+      }
+
+  module _ (long count : ℕ) (e : w ≡ expanded.Roll long count) where
+    abbrev fresh : List ℕ
+    fresh = freshRoll f (may .header .h)
+
+    -- its length and count, its room, and where it stands
+    record Renewed : Type 0 where
+      pub long-is : long ≡ length (freshRoll f (may .header .h))
+      pub count-is : count ≡ length (freshTerms (may .header .h))
+      pub few : count ≤ mostTerms
+      pub room : start + long ≤ length before
+      pub stands : now ≡ placed before start (freshRoll f (may .header .h))
+      pub cut-is : take long (drop start now) ≡ freshRoll f (may .header .h)
+
+    renewed : Renewed
+    unfolding freshRoll freshTerms
+    renewed =
+        let a = asked in
+        let r = answered (rollIn f) (hd .kind) (requestOf hd) before start long count (sym (a .answer) ∙ e) in
+        let begins : start ≤ length before = ltb-false (length before) start (r .five) in
+        let room = ltb-false (length before) (start + length (rollIn f (hd .kind) (requestOf hd))) (r .six) in
+        let few = ltb-false mostTerms (length (termsOf (hd .kind) (requestOf hd))) (r .four) in
+        let stands : now ≡ placed before start (rollIn f (hd .kind) (requestOf hd)) = a .out ∙ ap (λ (x : Expanded). outIn (rollIn f) x (Is (hd .kind)) (requestOf hd) before start) e in
+        record {
+          long-is = r .long-is;
+          count-is = r .count-is;
+          few = omega (arith, few, r .count-is);
+          room = omega (arith, room, r .long-is);
+          stands = stands;
+          cut-is = cut before start long now (rollIn f (hd .kind) (requestOf hd)) begins (r .long-is) stands;
+        }
+
+    pub renew-room : start + long ≤ length before
+    renew-room = renewed .room
+
+    pub renew-end : start + long ≤ length now
+    renew-end =
+        let r = renewed in
+        let same = ap length (r .stands) ∙ ap length (sym (sets-placed (freshRoll f (may .header .h)) before start (omega (arith, r .room, r .long-is)))) ∙ length-sets before start (freshRoll f (may .header .h)) in
+        omega (arith, r .room, same)
+
+    pub renew-may : ToldMay f s (o .cursor) (take (start + long - start) (drop start now)) count
+    renew-may =
+        let r = renewed in
+        let parts = asked .parts in
+        let next = may .header .next in
+        let ts = freshTerms hd in
+        let same : start + long - start ≡ long = omega arith in
+        let cursor : o .cursor ≡ cursorAt hd next = ap (λ (x : Opened). x .cursor) (may .held) in
+        let long-head = header-long f s hd next parts in
+        let place : o .cursor .place ≡ next = ap (λ (x : Cursor). x .place) cursor in
+        let stored : lengthOf (o .cursor .left) ≡ lengthOf (hd .terms) = ap (λ (x : Cursor). lengthOf (x .left)) cursor in
+        let counted : lengthOf count ≡ lengthOf (length ts) = ap lengthOf (r .count-is) in
+        let from-is : o .cursor .place - lengthOf (o .cursor .left) + lengthOf count ≡ freshFrom f hd = omega (arith, place, stored, counted, long-head) in
+        let ends = fresh-tail f hd (parts .places) in
+        let fit = fresh-fits hd (parts .places) (parts .sums) (omega (arith, r .count-is, r .few)) in
+        let whole = terms-whole f (hd .kind) (total (hd .orders)) (parts .most) ts [] (termsBytesIn f [] ts) 0 fit zero-le refl in
+        rw (same, r .cut-is)
+        (record {
+          header = may .header;
+          bytes = may .bytes;
+          cursor = cursor;
+          roll = refl;
+          count = r .count-is;
+          few = r .few;
+          inside = omega (arith, place, parts .inside);
+          stored = omega (arith, stored, place, long-head);
+          from = omega (arith, from-is, ends .1);
+          whole = rw (from-is, ends .0, r .count-is) whole;
+        })
+
+    pub renew-told : (r : Told) → ToldFrom f s r → RenewTold f s before start (answer.Roll r) now
+    renew-told r from =
+        let both : got (from .header .h) (from .header .next) ≡ got hd (may .header .next) = sym (from .header .reads) ∙ may .header .reads in
+        let one : from .header .h ≡ hd = cc in
+        let two : from .header .next ≡ may .header .next = cc in
+        let is : answer.Roll r ≡ salvagedIn f s (headerIn f s) before start = ap (asSalvaged r) (sym e) ∙ salvaged r (from .is ∙ ap₂ (toldOf f s) one two) in
+        record {
+          answer = is;
+          out = renewed .stands ∙ ap (λ (x : Reading Header). bytesOut (answer.Roll r) f x before start) (sym (may .header .reads)) ∙ ap (λ (x : Salvaged). bytesOut x f (headerIn f s) before start) is;
+        }
+
+-- ---- the header first
+
+module _ (f : Form) (s : List ℕ) (o : Opened) (is : o ≡ heldHeader (headerIn f s)) where
+  pub renew-first : Bytes s → o .found ≡ opening.Roll → RenewMay f s o
+  renew-first bytes found = by (headerIn f s) refl
+    where
+      by : (x : Reading Header) → headerIn f s ≡ x → RenewMay f s o
+      by (got h next) e = record { header = record { h = h; next = next; reads = e }; bytes = bytes; held = is ∙ ap heldHeader e }
+      by (refused n place) e = let not = sym found ∙ ap (λ (x : Opened). x .found) (is ∙ ap heldHeader e) in absurd (clash (cc))
+
+  pub salvage-refused : (n place : ℕ) (before : List ℕ) (start : ℕ) → f ≡ formOf s → o .found ≡ opening.Refused n place → SalvageTold s before start (answer.Refused n place) before
+  unfolding salvagedOf outOf salvagedIn
+  salvage-refused n place before start form found = by (headerIn f s) refl
+    where
+      by : (x : Reading Header) → headerIn f s ≡ x → SalvageTold s before start (answer.Refused n place) before
+      by (got h next) e = let not = sym found ∙ ap (λ (x : Opened). x .found) (is ∙ ap heldHeader e) in absurd (clash (cc))
+      by (refused m q) e =
+          let same = sym (ap (λ (x : Opened). x .found) (is ∙ ap heldHeader e)) ∙ found in
+          let number : m ≡ n = cc in
+          let there : q ≡ place = cc in
+          let reads : headerIn (formOf s) s ≡ refused n place = ap (λ (g : Form). headerIn g s) (sym form) ∙ e ∙ ap₂ (λ (a b : ℕ). refused a b) number there in
+          record {
+            answer = ap (λ (x : Reading Header). salvagedIn (formOf s) s x before start) (sym reads);
+            out = ap (λ (x : Reading Header). bytesOut (salvagedIn (formOf s) s x before start) (formOf s) x before start) (sym reads);
+          }
+
+pub salvage-told : (f : Form) (s before : List ℕ) (start : ℕ) (r : Salvaged) (now : List ℕ) → f ≡ formOf s → RenewTold f s before start r now → SalvageTold s before start r now
+unfolding salvagedOf outOf
+salvage-told f s before start r now form told =
+    record {
+      answer = told .answer ∙ ap (λ (g : Form). salvagedIn g s (headerIn g s) before start) form;
+      out = told .out ∙ ap (λ (g : Form). bytesOut (salvagedIn g s (headerIn g s) before start) g (headerIn g s) before start) form;
+    }
