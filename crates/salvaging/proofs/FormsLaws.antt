@@ -27,7 +27,7 @@ by-tests : (a b : Bool) (s : List ℕ) → leb formTwo (getD s 0 0) ≡ a → le
 unfolding formOf
 by-tests a b s e f = rw (e, f)
 
-second-form : (s : List ℕ) → formTwo ≤ getD s 0 0 → getD s 0 0 ≤ formTwo + numberOf Coulomb → Two ≡ formOf s
+pub second-form : (s : List ℕ) → formTwo ≤ getD s 0 0 → getD s 0 0 ≤ formTwo + numberOf Coulomb → Two ≡ formOf s
 second-form s low high = by-tests true true s (le-leb formTwo (getD s 0 0) low) (le-leb (getD s 0 0) (formTwo + numberOf Coulomb) high)
 
 pub form-two : (s : List ℕ) (n : ℕ) → n ≡ numberOf Coulomb → formTwo ≤ getD s 0 0 → getD s 0 0 ≤ formTwo + n → Two ≡ formOf s

@@ -1,6 +1,9 @@
 pub mod EndsLaws
+pub mod FirstByte
 pub mod FormsLaws
 pub mod Fresh
 pub mod InForms
 pub mod Kept
+pub mod Only
 pub mod RenewLaws
+pub mod Worked
