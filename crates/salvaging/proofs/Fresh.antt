@@ -179,6 +179,10 @@ module _ (h : Header) (places : length (h .orders) ≡ ordersOf (h .kind)) where
   unfolding freshTerms
   fresh-fits sums few = subst (λ (os : List ℕ). TermsFit (h .kind) (total os) (termsOf (h .kind) (requestOf h))) request-orders (roll-fits (h .kind) (requestOf h) (request-within sums) few .terms)
 
+  pub fresh-some : CentresFit (h .orders) → length (freshTerms h) ≤ mostTerms → 1 ≤ length (freshTerms h)
+  unfolding freshTerms
+  fresh-some sums few = roll-fits (h .kind) (requestOf h) (request-within sums) few .terms-least
+
   -- the fresh roll: the same head, the fresh count, the fresh terms
   pub fresh-bytes : (f : Form) → freshRoll f h ≡ headOf f h ++ (bytesOf (length (freshTerms h)) ++ termsBytesIn f [] (freshTerms h))
   unfolding freshRoll freshTerms rollOf rollOf2 rollBytes rollBytes2

@@ -5,5 +5,6 @@ pub mod Fresh
 pub mod InForms
 pub mod Kept
 pub mod Only
+pub mod Promised
 pub mod RenewLaws
 pub mod Worked
