@@ -51,7 +51,7 @@ followed-requires : tie.Need-followed-requires
 followed-requires c κs = search needs
 
 returns : tie.Need-returns
-returns c = search compared-told
+returns c = compared-told _ _ _ _ _ (c .before .before .before .before .before .before .before .before .pre) _ _ _ _ (c .before .before .before .before .before .length .ensures) (c .before .before .before .before .length2 .ensures) (c .before .leading .ensures) (c .followed .ensures)
 
 pub compared-spec : {M : Type 1} → statement M
 compared-spec =
