@@ -82,6 +82,11 @@ fn answer(question: Question, out: &mut Vec<u8>) -> Result<(), Refusal> {
             buffer,
             start,
         } => moved(out, to, &roll, buffer, start),
+        Question::Salvage {
+            roll,
+            buffer,
+            start,
+        } => salvage(out, &roll, buffer, start),
         Question::Eval(evaluation) => eval(out, &evaluation),
         Question::Grouped { buffer, evaluation } => grouped(out, buffer, &evaluation),
         Question::Table(kind, centres) => table(out, kind, &centres),
@@ -122,6 +127,37 @@ fn moved(
     let (header, roll) = second::moved(to, roll)?;
     second::check_room(roll.len(), buffer, start)?;
     written(out, &roll, header.count as usize);
+    Ok(())
+}
+
+/// The header's refusals, then those of the expansion, which is the Rust's own.
+fn salvage(out: &mut Vec<u8>, roll: &[u8], buffer: usize, start: u64) -> Result<(), Refusal> {
+    let form = Form::of(roll);
+    let header = second::NOW.open_in(form, roll)?;
+    second::check_request(header.kind, &header.orders, buffer, start)?;
+    let terms = rust_side::terms(header.kind, &header.orders);
+    let fresh = second::write_roll_in(form, header.kind, &header.orders, &terms);
+    second::check_room(fresh.len(), buffer, start)?;
+    let told = second::salvaged(form, roll, &header, &terms);
+    let count = if told.is_other_count { "other" } else { "same" };
+    let after = match told.bytes_follow {
+        Some(true) => "bytes",
+        Some(false) => "none",
+        None => "unknown",
+    };
+    write(
+        out,
+        &format!(
+            "salvaged {} terms {} kept {} anew {} count {} after {} ",
+            fresh.len(),
+            terms.len(),
+            told.kept,
+            told.anew,
+            count,
+            after
+        ),
+    );
+    parse::write_hex(out, &fresh);
     Ok(())
 }
 

@@ -112,7 +112,8 @@ fn way(question: &[u8]) -> Option<Way> {
     Some(answer::way(&header, &terms, &evaluation))
 }
 
-/// The first word; a refusal with its number, and a total apart from none.
+/// The first word; a refusal with its number, a total apart from none, and a salvage with what it
+/// says of the count and of what follows.
 pub fn class(answer: &[u8]) -> String {
     if answer.is_empty() || answer[0] == b'#' {
         return "the same line".to_string();
@@ -122,6 +123,13 @@ pub fn class(answer: &[u8]) -> String {
     match (first.as_str(), words.next()) {
         ("refused", Some(number)) => format!("refused {:>2}", number),
         ("total", Some(none)) if none == "none" => "total none".to_string(),
+        ("salvaged", _) => {
+            let told: Vec<_> = words.take(10).collect();
+            match &told[..] {
+                [.., count, _, after] => format!("salvaged {} {}", count, after),
+                _ => first,
+            }
+        }
         _ => first,
     }
 }
@@ -132,7 +140,7 @@ fn report(kind: &str, tally: &Tally, count: u64) {
         kind, tally.lines, count, tally.differences, tally.spoiled
     );
     for (class, number) in &tally.answers {
-        println!("  {:<14} {:>8}", class, number);
+        println!("  {:<22} {:>8}", class, number);
     }
     if is_evaluation(kind) {
         println!(

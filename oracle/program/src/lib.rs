@@ -18,4 +18,5 @@ pub mod requests;
 pub mod rolls;
 pub mod runs;
 pub mod rust_side;
+pub mod salvage_rolls;
 pub mod second;

@@ -84,9 +84,8 @@ fn random_line(random: &mut Random) -> Vec<u8> {
 /// A question of exactly this length, or a comment where none has it.
 pub fn longest(kind: &str, length: usize) -> Vec<u8> {
     let mut line = match kind {
-        "list" | "open" | "check" | "scales" | "open2" | "check2" | "form1" | "form2" => {
-            format!("{} ", kind).into_bytes()
-        }
+        "list" | "open" | "check" | "scales" | "open2" | "check2" | "form1" | "form2"
+        | "salvage" => format!("{} ", kind).into_bytes(),
         "next" => b"next 0 0 0 0 ".to_vec(),
         "next2" => b"next2 0 0 0 0 / ".to_vec(),
         _ => b"#".to_vec(),

@@ -87,6 +87,11 @@ pub enum Question {
         buffer: usize,
         start: u64,
     },
+    Salvage {
+        roll: Vec<u8>,
+        buffer: usize,
+        start: u64,
+    },
     Eval(Evaluation),
     Grouped {
         buffer: usize,
@@ -223,6 +228,15 @@ fn question(bytes: &[u8]) -> Option<Question> {
         b"next2" => next(&mut words, Form::Two)?,
         b"form1" => moved(&mut words, Form::One)?,
         b"form2" => moved(&mut words, Form::Two)?,
+        b"salvage" => {
+            let roll = words.roll()?;
+            let (buffer, start) = words.room()?;
+            Question::Salvage {
+                roll,
+                buffer,
+                start,
+            }
+        }
         b"eval" => Question::Eval(evaluation(&mut words)?),
         b"grouped" => Question::Grouped {
             buffer: words.number(LARGEST_GROUPING as u64)? as usize,

@@ -7,11 +7,11 @@ use crate::lines::{grouping_buffer, numbers, with_roll};
 use crate::parse::{LONGEST_LINE, MOST_BOYS};
 use crate::random::Random;
 use crate::second::{self, Form, NOW};
-use crate::{form2_rolls, matrices, odd_lines, requests, rolls, runs, rust_side};
+use crate::{form2_rolls, matrices, odd_lines, requests, rolls, runs, rust_side, salvage_rolls};
 use std::io::{self, Write};
 
 /// The kinds of question, as `oracle/ask-both` names them.
-pub const KINDS: [&str; 21] = [
+pub const KINDS: [&str; 22] = [
     "shell",
     "component",
     "expand",
@@ -28,6 +28,7 @@ pub const KINDS: [&str; 21] = [
     "next2",
     "form2",
     "form1",
+    "salvage",
     "eval",
     "grouped",
     "table",
@@ -56,6 +57,7 @@ pub fn write_all(kind: &str, count: u64, seed: u64, out: &mut dyn Write) -> io::
             rolls::tried_one_by_one()
         }
         "open2" | "check2" | "next2" | "form1" => form2_rolls::tried_one_by_one(),
+        "salvage" => salvage_rolls::tried_one_by_one(),
         _ => Vec::new(),
     };
     let most_tried = if count < ALL_TRIED { count / 2 } else { count };
@@ -96,6 +98,14 @@ fn at_a_limit(kind: &str, from_end: u64) -> Option<Vec<u8>> {
         3 if kind == "eval" => Some(odd_lines::with_boys("eval", MOST_BOYS)),
         3 if kind == "grouped" => Some(odd_lines::with_boys("grouped 0", MOST_BOYS)),
         3 if kind == "scales" => Some(with_roll(kind, &rolls::of_largest_scales(ROLL_OF_A_LINE))),
+        3 if kind == "salvage" => Some(with_roll(
+            kind,
+            &salvage_rolls::of_the_most_terms(Form::One),
+        )),
+        2 if kind == "salvage" => Some(with_roll(
+            kind,
+            &salvage_rolls::of_the_most_terms(Form::Two),
+        )),
         2 if kind == "eval" => Some(odd_lines::with_boys("eval", MOST_BOYS + 1)),
         2 if kind == "grouped" => Some(odd_lines::with_boys("grouped 0", MOST_BOYS + 1)),
         _ => None,
@@ -121,6 +131,10 @@ fn question(random: &mut Random, kind: &str, at: u64) -> Vec<u8> {
             let roll = form2_rolls::any_of_form_1(random);
             about_roll(random, kind, &roll, Walk::Anywhere)
         }
+        "salvage" => {
+            let roll = salvage_rolls::any(random);
+            about_roll(random, kind, &roll, Walk::Anywhere)
+        }
         "eval" => eval(random),
         "grouped" => grouped(random),
         "table" => table(random),
@@ -142,6 +156,7 @@ fn about_roll(random: &mut Random, kind: &str, roll: &[u8], walk: Walk) -> Vec<u
         "next2" => cursors::next(random, Form::Two, roll, walk),
         "form1" => moved(random, Form::One, roll),
         "form2" => moved(random, Form::Two, roll),
+        "salvage" => salvage(random, roll),
         "eval" => evaluation(random, "eval", roll, Taste::Ordinary, true),
         "grouped" => grouped_of(random, roll, Taste::Ordinary, true),
         _ => with_roll(kind, roll),
@@ -196,7 +211,7 @@ fn expand(random: &mut Random, form: Form, fixed_kind: Option<u8>) -> Vec<u8> {
     let mut line = numbers(word, kind, &orders);
     if random.once_in(2) {
         let need = match form {
-            Form::One => roll_length(kind as u8, &orders),
+            Form::One => requests::length_expanded(kind as u8, &orders),
             Form::Two => form2_rolls::length_expanded(kind as u8, &orders),
         };
         append_room(random, &mut line, need);
@@ -213,6 +228,15 @@ fn moved(random: &mut Random, to: Form, roll: &[u8]) -> Vec<u8> {
     let mut line = with_roll(word, roll);
     if random.once_in(2) {
         append_room(random, &mut line, form2_rolls::length_moved(to, roll));
+    }
+    line
+}
+
+/// A damaged roll, with a buffer and a start around each boundary for the fresh one.
+fn salvage(random: &mut Random, roll: &[u8]) -> Vec<u8> {
+    let mut line = with_roll("salvage", roll);
+    if random.once_in(3) {
+        append_room(random, &mut line, salvage_rolls::length_salvaged(roll));
     }
     line
 }
@@ -252,14 +276,6 @@ fn request(random: &mut Random, fixed_kind: Option<u8>) -> (u64, [u8; 12]) {
         _ => {}
     }
     (kind, orders)
-}
-
-/// The length of the request's roll; some number where there is none.
-fn roll_length(kind: u8, orders: &[u8; 12]) -> u64 {
-    match second::check_measured(kind, orders) {
-        Ok(()) => second::measure(kind, orders).0 as u64,
-        Err(_) => 100,
-    }
 }
 
 /// An evaluation: the Rust's own list and aux, or other terms or another aux, or a wrong one.

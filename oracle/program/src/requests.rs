@@ -69,6 +69,15 @@ pub fn short(random: &mut Random, kind: u8) -> [u8; 12] {
     }
 }
 
+/// A request of at most three orders of 1 in all: few terms.
+pub fn small(random: &mut Random, kind: u8) -> [u8; 12] {
+    let mut orders = [0; 12];
+    for _ in 0..random.below(4) {
+        orders[random.index(second::orders_used(kind))] += 1;
+    }
+    orders
+}
+
 /// Coulomb has low orders on all centres, or any on one or two: long histories, few of them.
 fn low_orders(random: &mut Random, kind: u8) -> [u8; 12] {
     let all = u64::from(NOW.order_sum);
@@ -121,7 +130,8 @@ pub fn of_any_size(random: &mut Random, kind: u8) -> [u8; 12] {
     }
 }
 
-fn beyond_the_cap(random: &mut Random) -> [u8; 12] {
+/// A Coulomb request with more terms than the cap lets through.
+pub fn beyond_the_cap(random: &mut Random) -> [u8; 12] {
     loop {
         let orders = any(random, 4);
         if second::count_histories(4, &orders, NOW.terms) > NOW.terms {
@@ -165,3 +175,11 @@ pub const AT_THE_LISTING: [[u8; 12]; 2] = [
     [4, 2, 0, 2, 2, 0, 2, 2, 0, 0, 0, 0],
     [0, 1, 5, 5, 1, 0, 5, 0, 0, 0, 0, 0],
 ];
+
+/// The length of a request's roll in form 1; some number where there is none.
+pub fn length_expanded(kind: u8, orders: &[u8; 12]) -> u64 {
+    match second::check_measured(kind, orders) {
+        Ok(()) => second::measure(kind, orders).0 as u64,
+        Err(_) => 100,
+    }
+}

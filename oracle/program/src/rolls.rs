@@ -302,7 +302,7 @@ pub fn of_length(random: &mut Random, length: usize) -> Vec<u8> {
 }
 
 /// Small rolls, one of each kind, whose bytes are tried one by one.
-const SMALL: [(u8, [u8; 12]); 5] = [
+pub const SMALL: [(u8, [u8; 12]); 5] = [
     (0, [1, 0, 0, 1, 0, 0, 0, 0, 0, 0, 0, 0]),
     (1, [1, 0, 0, 0, 0, 0, 0, 0, 0, 0, 0, 0]),
     (2, [0, 0, 0, 1, 0, 0, 0, 0, 0, 0, 0, 0]),

@@ -9,6 +9,7 @@ use oracle::questions::{write_all, KINDS};
 use oracle::requests;
 use oracle::rolls::{to_be_cut, tried_one_by_one};
 use oracle::runs;
+use oracle::salvage_rolls;
 use oracle::second::Form;
 use std::collections::BTreeSet;
 use std::io::{self, Write};
@@ -65,6 +66,19 @@ fn every_kind_of_answer_comes_up() {
             "next" | "next2" => &["term", "end", "refused  7", "refused 14"],
             "form1" | "form2" => &[
                 "roll",
+                "refused  5",
+                "refused  6",
+                "refused  7",
+                "refused 14",
+            ],
+            "salvage" => &[
+                "salvaged same none",
+                "salvaged same bytes",
+                "salvaged same unknown",
+                "salvaged other none",
+                "salvaged other bytes",
+                "salvaged other unknown",
+                "refused  4",
                 "refused  5",
                 "refused  6",
                 "refused  7",
@@ -208,6 +222,27 @@ fn rolls_of_form_2_that_are_tried_one_by_one() {
         line.truncate(7);
         write_roll(&mut line, roll);
         assert!(asked == line);
+    }
+}
+
+/// checks/questions counts on this number.
+#[test]
+fn damaged_rolls_that_are_tried_one_by_one() {
+    let tried = salvage_rolls::tried_one_by_one();
+    // Of the small rolls, which have 183 bytes in all, 78 of them orders: cut, left out, doubled, set.
+    let bytes = (183 + 10) + 2 * 183 + 8 * 78 + 256 * (183 - 78);
+    // By the number of terms: counts with terms, exchanged, doubled or left out.
+    let terms = |n: usize| 3 * (n + 3) * (n + 1) + n * (n - 1) / 2 + 6 * n;
+    let terms: usize = [2, 2, 2, 1, 2, 3, 6, 5].map(terms).iter().sum();
+    assert_eq!(tried.len(), bytes + 2 * terms);
+    assert_eq!(tried.len(), 29_621);
+    // A question may name a buffer after the roll.
+    let asked = questions("salvage", 50_000, 1);
+    let mut line = b"salvage ".to_vec();
+    for (asked, roll) in lines(&asked).into_iter().zip(&tried) {
+        line.truncate(8);
+        write_roll(&mut line, roll);
+        assert!(asked == line || asked.starts_with(&[&line[..], b" "].concat()));
     }
 }
 

@@ -16,6 +16,15 @@ impl Form {
         }
     }
 
+    /// The form whose reader judges a roll that may be of either. A first byte that begins neither
+    /// is left to the reader of form 1, which refuses it at 0 as that of form 2 does.
+    pub fn of(roll: &[u8]) -> Form {
+        match roll.first() {
+            Some(16..=20) => Form::Two,
+            _ => Form::One,
+        }
+    }
+
     pub fn other(self) -> Form {
         match self {
             Form::One => Form::Two,

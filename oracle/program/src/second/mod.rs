@@ -1,10 +1,10 @@
 //! A second, independent reading of documents 01 and 02, in plain Rust.
 //!
 //! Everything that os86.rs, shell.rs and basis.rs do not know stands here: limits and
-//! refusals, the roll in its two forms, the reader and the cursor, the moves, the listing, the
-//! capped count of histories, the checks of an evaluation and the grouping of terms. Nothing here
-//! calls the unchanged Rust. The step rules, the geometry and the sums of J and K are here too, so
-//! that the two can be held against each other.
+//! refusals, the roll in its two forms, the reader and the cursor, the moves, what is left of a
+//! damaged roll, the listing, the capped count of histories, the checks of an evaluation and the
+//! grouping of terms. Nothing here calls the unchanged Rust. The step rules, the geometry and the
+//! sums of J and K are here too, so that the two can be held against each other.
 
 mod census;
 mod checks;
@@ -17,6 +17,7 @@ mod matrices;
 mod moves;
 mod refusal;
 mod roll;
+mod salvage;
 mod steps;
 mod totals;
 
@@ -34,5 +35,6 @@ pub use moves::moved;
 pub use refusal::{refusal, Refusal};
 pub use roll::{fresh_roll, measure, write_number, write_roll, write_roll_in};
 pub use roll::{read_number, Header, Step, Unread};
+pub use salvage::{salvaged, Salvaged};
 pub use steps::{count_histories, terms, Term};
 pub use totals::{by_hand, is_claimed, scales, total};
