@@ -155,6 +155,16 @@ typedef struct {
     uint8_t refusal;
 } xew_moved;
 
+/* What was salvaged: the bytes and the terms of the fresh roll; how many leading terms of the damaged one read and equal the
+ * fresh ones (kept), and how many after them were written anew: kept + anew is terms. miscounted is 1 where the stored term
+ * count is not terms. after: 0 unknown, since not every term was kept; 1 nothing follows the last term; 2 bytes do. place is
+ * that of 7 and 14 in the damaged roll's header. */
+typedef struct {
+    size_t length, place;
+    uint32_t terms, kept, anew;
+    uint8_t miscounted, after, refusal;
+} xew_salvaged;
+
 /* What the scales of a request's terms add up to. claimed is 1 beside a total; it is 0 for kinetic and Coulomb, whose
  * totals do not go by the summed orders, and beside a refusal. */
 typedef struct {
@@ -222,6 +232,11 @@ xew_moved xew_to_form2(const uint8_t *roll, size_t roll_len, uint8_t *out, size_
 /* Moves a form 2 roll back to form 1. roll_len plus L for each term (cursor.cursor.left * cursor.cursor.l of xew_check2)
  * always hold it; a move into less may fit, and is refused 6 where it does not. Refusals: 7 or 14, 5, 6. */
 xew_moved xew_to_form1(const uint8_t *roll, size_t roll_len, uint8_t *out, size_t out_len, size_t start);
+
+/* Salvages a damaged roll of either form whose header (kind, orders and term count) reads: the expansion of its request is
+ * worked out afresh and written into out from start on, in the form of the damaged one, and compared with it. The stored
+ * count does not limit that. Refusals: 7 or 14 of the header, 5, 4, 6. */
+xew_salvaged xew_salvage(const uint8_t *roll, size_t roll_len, uint8_t *out, size_t out_len, size_t start);
 
 /* What the scales of a request's terms add up to, worked out from the orders alone (docs/BY-HAND.md): for overlap, nuclear
  * and moment xew_roll_total of the roll that xew_expand writes is the same number. Refusals: 1, 2, 3. */

@@ -165,6 +165,28 @@ pub enum Moved {
     Refused(Refusal),
 }
 
+/// What follows the last term of a damaged roll.
+#[derive(Clone, Copy, Debug, PartialEq, Eq)]
+pub enum After {
+    /// Not every term was kept, so nobody knows.
+    Unknown,
+    /// Nothing.
+    Nothing,
+    /// Bytes.
+    Bytes,
+}
+
+/// The answer of [`salvage`].
+#[derive(Clone, Copy, Debug, PartialEq, Eq)]
+pub enum Salvaged {
+    /// The fresh roll has `length` bytes, from the start place on, and `terms` terms. The first `kept` of them were read from
+    /// the damaged roll, the `anew` others were not; `miscounted` says whether its stored term count is another.
+    #[allow(missing_docs)]
+    Roll { length: usize, terms: u32, kept: u32, anew: u32, miscounted: bool, after: After },
+    /// By 7 or 14 of the header, 5, 4 or 6.
+    Refused(Refusal),
+}
+
 /// The answer of [`scale_total`].
 #[derive(Clone, Copy, Debug, PartialEq, Eq)]
 pub enum Total {
@@ -350,6 +372,22 @@ pub fn to_form2(roll: &[u8], out: &mut [u8], start: usize) -> Moved {
 /// it.
 pub fn to_form1(roll: &[u8], out: &mut [u8], start: usize) -> Moved {
     moved(raw::to_form1(roll, out, start))
+}
+
+/// Works out afresh, into `out` from `start` on, the expansion that a damaged roll of either form had, where its header
+/// reads, and tells how much of the damaged one is still the same.
+pub fn salvage(roll: &[u8], out: &mut [u8], start: usize) -> Salvaged {
+    let answer = raw::salvage(roll, out, start);
+    let raw::Salvaged { length, terms, kept, anew, .. } = answer;
+    let after = match answer.after {
+        1 => After::Nothing,
+        2 => After::Bytes,
+        _ => After::Unknown,
+    };
+    match Refusal::of(answer.refusal, answer.place) {
+        Some(refusal) => Salvaged::Refused(refusal),
+        None => Salvaged::Roll { length, terms, kept, anew, miscounted: answer.miscounted == 1, after },
+    }
 }
 
 /// What the scales of a request's terms add up to, worked out from the orders alone: for overlap, nuclear and moment

@@ -120,6 +120,18 @@ pub struct Moved {
 }
 
 #[repr(C)]
+pub struct Salvaged {
+    pub length: usize,
+    pub place: usize,
+    pub terms: u32,
+    pub kept: u32,
+    pub anew: u32,
+    pub miscounted: u8,
+    pub after: u8,
+    pub refusal: u8,
+}
+
+#[repr(C)]
 pub struct Total {
     pub total: u64,
     pub claimed: u8,
@@ -141,7 +153,7 @@ const _: () = assert!(size_of::<Opened>() == 40 && size_of::<Step>() == 56);
 const _: () = assert!(size_of::<Cursor2>() == 48 && size_of::<Opened2>() == 72);
 const _: () = assert!(size_of::<Step2>() == 88 && size_of::<Moved>() == 24);
 const _: () = assert!(size_of::<Total>() == 16 && size_of::<Scales>() == 24);
-const _: () = assert!(size_of::<Restored>() == 40);
+const _: () = assert!(size_of::<Restored>() == 40 && size_of::<Salvaged>() == 32);
 
 #[rustfmt::skip]
 extern "C" {
@@ -159,6 +171,7 @@ extern "C" {
     fn xew_next2(cursor: Cursor2, roll: *const u8, roll_len: usize) -> Step2;
     fn xew_to_form2(roll: *const u8, roll_len: usize, out: *mut u8, out_len: usize, start: usize) -> Moved;
     fn xew_to_form1(roll: *const u8, roll_len: usize, out: *mut u8, out_len: usize, start: usize) -> Moved;
+    fn xew_salvage(roll: *const u8, roll_len: usize, out: *mut u8, out_len: usize, start: usize) -> Salvaged;
     fn xew_scale_total(kind: u8, orders: *const [u8; ORDERS]) -> Total;
     fn xew_roll_total(roll: *const u8, roll_len: usize) -> Scales;
     fn xew_prefactors(kind: u8, a: Centre, b: Centre, c: Centre, d: Centre) -> Table;
@@ -225,6 +238,10 @@ pub fn to_form2(roll: &[u8], out: &mut [u8], start: usize) -> Moved {
 
 pub fn to_form1(roll: &[u8], out: &mut [u8], start: usize) -> Moved {
     unsafe { xew_to_form1(roll.as_ptr(), roll.len(), out.as_mut_ptr(), out.len(), start) }
+}
+
+pub fn salvage(roll: &[u8], out: &mut [u8], start: usize) -> Salvaged {
+    unsafe { xew_salvage(roll.as_ptr(), roll.len(), out.as_mut_ptr(), out.len(), start) }
 }
 
 pub fn scale_total(kind: u8, orders: &[u8; ORDERS]) -> Total {

@@ -136,6 +136,33 @@ fn each_form_refuses_the_other() {
     assert_eq!(to_form1(&form1, &mut [0; 99], 0), Moved::Refused(wrong));
 }
 
+/// Of the three terms of overlap Ax3 in form 2 the second one is damaged, then the count, then nothing but what follows.
+#[test]
+fn what_is_salvaged() {
+    let told = |kept, miscounted, after| Salvaged::Roll { length: 26, terms: 3, kept, anew: 3 - kept, miscounted, after };
+    let mut room = [UNTOUCHED; 28];
+    let mut salvaged = |roll: &[u8]| {
+        let answer = salvage(roll, &mut room, 1);
+        assert_eq!((room[0], &room[1..27], room[27]), (UNTOUCHED, &FORM2[..], UNTOUCHED));
+        answer
+    };
+    assert_eq!(salvaged(&FORM2), told(3, false, After::Nothing));
+    let mut damaged = FORM2;
+    damaged[15] ^= 1;
+    assert_eq!(salvaged(&damaged), told(1, false, After::Unknown));
+    assert_eq!(salvaged(&FORM2[..25]), told(2, false, After::Unknown));
+    assert_eq!(salvaged(&FORM2[..8]), told(0, false, After::Unknown));
+    let mut longer = [&FORM2[..], &[0]].concat();
+    assert_eq!(salvaged(&longer), told(3, false, After::Bytes));
+    longer[7] = 1;
+    assert_eq!(salvaged(&longer[..26]), told(3, true, After::Nothing));
+    let mut room = [UNTOUCHED; 25];
+    assert_eq!(salvage(&FORM2, &mut room, 0), Salvaged::Refused(Refusal::NoRoom));
+    assert_eq!(salvage(&FORM2, &mut room, 26), Salvaged::Refused(Refusal::StartBeyondEnd));
+    assert_eq!(salvage(&FORM2[..7], &mut room, 26), Salvaged::Refused(Refusal::CutRoll { place: 7 }));
+    assert_eq!(room, [UNTOUCHED; 25]);
+}
+
 /// Document 02's faults, each at its place.
 #[test]
 fn faults_of_form_2() {

@@ -28,6 +28,12 @@ use Rattle.form2.specs.declared.cursor.Step2.{Step2}
 use Rattle.form2.specs.declared.header.Opened2.{Opened2}
 use Rattle.form2.specs.declared.moves.Moved.{Moved}
 use Rattle.form2.specs.declared.moves.Moved.the-variants as moved
+use Rattle.salvaging.specs.declared.After.{After}
+use Rattle.salvaging.specs.declared.After.the-variants as after
+use Rattle.salvaging.specs.declared.Told.{Told}
+use Rattle.salvaging.specs.declared.Salvaged.{Salvaged}
+use Rattle.salvaging.specs.declared.Salvaged.the-variants as salvaged
+use Rattle.salvaging.specs.Salvage.{SalvageTold}
 use Rattle.form2.specs.Header.{open2Of, check2Of}
 use Rattle.form2.specs.Cursor.{step2Of}
 use Rattle.form2.specs.Moves.{ToForm2Told, ToForm1Told}
@@ -62,11 +68,13 @@ use Rattle.xewumbal.specs.declared.xew_cursor2.{«xew_cursor2»}
 use Rattle.xewumbal.specs.declared.xew_opened2.{«xew_opened2»}
 use Rattle.xewumbal.specs.declared.xew_step2.{«xew_step2»}
 use Rattle.xewumbal.specs.declared.xew_moved.{«xew_moved»}
+use Rattle.xewumbal.specs.declared.xew_salvaged.{«xew_salvaged»}
 use Rattle.xewumbal.specs.declared.xew_restored.{«xew_restored»}
 use Rattle.xewumbal.specs.declared.xew_total.{«xew_total»}
 use Rattle.xewumbal.specs.declared.xew_scales.{«xew_scales»}
 use Rattle.xewumbal.specs.Answers.{ExpandCallTold, ListCallTold, GroupedCallTold, hostRestored, groupedTermAnswer, JkCallTold, centreIn, cursorIn, hostExpanded, hostListed, hostComponent, hostCursor, hostOpened, foundStep, hostStep, hostTotal, hostScales, hostTable, hostValue}
 use Rattle.xewumbal.specs.Answers.{Expand2CallTold, ToForm2CallTold, ToForm1CallTold, cursor2In, hostCursor2, hostOpened2, foundStep2, hostStep2, hostMoved}
+use Rattle.xewumbal.specs.Answers.{afterCode, miscountedCode, hostSalvaged, SalvageCallTold}
 use Rattle.xewumbal.specs.Answers.{measureAnswer, shell2Answer, shell4Answer, openAnswer, checkAnswer, nextAnswer, open2Answer, check2Answer, next2Answer, scaleTotalAnswer, rollTotalAnswer, prefactorsAnswer, evaluateAnswer}
 
 -- ---- the cases in fields
@@ -142,6 +150,17 @@ move-written m long terms is = sym (ap hostMoved is)
 
 pub move-refused : (m : Moved) (n place : ℕ) → m ≡ moved.Refused n place → record { length = 0; place = place; terms = 0; refusal = n } ≡ hostMoved m
 move-refused m n place is = sym (ap hostMoved is)
+
+pub salvage-roll : (t : Told) (after : After) (other follows : ℕ) → after ≡ t .after → other ≡ miscountedCode (t .miscounted) → follows ≡ afterCode after →
+    record { length = t .length; place = 0; terms = t .terms; kept = t .kept; anew = t .anew; miscounted = other; after = follows; refusal = 0 } ≡ hostSalvaged (salvaged.Roll t)
+salvage-roll t after other follows is e f = rw (e, f, is)
+
+pub salvage-told : (a : Salvaged) (t : Told) (x : «xew_salvaged») → a ≡ salvaged.Roll t → x ≡ hostSalvaged (salvaged.Roll t) → x ≡ hostSalvaged a
+salvage-told a t x is e = e ∙ sym (ap hostSalvaged is)
+
+pub salvage-refused : (a : Salvaged) (n place : ℕ) → a ≡ salvaged.Refused n place →
+    record { length = 0; place = place; terms = 0; kept = 0; anew = 0; miscounted = 0; after = 0; refusal = n } ≡ hostSalvaged a
+salvage-refused a n place is = sym (ap hostSalvaged is)
 
 pub total-given : (t : Total) (n : ℕ) → t ≡ total.Is n → record { total = n; claimed = 1; refusal = 0 } ≡ hostTotal t
 total-given t n is = sym (ap hostTotal is)
@@ -224,6 +243,9 @@ to-form2-answered roll before start m after x told is = record { answer = is ∙
 
 pub to-form1-answered : (roll before : List ℕ) (start : ℕ) (m : Moved) (after : List ℕ) (x : «xew_moved») → ToForm1Told roll before start m after → x ≡ hostMoved m → ToForm1CallTold roll before start x after
 to-form1-answered roll before start m after x told is = record { answer = is ∙ ap hostMoved (told .answer); out = told .bytes }
+
+pub salvage-answered : (roll before : List ℕ) (start : ℕ) (a : Salvaged) (now : List ℕ) (x : «xew_salvaged») → SalvageTold roll before start a now → x ≡ hostSalvaged a → SalvageCallTold roll before start x now
+salvage-answered roll before start a now x told is = record { answer = is ∙ ap hostSalvaged (told .answer); out = told .out }
 
 module _ (a b c d : «xew_centre») (p q r s : Centre) where
   pub prefactors-answered : (kind : ℕ) (t : Table) (x : «xew_table») → p ≡ centreIn a → q ≡ centreIn b → r ≡ centreIn c → s ≡ centreIn d → t ≡ prefactorTableOf kind p q r s → x ≡ hostTable t → x ≡ prefactorsAnswer kind a b c d

@@ -10,6 +10,7 @@ use Rattle.shell.specs.Shells.{listedAt, listedOut}
 use Rattle.roll.specs.Reading.{rollAt}
 use Rattle.form2.specs.Reading.{rollAt2}
 use Rattle.form2.specs.Moves.{inForm1, inForm2, movedOf, outOf}
+use Rattle.salvaging.specs.Salvage.{salvagedOf, outOf as salvageOut}
 use Rattle.grouping.specs.Evaluation.{ofRoll as groupedOfRoll, bufferOf}
 use Rattle.jk.specs.Outcome.{jkOf, refusalOf as jkRefusal}
 use Rattle.laws.proofs.Contract.{Alone, alone, Lent, _then_, _▸_, end}
@@ -18,8 +19,9 @@ use Rattle.xewumbal.specs.declared.xew_written.{«xew_written»}
 use Rattle.xewumbal.specs.declared.xew_cursor.{«xew_cursor»}
 use Rattle.xewumbal.specs.declared.xew_cursor2.{«xew_cursor2»}
 use Rattle.xewumbal.specs.declared.xew_moved.{«xew_moved»}
+use Rattle.xewumbal.specs.declared.xew_salvaged.{«xew_salvaged»}
 use Rattle.xewumbal.specs.declared.xew_value.{«xew_value»}
-use Rattle.xewumbal.specs.Answers.{hostExpanded, hostListed, hostMoved, measureAnswer, shell2Answer, shell4Answer, openAnswer, checkAnswer, nextAnswer, open2Answer, check2Answer, next2Answer}
+use Rattle.xewumbal.specs.Answers.{hostExpanded, hostListed, hostMoved, hostSalvaged, measureAnswer, shell2Answer, shell4Answer, openAnswer, checkAnswer, nextAnswer, open2Answer, check2Answer, next2Answer}
 use Rattle.xewumbal.specs.Answers.{scaleTotalAnswer, rollTotalAnswer, prefactorsAnswer, evaluateAnswer, groupedTermAnswer, hostValue, centreIn}
 use Rattle.xewumbal.proofs.xew_expand.Reads.{Post as Expand}
 use Rattle.xewumbal.proofs.xew_measure.Reads.{Post as Measure}
@@ -35,6 +37,7 @@ use Rattle.xewumbal.proofs.xew_check2.Reads.{Post as Check2}
 use Rattle.xewumbal.proofs.xew_next2.Reads.{Post as Next2}
 use Rattle.xewumbal.proofs.xew_to_form2.Reads.{Post as ToForm2}
 use Rattle.xewumbal.proofs.xew_to_form1.Reads.{Post as ToForm1}
+use Rattle.xewumbal.proofs.xew_salvage.Reads.{Post as Salvage}
 use Rattle.xewumbal.proofs.xew_scale_total.Reads.{Post as ScaleTotal}
 use Rattle.xewumbal.proofs.xew_roll_total.Reads.{Post as RollTotal}
 use Rattle.xewumbal.proofs.xew_prefactors.Reads.{Post as Prefactors}
@@ -96,6 +99,11 @@ module _ (κs : Lfts 2) (roll out : Lent ℕ) (start : ℕ) where
       Alone {A = «xew_moved» × List ℕ} (λ x. ToForm1 κs (roll ▸ out ▸ start ▸ end) (x .0) (roll ▸ out then (x .1) ▸ start ▸ end))
       (hostMoved (movedOf inForm1 (rollAt2 (roll .now)) (out .now) start), outOf inForm1 (rollAt2 (roll .now)) (out .now) start)
   to-form1-only = alone (λ x p i. (p .answer i, p .out i))
+
+pub salvage-only : (κs : Lfts 2) (roll out : Lent ℕ) (start : ℕ) →
+    Alone {A = «xew_salvaged» × List ℕ} (λ x. Salvage κs (roll ▸ out ▸ start ▸ end) (x .0) (roll ▸ out then (x .1) ▸ start ▸ end))
+    (hostSalvaged (salvagedOf (roll .now) (out .now) start), salvageOut (roll .now) (out .now) start)
+salvage-only κs roll out start = alone (λ x p i. (p .answer i, p .out i))
 
 pub scale-total-only : (κs : Lfts 1) (kind : ℕ) (orders : Lent ℕ) → let g = kind ▸ orders ▸ end in Alone (λ r. ScaleTotal κs g r g) (scaleTotalAnswer kind (orders .now))
 scale-total-only κs kind orders = alone (λ r p. p)

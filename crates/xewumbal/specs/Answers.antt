@@ -2,6 +2,7 @@
 -- arrays and cursors beside a refusal are the zeros of the answer below (D-76).
 use Prim.Native.Nat.{ℕ}
 use mathlib.Core.Path.{_≡_}
+use mathlib.Core.Bool.{Bool, true, false}
 use mathlib.Core.List.{List}
 use lib.Ieee.{Float}
 use lib.ListN.{length}
@@ -26,6 +27,11 @@ use Rattle.form2.specs.declared.moves.Moved.{Moved}
 use Rattle.form2.specs.Reading.{rollAt2}
 use Rattle.form2.specs.Header.{open2Of, check2Of}
 use Rattle.form2.specs.Cursor.{step2Of}
+use Rattle.salvaging.specs.declared.After.{After}
+use Rattle.salvaging.specs.declared.After.the-variants as after
+use Rattle.salvaging.specs.declared.Salvaged.{Salvaged}
+use Rattle.salvaging.specs.declared.Salvaged.the-variants as salvaged
+use Rattle.salvaging.specs.Salvage.{salvagedOf, outOf as salvageOut}
 use Rattle.form2.specs.Moves.{inForm1, inForm2, movedOf, outOf, lengthIn as movedLength, placeOf as movedPlace, countIn as movedCount, refusalOf as movedRefusal}
 use Rattle.totals.specs.declared.Total.{Total}
 use Rattle.totals.specs.declared.Total.the-variants as total
@@ -53,6 +59,7 @@ use Rattle.xewumbal.specs.declared.xew_cursor2.{«xew_cursor2»}
 use Rattle.xewumbal.specs.declared.xew_opened2.{«xew_opened2»}
 use Rattle.xewumbal.specs.declared.xew_step2.{«xew_step2»}
 use Rattle.xewumbal.specs.declared.xew_moved.{«xew_moved»}
+use Rattle.xewumbal.specs.declared.xew_salvaged.{«xew_salvaged»}
 use Rattle.xewumbal.specs.declared.xew_total.{«xew_total»}
 use Rattle.xewumbal.specs.declared.xew_scales.{«xew_scales»}
 
@@ -179,6 +186,28 @@ ToForm2CallTold roll before start r after = MoveCallTold inForm2 (rollAt roll) b
 
 abbrev pub ToForm1CallTold : List ℕ → List ℕ → ℕ → «xew_moved» → List ℕ → Type 0
 ToForm1CallTold roll before start r after = MoveCallTold inForm1 (rollAt2 roll) before start r after
+
+-- ---- xew_salvage: what is told of the damaged roll, and a refusal with its place
+
+-- 0 unknown, 1 nothing, 2 bytes (D-100)
+abbrev pub afterCode : After → ℕ
+afterCode after.Unknown = 0
+afterCode after.None = 1
+afterCode after.Bytes = 2
+
+-- 1 where the stored count is not the fresh one
+abbrev pub miscountedCode : Bool → ℕ
+miscountedCode true = 1
+miscountedCode false = 0
+
+abbrev pub hostSalvaged : Salvaged → «xew_salvaged»
+hostSalvaged (salvaged.Roll t) =
+    record { length = t .length; place = 0; terms = t .terms; kept = t .kept; anew = t .anew; miscounted = miscountedCode (t .miscounted); after = afterCode (t .after); refusal = 0 }
+hostSalvaged (salvaged.Refused n place) = record { length = 0; place = place; terms = 0; kept = 0; anew = 0; miscounted = 0; after = 0; refusal = n }
+
+pub record SalvageCallTold (roll before : List ℕ) (start : ℕ) (r : «xew_salvaged») (now : List ℕ) : Type 0 where
+  pub answer : r ≡ hostSalvaged (salvagedOf roll before start)
+  pub out : now ≡ salvageOut roll before start
 
 -- ---- xew_scale_total: the number, whether one is claimed, and the refusal
 

@@ -2,7 +2,7 @@
 ghost use mathlib.Core.Path.{_≡_};
 ghost use Rattle.jk.specs.Outcome.{refusalOf};
 ghost use Rattle.xewumbal.specs.Answers.{centreIn, cursorIn, cursor2In, hostExpanded, hostListed, hostComponent, hostCursor, hostOpened, foundStep, hostStep};
-ghost use Rattle.xewumbal.specs.Answers.{hostCursor2, hostOpened2, foundStep2, hostStep2, hostMoved, hostTotal, hostScales, hostTable, hostValue, hostRestored};
+ghost use Rattle.xewumbal.specs.Answers.{hostCursor2, hostOpened2, foundStep2, hostStep2, hostMoved, afterCode, miscountedCode, hostSalvaged, hostTotal, hostScales, hostTable, hostValue, hostRestored};
 use crate::xew_centre;
 use crate::xew_component;
 use crate::xew_cursor;
@@ -11,6 +11,7 @@ use crate::xew_moved;
 use crate::xew_opened;
 use crate::xew_opened2;
 use crate::xew_restored;
+use crate::xew_salvaged;
 use crate::xew_scales;
 use crate::xew_step;
 use crate::xew_step2;
@@ -32,6 +33,9 @@ use roll::Cursor;
 use roll::Opened;
 use roll::Opening;
 use roll::Step;
+use salvaging::After;
+use salvaging::Salvaged;
+use salvaging::Told;
 use shell::Component;
 use shell::Listed;
 use totals::RollTotal;
@@ -282,6 +286,59 @@ pub(crate) fn moved(answer: Moved) -> xew_moved
             length: 0,
             place,
             terms: 0,
+            refusal,
+        },
+    }
+}
+
+fn after_code(after: After) -> u8
+    ensures { λ r. ⌜ r ≡ afterCode after ⌝ }
+{
+    match after {
+        After::Unknown => 0,
+        After::None => 1,
+        After::Bytes => 2,
+    }
+}
+
+fn miscounted_code(other: bool) -> u8
+    ensures { λ r. ⌜ r ≡ miscountedCode other ⌝ }
+{
+    if other {
+        return 1;
+    }
+    0
+}
+
+fn salvaged_roll(told: Told) -> xew_salvaged
+    ensures { λ r. ⌜ r ≡ hostSalvaged (Salvaged.Roll told) ⌝ }
+{
+    let after = told.after;
+    xew_salvaged {
+        length: told.length,
+        place: 0,
+        terms: told.terms,
+        kept: told.kept,
+        anew: told.anew,
+        miscounted: miscounted_code(told.miscounted),
+        after: after_code(after),
+        refusal: 0,
+    }
+}
+
+pub(crate) fn salvaged(answer: Salvaged) -> xew_salvaged
+    ensures { λ r. ⌜ r ≡ hostSalvaged answer ⌝ }
+{
+    match answer {
+        Salvaged::Roll(told) => salvaged_roll(told),
+        Salvaged::Refused(refusal, place) => xew_salvaged {
+            length: 0,
+            place,
+            terms: 0,
+            kept: 0,
+            anew: 0,
+            miscounted: 0,
+            after: 0,
             refusal,
         },
     }

@@ -3,7 +3,7 @@
 mod answers;
 
 ghost use mathlib.Core.Path.{_≡_};
-ghost use Rattle.xewumbal.specs.Answers.{ExpandCallTold, Expand2CallTold, ListCallTold, ToForm2CallTold, ToForm1CallTold, GroupedCallTold, JkCallTold};
+ghost use Rattle.xewumbal.specs.Answers.{ExpandCallTold, Expand2CallTold, ListCallTold, ToForm2CallTold, ToForm1CallTold, SalvageCallTold, GroupedCallTold, JkCallTold};
 ghost use Rattle.xewumbal.specs.Answers.{measureAnswer, shell2Answer, shell4Answer, openAnswer, checkAnswer, nextAnswer, open2Answer, check2Answer, next2Answer};
 ghost use Rattle.xewumbal.specs.Answers.{scaleTotalAnswer, rollTotalAnswer, prefactorsAnswer, evaluateAnswer, groupedTermAnswer};
 use kind::Kind;
@@ -118,6 +118,20 @@ pub struct xew_moved {
     pub length: usize,
     pub place: usize,
     pub terms: u32,
+    pub refusal: u8,
+}
+
+// `miscounted` is 1 where the stored term count is not `terms`; `after` is 0 where not every term was kept, 1 where nothing follows
+// the last term, 2 where bytes do (D-100).
+#[repr(C)]
+pub struct xew_salvaged {
+    pub length: usize,
+    pub place: usize,
+    pub terms: u32,
+    pub kept: u32,
+    pub anew: u32,
+    pub miscounted: u8,
+    pub after: u8,
     pub refusal: u8,
 }
 
@@ -242,6 +256,13 @@ pub extern "C" fn xew_to_form1(roll: &[u8], out: &mut [u8], start: usize) -> xew
     ensures { λ r. ⌜ ToForm1CallTold (now (roll .entry)) (now (out .entry)) start r (now (out .exit)) ⌝ }
 {
     answers::moved(form2::to_form1(roll, out, start))
+}
+
+#[no_mangle]
+pub extern "C" fn xew_salvage(roll: &[u8], out: &mut [u8], start: usize) -> xew_salvaged
+    ensures { λ r. ⌜ SalvageCallTold (now (roll .entry)) (now (out .entry)) start r (now (out .exit)) ⌝ }
+{
+    answers::salvaged(salvaging::salvage(roll, out, start))
 }
 
 #[no_mangle]
