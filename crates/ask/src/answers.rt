@@ -47,7 +47,12 @@ pub(crate) const NO_TOTAL: usize = 17;
 
 pub(crate) const SCALES: usize = 18;
 
-pub(crate) const WAIT: usize = 19;
+// The first of three, by what follows: of the same count, then of another.
+pub(crate) const SALVAGED: usize = 19;
+
+pub(crate) const SALVAGED_OTHER: usize = 22;
+
+pub(crate) const WAIT: usize = 25;
 
 // The refusal of an output that has no room.
 const NO_ROOM: u64 = 6;

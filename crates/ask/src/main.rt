@@ -16,6 +16,7 @@ mod moves;
 mod output;
 mod questions;
 mod rolls;
+mod salvages;
 mod shapes;
 mod shells;
 mod sums;

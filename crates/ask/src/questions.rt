@@ -8,6 +8,7 @@ use crate::lists;
 use crate::matrices;
 use crate::moves;
 use crate::rolls;
+use crate::salvages;
 use crate::shells;
 use crate::sums;
 use crate::values;
@@ -51,6 +52,8 @@ enum Question {
     Form1,
     Form1In,
     Grouped,
+    Salvage,
+    SalvageIn,
     Unknown,
 }
 
@@ -93,6 +96,8 @@ fn of(shape: usize) -> Question {
         26 => Question::Form1,
         27 => Question::Form1In,
         28 => Question::Grouped,
+        29 => Question::Salvage,
+        30 => Question::SalvageIn,
         _ => Question::Unknown,
     }
 }
@@ -104,8 +109,8 @@ fn lends(q: Question, n: [u64; NUMBERS]) -> Lent {
         Question::ShellIn => said(n[1], n[2]),
         Question::Expand | Question::Expand2 => usual(lent::LARGE as u64),
         Question::ExpandIn | Question::Expand2In => said(n[13], n[14]),
-        Question::Form2 | Question::Form1 => usual(lent::LARGE as u64),
-        Question::Form2In | Question::Form1In => said(n[0], n[1]),
+        Question::Form2 | Question::Form1 | Question::Salvage => usual(lent::LARGE as u64),
+        Question::Form2In | Question::Form1In | Question::SalvageIn => said(n[0], n[1]),
         Question::List => usual(LISTING_LENT),
         Question::Grouped => said(n[0], 0),
         _ => usual(0),
@@ -254,6 +259,10 @@ fn in_bytes(
         ),
         Question::Form1 | Question::Form1In => moves::told(
             form2::to_form1(roll, lent, start),
+            start,
+        ),
+        Question::Salvage | Question::SalvageIn => salvages::told(
+            salvaging::salvage(roll, lent, start),
             start,
         ),
         Question::List => lists::told(listing::listing(roll, lent, 0)),

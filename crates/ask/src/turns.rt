@@ -53,6 +53,8 @@ form2 R L P
 form1 R
 form1 R L P
 grouped G R*
+salvage R
+salvage R L P
 ",
         line,
         given,
@@ -183,6 +185,12 @@ measured # terms #
 total #
 total none
 scales #
+salvaged # terms # kept # anew # count same after none %
+salvaged # terms # kept # anew # count same after bytes %
+salvaged # terms # kept # anew # count same after unknown %
+salvaged # terms # kept # anew # count other after none %
+salvaged # terms # kept # anew # count other after bytes %
+salvaged # terms # kept # anew # count other after unknown %
 !",
         t,
         line,
