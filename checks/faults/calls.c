@@ -168,6 +168,8 @@ static void play_forms(void)
     for (int i = 0; i < 3; i++)
         try_next2(roll, any_cursor2(cursor, roll.length));
     try_to_form1(roll, checked);
+    if (once_in(8))
+        try_salvage(roll);
     if (once_in(8)) { /* in the other form's calls */
         try_open(roll);
         try_to_form2(roll, try_check(roll));
@@ -204,6 +206,8 @@ static void play(void)
     try_evaluate(roll, checked);
     try_evaluate_grouped(roll, checked);
     try_to_form2(roll, checked);
+    if (once_in(8))
+        try_salvage(roll);
 
     if (once_in(100))
         try_cuts(bytes, good_roll(bytes, 400));
@@ -265,6 +269,9 @@ int main(int words, char **word)
             play_forms();
         else if (call.scene % 6 == 4)
             play_grouping();
+        else if (call.scene % 6 == 2)
+            for (int i = 0; i < 4; i++)
+                play_salvage(bytes);
         else
             play();
     } while (words == 4 && call.number < calls);

@@ -136,7 +136,7 @@ static xew_moved moved(uint8_t refusal, size_t place, size_t need, uint32_t term
 }
 
 /* The length of an output for so many bytes, and a start place in it. */
-static size_t any_output(size_t need, size_t *start)
+size_t any_output(size_t need, size_t *start)
 {
     size_t length = (size_t[]){ need, need, need + below(80), need ? need - 1 : 0, below(need + 1), 0, 1 }[below(7)];
     *start = any_start(length, need);

@@ -219,6 +219,15 @@ CALLER void move_to_form1(void)
         note(xew_to_form1(rolls2[k], lengths2[k], out, sizeof out, 0).refusal);
 }
 
+CALLER void salvage(void)
+{
+    FROM_HERE;
+    for (int k = 0; k < XEW_KINDS; k++) {
+        note(xew_salvage(rolls[k], lengths[k], out, sizeof out, 0).refusal);
+        note(xew_salvage(rolls2[k], lengths2[k], out, sizeof out, 0).refusal);
+    }
+}
+
 CALLER void scale_total(void)
 {
     FROM_HERE;
@@ -336,6 +345,7 @@ int main(int words, char **word)
     row("xew_next2, the most terms of each kind", next2);
     row("xew_to_form2, the most terms of each kind", move_to_form2);
     row("xew_to_form1, the most terms of each kind", move_to_form1);
+    row("xew_salvage, the most terms of each kind, both forms", salvage);
     row("xew_scale_total, each kind", scale_total);
     row("xew_roll_total, the most terms of each kind", roll_total);
     row("xew_prefactors, each kind", prefactors);

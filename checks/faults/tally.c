@@ -23,6 +23,7 @@ static const struct {
     [NEXT2] = { "xew_next2", { 7, 14 } },
     [TO_FORM2] = { "xew_to_form2", { 7, 14, 5, 6 } },
     [TO_FORM1] = { "xew_to_form1", { 7, 14, 5, 6 } },
+    [SALVAGE] = { "xew_salvage", { 7, 14, 5, 4, 6 } },
     [SCALE_TOTAL] = { "xew_scale_total", { 1, 2, 3 } },
     [ROLL_TOTAL] = { "xew_roll_total", { 7, 14 } },
     [PREFACTORS] = { "xew_prefactors", { 1, 8, 9, 11 } },
@@ -49,6 +50,8 @@ static const struct {
     [TO_FORM2_OUT] = { TO_FORM2, "out" },
     [TO_FORM1_ROLL] = { TO_FORM1, "roll" },
     [TO_FORM1_OUT] = { TO_FORM1, "out" },
+    [SALVAGE_ROLL] = { SALVAGE, "roll" },
+    [SALVAGE_OUT] = { SALVAGE, "out" },
     [TOTAL_ROLL] = { ROLL_TOTAL, "roll" },
     [EVALUATE_ROLL] = { EVALUATE, "roll" },
     [EVALUATE_BOYS] = { EVALUATE, "boys" },
@@ -76,9 +79,13 @@ static const char *const fault_names[FAULTS] = { "", "shares beyond", "too many"
 static const char *const disorder_names[DISORDERS] = { "", "L beyond", "another number", "Boys order falls",
                                                        "number falls", "asked twice", "missing" };
 
+/* What is told of a damaged roll: nothing kept, some terms, all and nothing after, all and bytes after, another count. */
+enum { NONE_KEPT, SOME_KEPT, ALL_KEPT, BYTES_AFTER, OTHER_COUNT, TOLD };
+static const char *const told_names[TOLD] = { "none kept", "some kept", "all kept", "bytes after", "another count" };
+
 uint64_t further_calls;
 static uint64_t answers[FUNCTIONS][REFUSALS], found[FUNCTIONS][3], faults[FAULTS], rolls[LARGE], empties[EMPTIES];
-static uint64_t disorders[DISORDERS], left[REFUSALS], just_over, most_histories;
+static uint64_t disorders[DISORDERS], tolds[TOLD], left[REFUSALS], just_over, most_histories;
 
 void begin(enum function f, const char *labels, size_t words_count, const uint64_t *words)
 {
@@ -131,6 +138,12 @@ void count_fault(enum fault met)
 void count_disorder(enum disorder met)
 {
     disorders[met]++;
+}
+
+void count_salvaged(xew_salvaged told)
+{
+    tolds[told.after ? ALL_KEPT + (told.after == 2) : told.kept > 0]++;
+    tolds[OTHER_COUNT] += told.miscounted;
 }
 
 void count_left(uint8_t refusal)
@@ -198,6 +211,8 @@ bool report(void)
             show(name, fault_names[i], faults[i]);
         for (int i = 1; f == GROUPED_TERM && i < DISORDERS; i++)
             show(name, disorder_names[i], disorders[i]);
+        for (int i = 0; f == SALVAGE && i < TOLD; i++)
+            show(name, told_names[i], tolds[i]);
         if (f == EVALUATE_GROUPED)
             show(name, "grouped", left[0]);
         for (const uint8_t *refusal = functions[f].refusals; *refusal; refusal++) {

@@ -6,14 +6,14 @@
 
 enum function {
     EXPAND, MEASURE, EXPAND2, SHELL_LIST, SHELL2, SHELL4, OPEN, CHECK, NEXT, OPEN2, CHECK2, NEXT2, TO_FORM2, TO_FORM1,
-    SCALE_TOTAL, ROLL_TOTAL, PREFACTORS, EVALUATE, EVALUATE_GROUPED, GROUPED_TERM, JK, FUNCTIONS
+    SALVAGE, SCALE_TOTAL, ROLL_TOTAL, PREFACTORS, EVALUATE, EVALUATE_GROUPED, GROUPED_TERM, JK, FUNCTIONS
 };
 
 /* Slices that may be of length 0 and null. */
 enum empty {
     EXPAND_OUT, EXPAND2_OUT, LIST_OUT, OPEN_ROLL, CHECK_ROLL, NEXT_ROLL, OPEN2_ROLL, CHECK2_ROLL, NEXT2_ROLL,
-    TO_FORM2_ROLL, TO_FORM2_OUT, TO_FORM1_ROLL, TO_FORM1_OUT, TOTAL_ROLL, EVALUATE_ROLL, EVALUATE_BOYS, GROUPED_ROLL,
-    GROUPED_BOYS, GROUPED_BUFFER, GROUPING, JK_I, JK_D, JK_J, JK_K, EMPTIES
+    TO_FORM2_ROLL, TO_FORM2_OUT, TO_FORM1_ROLL, TO_FORM1_OUT, SALVAGE_ROLL, SALVAGE_OUT, TOTAL_ROLL, EVALUATE_ROLL, EVALUATE_BOYS,
+    GROUPED_ROLL, GROUPED_BOYS, GROUPED_BUFFER, GROUPING, JK_I, JK_D, JK_J, JK_K, EMPTIES
 };
 
 extern struct arena roll_arena, orders_arena, out_arena, boys_arena, i_arena, d_arena, j_arena, k_arena;
@@ -31,6 +31,7 @@ void count(enum function f, uint8_t refusal, int again); /* again: 1 for the sec
 void count_found(enum function f, uint8_t found); /* of xew_next or xew_next2 */
 void count_fault(enum fault met); /* of a form 2 roll */
 void count_disorder(enum disorder met); /* of a grouping */
+void count_salvaged(xew_salvaged told); /* what was told of a damaged roll */
 void count_left(uint8_t refusal); /* a grouping left in its buffer beside a value, or beside a refusal */
 void count_roll(xew_written written);
 void count_histories(uint64_t histories); /* of a request over the cap */
@@ -67,6 +68,11 @@ void try_cuts2(const uint8_t *bytes, size_t length); /* of a roll that reads */
 void try_to_form2(struct slice roll, xew_opened checked);
 void try_to_form1(struct slice roll, xew_opened2 checked);
 void try_expand2(const struct request *request);
+size_t any_output(size_t need, size_t *start); /* the length of an output for so many bytes, and a start place in it */
+
+/* salvage.c: calls on damaged rolls, each made twice */
+void try_salvage(struct slice roll);
+void play_salvage(uint8_t *bytes); /* an expansion, damaged or not */
 
 /* grouping.c: calls that lay terms out by Boys order, and that ask for them, each made twice */
 size_t try_evaluate_grouped(struct slice roll, xew_opened checked); /* the grouping's bytes; 0 where there is none */

@@ -346,6 +346,35 @@ xew_moved __wrap_xew_to_form1(const uint8_t *roll, size_t roll_len, uint8_t *out
     return moved;
 }
 
+xew_salvaged __real_xew_salvage(const uint8_t *roll, size_t roll_len, uint8_t *out, size_t out_len, size_t start);
+xew_salvaged __wrap_xew_salvage(const uint8_t *roll, size_t roll_len, uint8_t *out, size_t out_len, size_t start)
+{
+    if (is("salvages-before-the-header-reads") && start < out_len)
+        out[start] ^= 1;
+    xew_salvaged salvaged = __real_xew_salvage(roll, roll_len, out, out_len, start);
+    if (salvaged.refusal)
+        return salvaged;
+    uint32_t stored = roll[0] < 16 ? xew_open(roll, roll_len).cursor.left : xew_open2(roll, roll_len).cursor.cursor.left;
+    if (is("keeps-one-too-many") && salvaged.anew) {
+        salvaged.kept++;
+        salvaged.anew--;
+    }
+    if (is("keeps-no-more-than-the-count") && salvaged.kept > stored) {
+        salvaged.kept = stored;
+        salvaged.anew = salvaged.terms - stored;
+        salvaged.after = 0;
+    }
+    if (is("tells-bytes-after-a-damaged-term") && salvaged.anew)
+        salvaged.after = 2;
+    if (is("hands-the-damaged-bytes-back"))
+        memcpy(out + start, roll, roll_len < salvaged.length ? roll_len : salvaged.length);
+    if (is("salvages-form-2-as-form-1") && roll[0] >= 16)
+        out[start] = (uint8_t)(out[start] - 16);
+    if (is("salvages-beyond-the-output") && start + salvaged.length < out_len)
+        out[start + salvaged.length] ^= 1;
+    return salvaged;
+}
+
 xew_total __real_xew_scale_total(uint8_t kind, const uint8_t (*orders)[12]);
 xew_total __wrap_xew_scale_total(uint8_t kind, const uint8_t (*orders)[12])
 {
