@@ -17,6 +17,7 @@ mod picture;
 mod raw;
 mod requests;
 mod rust_side;
+mod salvage;
 mod same;
 mod table;
 mod timing;

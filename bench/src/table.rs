@@ -2,6 +2,7 @@
 
 use crate::components::{self, COUNT};
 use crate::forms;
+use crate::salvage;
 use crate::grouped;
 use crate::matrices::{self, SIZES};
 use crate::measure::Row;
@@ -227,6 +228,26 @@ fn print_forms(rows: &[&Row]) -> Result<(), String> {
     Ok(())
 }
 
+/// A salvage may take twice the time of an expansion in the same form.
+fn print_salvage(rows: &[&Row]) -> Result<(), String> {
+    heading("salvage | xew_expand, ns a term | of a whole roll, times expand | of one whose last byte differs | xew_expand2, ns a term | of a whole roll, times expand2 | of one whose last byte differs");
+    for row in rows {
+        let time = Duration::from_millis(100);
+        let (one, two) = (salvage::times(&row.request, 1, time)?, salvage::times(&row.request, 2, time)?);
+        println!(
+            "| {} | {:.1} | {:.2} | {:.2} | {:.1} | {:.2} | {:.2} |",
+            row.request.title(),
+            one.written / row.terms,
+            one.whole / one.written,
+            one.damaged / one.written,
+            two.written / row.terms,
+            two.whole / two.written,
+            two.damaged / two.written
+        );
+    }
+    Ok(())
+}
+
 pub fn print(rows: &[Row], has_goals: bool) -> Result<(), String> {
     let table = Table { has_goals };
     let (accepted, refused): (Vec<&Row>, Vec<&Row>) = rows.iter().partition(|row| row.terms > 0.0);
@@ -244,5 +265,6 @@ pub fn print(rows: &[Row], has_goals: bool) -> Result<(), String> {
     table.print_grouped(&accepted)?;
     print_matrices()?;
     print_forms(&accepted)?;
+    print_salvage(&accepted)?;
     print_totals()
 }
