@@ -26,7 +26,7 @@ use Rattle.salvaging.specs.declared.Salvaged.the-variants as answer
 
 -- ---- "If the header reads, whichever form": "The header is kind, orders and term count."
 
--- form 2 begins with kind + 16; all else is read as form 1, which gives 7 or 14 to what is neither (proofs/FirstByte.antt)
+-- form 2 begins with kind + 16; all else is read as form 1, which gives 7 or 14 to what is neither (D-99; proofs/FirstByte.antt)
 unfoldable pub formOf : List ℕ → Form
 formOf s = cond (leb formTwo (getD s 0 0) && leb (getD s 0 0) (formTwo + numberOf Coulomb)) Two One
 
