@@ -3,20 +3,19 @@ use Prim.Native.Nat.{ℕ, _+_, _-_, _≤_, _<_}
 use mathlib.Core.Path.{_≡_, refl, sym, ap, _∙_}
 use mathlib.Core.Logic.{_⊎_, inl, inr}
 use mathlib.Core.Bool.{Bool, true, false, cond, _||_}
-use mathlib.Core.List.{List, [], _∷_, _++_, append-assoc}
+use mathlib.Core.List.{List, _++_}
 use native.Mathlib.Omega.{arith}
-use borrow.Author.Tests.{lt-ltb, ltb-true, ltb-false, leb-true, leb-false}
-use lib.Dec.{ltb, leb}
-use lib.ListN.{length, getD, drop}
+use borrow.Author.Tests.{lt-ltb, ltb-false}
+use lib.Dec.{ltb}
+use lib.ListN.{getD, drop}
 use Rattle.kind.specs.Kinds.{kindOf, numberOf}
 use Rattle.kind.specs.declared.Kind.{Kind}
 use Rattle.kind.specs.declared.Kind.the-variants.{Coulomb}
 use Rattle.kind.proofs.Within.{number-within}
 use Rattle.number.specs.declared.Number.{Number}
 use Rattle.number.specs.declared.Number.the-variants as number
-use Rattle.number.specs.Numbers.{bytesOf, readAt, refusalOf, Bytes}
+use Rattle.number.specs.Numbers.{bytesOf, readAt, Bytes}
 use Rattle.number.proofs.Writing.{bytes-last}
-use Rattle.roll.specs.declared.field.Field.{Field}
 use Rattle.roll.specs.declared.field.Field.the-variants as field
 use Rattle.roll.specs.Bytes.{numbersBytes}
 use Rattle.roll.specs.Reading.{Reading, got, refused, opened, withinAt, onward, Header, ofKind, headerAt}

@@ -1,11 +1,10 @@
 -- A header that reads: its bytes, its request, which is not refused for its orders, and its fresh roll, which differs from the damaged one only behind the orders.
-use Prim.Native.Nat.{ℕ, zero, suc, zero-le, _+_, _-_, _≤_, _<_}
+use Prim.Native.Nat.{ℕ, zero, suc, _+_, _-_, _≤_}
 use mathlib.Core.Path.{_≡_, refl, sym, ap, subst, _∙_}
-use mathlib.Core.Bool.{Bool, true, false, _||_}
+use mathlib.Core.Bool.{false}
 use mathlib.Core.List.{List, [], _∷_, _++_, append-assoc}
 use native.Mathlib.Omega.{arith}
 use borrow.Author.Tests.{le-ltb}
-use lib.Dec.{ltb}
 use lib.ListN.{length, getD, take, drop, replicate, length-append, length-drop, length-replicate}
 use lib.Seq.{getD-drop, take-at, drop-at}
 use Rattle.laws.specs.Total.{total}
@@ -17,15 +16,14 @@ use Rattle.kind.proofs.Within.{orders-within}
 use Rattle.number.specs.Numbers.{bytesOf, lengthOf, Bytes}
 use Rattle.steps.specs.declared.CentreName.the-variants.{A, B, C, D}
 use Rattle.steps.specs.Choice.{sumOf}
-use Rattle.term.specs.Terms.{Term}
 use Rattle.roll.specs.Bytes.{numbersBytes, termsBytes, rollBytes}
 use Rattle.roll.specs.Reading.{got, Header}
-use Rattle.roll.specs.Fits.{CentresFit, TermsFit, RollFits}
+use Rattle.roll.specs.Fits.{CentresFit, TermsFit}
 use Rattle.roll.proofs.Inside.{header-read, header-inside, orders-most}
 use Rattle.roll.proofs.Written.{taken-bytes, head-bytes}
 use Rattle.form2.specs.Bytes.{formTwo, termsBytes2, rollBytes2}
 use Rattle.form2.proofs.Inside.{header-read2, header-inside2, header-most2}
-use Rattle.expansion.specs.Expanding.{_exceeds_, tooHigh, unusedSet, termsOf, rollOf, rollOf2}
+use Rattle.expansion.specs.Expanding.{tooHigh, termsOf, rollOf, rollOf2}
 use Rattle.expansion.specs.inner.Requests.{RequestWithin}
 use Rattle.expansion.proofs.ReadsBack.{roll-fits}
 use Rattle.salvaging.specs.declared.forms.Form.{Form}

@@ -1,5 +1,5 @@
 -- Both forms at once: a term reads and equals another exactly where the bytes begin with its writing, and where it ends.
-use Prim.Native.Nat.{ℕ, zero, suc, _+_, _*_, _-_, _/_, _%_, _^_, _≤_, _<_}
+use Prim.Native.Nat.{ℕ, zero, suc, _+_, _*_, _/_, _%_, _^_, _≤_, _<_}
 use mathlib.Core.Path.{_≡_, refl, sym, ap, _∙_}
 use mathlib.Core.Bool.{Bool, true, false}
 use mathlib.Core.List.{List, [], _∷_, _++_, append-assoc}
@@ -8,14 +8,13 @@ use borrow.Author.Tests.{ltb-true, ltb-false}
 use lib.Dec.{ltb}
 use lib.ListN.{length, getD, drop, length-append}
 use lib.Seq.{getD-drop, getD-append-add, getD-append-seam}
-use Rattle.kind.specs.Limits.{mostScale}
-use Rattle.kind.specs.Kinds.{tableOf, mostL, mostPrefactors}
+use Rattle.kind.specs.Kinds.{tableOf, mostL}
 use Rattle.kind.specs.declared.Kind.{Kind}
 use Rattle.kind.proofs.Within.{l-within, table-within}
 use Rattle.number.specs.Numbers.{groups, bytesOf, lengthOf, Bytes}
 use Rattle.number.proofs.Writing.{groups-last, groups-more, bytes-last}
 use Rattle.term.specs.Terms.{Term}
-use Rattle.roll.specs.Bytes.{numbersBytes, termBytes, termsBytes}
+use Rattle.roll.specs.Bytes.{termBytes, termsBytes}
 use Rattle.roll.specs.Reading.{got}
 use Rattle.roll.specs.Fits.{TermFits}
 use Rattle.roll.proofs.Back.{term-back, most-boys}

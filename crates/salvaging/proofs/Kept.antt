@@ -1,22 +1,21 @@
 -- The leading terms: they are those fresh terms that stand at the beginning byte for byte, and the most that read one after the other and equal the fresh ones.
-use Prim.Native.Nat.{ℕ, zero, suc, zero-le, _+_, _-_, _≤_, _<_}
+use Prim.Native.Nat.{ℕ, zero, suc, zero-le, _+_, _≤_}
 use mathlib.Core.Path.{_≡_, refl, sym, ap, _∙_}
 use mathlib.Core.Logic.{_⊎_, inl, inr}
 use mathlib.Core.Bool.{Bool, true, false, cond, _&&_}
 use mathlib.Core.List.{List, [], _∷_, _++_}
 use native.Mathlib.Omega.{arith}
-use borrow.Author.Tests.{lt-ltb, le-ltb, ltb-true, ltb-false, eq-eqb, eqb-true}
+use borrow.Author.Tests.{ltb-true, ltb-false, eq-eqb, eqb-true}
 use lib.Dec.{eqb, ltb}
 use lib.ListN.{length, take, drop, length-append, length-drop}
-use lib.Seq.{drop-length}
 use Rattle.kind.specs.Kinds.{mostL}
 use Rattle.kind.specs.declared.Kind.{Kind}
 use Rattle.laws.proofs.Cases.{clash, and-true-both}
 use Rattle.laws.proofs.Lists.{drop-after}
 use Rattle.number.specs.Numbers.{Bytes}
 use Rattle.term.specs.Terms.{Term}
-use Rattle.roll.specs.Reading.{Reading, got, refused, andThen, before}
-use Rattle.roll.specs.Fits.{TermFits, TermsFit}
+use Rattle.roll.specs.Reading.{Reading, got, refused, before}
+use Rattle.roll.specs.Fits.{TermsFit}
 use Rattle.roll.proofs.Filling.{before-is, andThen-is}
 use Rattle.form2.specs.Bytes.{shared}
 use Rattle.salvaging.specs.declared.forms.Form.{Form}
@@ -148,17 +147,8 @@ module _ (f : Form) (k : Kind) (l : ℕ) (small : l ≤ mostL k) where
   -- as many fresh terms end within the bytes that are shared as read one after the other and equal the fresh ones
   pub ends-lead : (ts : List Term) (earlier s fresh : List ℕ) (p at most : ℕ) → TermsFit k l ts → Bytes s → drop at fresh ≡ termsBytesIn f earlier ts → most ≡ at + shared (drop p s) (drop at fresh) → endsWithin (behind f) fresh most at (length ts) ≡ leading f s p k l earlier ts .count
   ends-lead [] earlier s fresh p at most fit bytes is limit = none-left (behind f) fresh most at ∙ sym (ap (λ (x : Leading). x .count) (lead-none f s p k l earlier))
-  ends-lead (t ∷ ts) earlier s fresh p at most fit bytes is limit = by (ltb most end) refl (λ q next-limit. ends-lead ts (t .prefactors) s fresh q end most (fit .1) bytes rest next-limit)
+  ends-lead (t ∷ ts) earlier s fresh p at most fit bytes is limit = by (ltb most (endAt (behind f) fresh at)) refl (λ q next-limit. ends-lead ts (t .prefactors) s fresh q (endAt (behind f) fresh at) most (fit .1) bytes rest next-limit)
     where
-      b : List ℕ
-      b = termBytesIn f earlier t
-
-      others : List ℕ
-      others = termsBytesIn f (t .prefactors) ts
-
-      end : ℕ
-      end = endAt (behind f) fresh at
-
       split : drop at fresh ≡ termBytesIn f earlier t ++ termsBytesIn f (t .prefactors) ts
       split = is ∙ terms-next f earlier t ts
 

@@ -1,13 +1,13 @@
 -- 02, Q-8, sentence by sentence, of what `salvage` promises: what is written, what is kept and what is anew, a roll that is whole, and damage behind the first terms.
-use Prim.Native.Nat.{ℕ, zero, suc, zero-le, _+_, _-_, _≤_, _<_}
-use mathlib.Core.Path.{_≡_, refl, sym, ap, ap₂, subst, _∙_}
+use Prim.Native.Nat.{ℕ, zero, suc, zero-le, _+_, _-_, _≤_}
+use mathlib.Core.Path.{_≡_, refl, sym, ap, ap₂, _∙_}
 use mathlib.Core.Bool.{Bool, true, false, cond, not}
 use mathlib.Core.List.{List, [], _∷_, _++_, append-assoc, append-nil}
 use native.Mathlib.Omega.{arith}
 use borrow.Author.Tests.{ltb-false, le-ltb, eq-eqb}
 use lib.Dec.{eqb}
 use lib.ListN.{length, take, drop, length-append, length-drop, take-append-drop}
-use lib.Seq.{take-length, take-at, drop-at}
+use lib.Seq.{take-length, take-at}
 use Rattle.laws.specs.Placed.{placed}
 use Rattle.laws.specs.Total.{total}
 use Rattle.laws.proofs.Cases.{clash}
@@ -37,10 +37,10 @@ use Rattle.salvaging.specs.declared.Told.{Told}
 use Rattle.salvaging.specs.declared.Salvaged.{Salvaged}
 use Rattle.salvaging.specs.declared.Salvaged.the-variants as answer
 use Rattle.salvaging.specs.Salvage.{formOf, headerIn, requestOf, freshTerms, freshRoll, Leading, leading, leadingOf, afterOf, toldOf, salvagedIn, bytesOut, salvagedOf, outOf, termsFrom}
-use Rattle.salvaging.specs.inner.Forms.{firstIn, termBytesIn, termsBytesIn}
+use Rattle.salvaging.specs.inner.Forms.{termBytesIn, termsBytesIn}
 use Rattle.salvaging.proofs.InForms.{term-there, terms-next, terms-none}
 use Rattle.salvaging.proofs.Kept.{lead-more, lead-place, lead-few, lead-reads, lead-most}
-use Rattle.salvaging.proofs.Fresh.{headOf, fresh-fits, fresh-some, fresh-bytes, header-is, header-long}
+use Rattle.salvaging.proofs.Fresh.{headOf, fresh-fits, fresh-some, fresh-bytes, header-is}
 use Rattle.salvaging.proofs.FirstByte.{form-taken}
 
 -- ---- what is written
@@ -173,7 +173,7 @@ endOf f h n = length (headOf f h) + lengthOf (h .terms) + length (termsBytesIn f
 
 terms-split : (f : Form) (n : ℕ) (ts : List Term) (earlier : List ℕ) → (others : List ℕ) × (termsBytesIn f earlier ts ≡ termsBytesIn f earlier (take n ts) ++ others)
 terms-split f zero ts earlier = (termsBytesIn f earlier ts, ap (λ (x : List ℕ). x ++ termsBytesIn f earlier ts) (sym (terms-none f earlier)))
-terms-split f (suc n) [] earlier = ([], ap (λ (x : List ℕ). x) (terms-none f earlier) ∙ sym (ap (λ (x : List ℕ). x ++ []) (terms-none f earlier)))
+terms-split f (suc n) [] earlier = ([], terms-none f earlier ∙ sym (ap (λ (x : List ℕ). x ++ []) (terms-none f earlier)))
 terms-split f (suc n) (t ∷ ts) earlier =
     let r = terms-split f n ts (t .prefactors) in (
       r .0,

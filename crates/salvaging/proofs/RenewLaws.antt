@@ -1,8 +1,8 @@
 -- The functions of src/lib.rt: a law for each need and each way out.
-use Prim.Native.Nat.{ℕ, zero, suc, zero-le, _+_, _-_, _≤_, _<_}
+use Prim.Native.Nat.{ℕ, zero-le, _+_, _-_, _≤_}
 use mathlib.Core.Path.{_≡_, refl, sym, ap, ap₂, _∙_}
 use mathlib.Core.Bool.{Bool, true, false, cond, not}
-use mathlib.Core.List.{List, [], _∷_, _++_}
+use mathlib.Core.List.{List, []}
 use native.Mathlib.Omega.{arith}
 use borrow.Author.Tests.{eq-eqb, ne-eqb, eqb-true, eqb-false, ltb-false}
 use lib.Dec.{eqb}
@@ -13,12 +13,11 @@ use Rattle.laws.proofs.Parts.{part-all, sets-placed}
 use Rattle.laws.specs.Placed.{placed}
 use Rattle.laws.specs.Total.{total}
 use Rattle.kind.specs.Limits.{mostTerms}
-use Rattle.kind.specs.Kinds.{kindOf, numberOf}
+use Rattle.kind.specs.Kinds.{kindOf}
 use Rattle.kind.specs.declared.Named.{Named}
 use Rattle.kind.specs.declared.Named.the-variants.{Is}
 use Rattle.kind.proofs.KindNumber.{kind-number}
 use Rattle.number.specs.Numbers.{lengthOf, Bytes}
-use Rattle.term.specs.Terms.{Term}
 use Rattle.roll.specs.declared.cursor.Cursor.{Cursor}
 use Rattle.roll.specs.declared.header.Opened.{Opened}
 use Rattle.roll.specs.declared.header.Opening.the-variants as opening
@@ -39,7 +38,7 @@ use Rattle.salvaging.specs.declared.Salvaged.the-variants as answer
 use Rattle.salvaging.specs.Salvage.{formOf, headerIn, rollIn, requestOf, freshTerms, freshRoll, Leading, leading, leadingOf, afterOf, toldOf, salvagedIn, bytesOut, salvagedOf, outOf, SalvageTold}
 use Rattle.salvaging.specs.inner.Ends.{behind, Whole, endsWithin}
 use Rattle.salvaging.specs.inner.Forms.{termsBytesIn}
-use Rattle.salvaging.specs.inner.Renewing.{afterBy, HeaderOf, ToldMay, ToldFrom, RenewMay, RenewTold}
+use Rattle.salvaging.specs.inner.Renewing.{afterBy, ToldMay, ToldFrom, RenewMay, RenewTold}
 use Rattle.salvaging.proofs.Fresh.{HeaderIs, header-is, header-long, request-within, fresh-fits, freshFrom, fresh-tail}
 use Rattle.salvaging.proofs.Kept.{terms-whole, ends-lead, lead-place}
 
@@ -176,9 +175,6 @@ module _ (f : Form) (s : List ℕ) (o : Opened) (before : List ℕ) (start : ℕ
       }
 
   module _ (long count : ℕ) (e : w ≡ expanded.Roll long count) where
-    abbrev fresh : List ℕ
-    fresh = freshRoll f (may .header .h)
-
     -- its length and count, its room, and where it stands
     record Renewed : Type 0 where
       pub long-is : long ≡ length (freshRoll f (may .header .h))

@@ -82,8 +82,10 @@ cases =
     ∷ case (0x00 ∷ 0x07 ∷ []) 17 0 (Refused 7 1)
     ∷ case (0x10 ∷ 0x01 ∷ 0x00 ∷ 0x00 ∷ 0x01 ∷ 0x00 ∷ 0x00 ∷ []) 17 0 (Refused 14 7)
     ∷
-    -- a start beyond the output; no room
+    -- a start beyond the output, whatever its room, and only where the header reads; no room
     case (head 2 ++ terms) 17 18 (Refused 5 0)
+    ∷ case (head 2 ++ terms) 0 1 (Refused 5 0)
+    ∷ case [] 0 1 (Refused 14 0)
     ∷ case (head 2 ++ terms) 17 1 (Refused 6 0)
     ∷ []
 

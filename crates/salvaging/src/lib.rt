@@ -3,7 +3,6 @@ mod ends;
 mod forms;
 
 ghost use mathlib.Core.Path.{_≡_};
-ghost use Rattle.roll.specs.Header.{heldHeader};
 ghost use Rattle.salvaging.specs.Salvage.{SalvageTold};
 ghost use Rattle.salvaging.specs.inner.Renewing.{afterBy, ToldMay, ToldFrom, RenewMay, RenewTold};
 use crate::ends::leading;
@@ -62,12 +61,13 @@ fn compared(form: Form, roll: &[u8], cursor: Cursor, fresh: &[u8], terms: u32) -
     let stored = cursor.left;
     let from = at - number::length(stored) + number::length(terms);
     let kept = leading(form, &roll[at..], &fresh[from..], terms);
+    let anew = terms - kept;
     let ends = roll.len() - at == fresh.len() - from;
     Told {
         length: fresh.len(),
         terms,
         kept,
-        anew: terms - kept,
+        anew,
         miscounted: stored != terms,
         after: followed(kept == terms, ends),
     }

@@ -38,14 +38,14 @@ part-leading-end-2 c = search needs
 leading-requires : tie.Need-leading-requires
 leading-requires c κs = search compared-whole
 
+sub-anew : tie.Need-sub-anew
+sub-anew c = kept-few _ _ _ _ _ (c .leading .ensures)
+
 sub-ends : tie.Need-sub-ends
 sub-ends c = search needs
 
 sub-ends-2 : tie.Need-sub-ends-2
 sub-ends-2 c = search needs
-
-sub-t21 : tie.Need-sub-t21
-sub-t21 c = kept-few _ _ _ _ _ (c .leading .ensures)
 
 followed-requires : tie.Need-followed-requires
 followed-requires c κs = search needs
@@ -68,8 +68,8 @@ compared-spec =
     part-leading-start-2
     part-leading-end-2
     leading-requires
+    sub-anew
     sub-ends
     sub-ends-2
-    sub-t21
     followed-requires
     returns)
