@@ -114,7 +114,7 @@ pub met-made : (found : Line) (n m : ℕ) (l r : Step2) → m ≡ numberAfter n 
 met-made found n m l r is = rw is
 
 module _ (p : Pair) (l r : Step2) where
-  turn-by : (a b : Found) → l .found ≡ a → r .found ≡ b → turnFrom p l r ≡ turnAs a b p l r
+  pub turn-by : (a b : Found) → l .found ≡ a → r .found ≡ b → turnFrom p l r ≡ turnAs a b p l r
   turn-by a b left right = ap (λ (x : Found). turnAs x (r .found) p l r) left ∙ ap (λ (x : Found). turnAs a x p l r) right
 
   pub turn-both : (b : Bool) (m : Met) → l .found ≡ found.Term → r .found ≡ found.Term → b ≡ sameHeld (l .term) (r .term) → m ≡ metBy line.Both (p .number) l r → _≡_ {A = Turn} (record { same = b; met = m }) (turnFrom p l r)
@@ -209,3 +209,11 @@ going-more s t first x y g on is = record { whole = turns-enough (x .met .next) 
 
 pub going-done : (p : Pair) (s t : List ℕ) (first x : Turn) → first ≡ turnOf p s t → Going s t first x → x .same ≡ false → x .met ≡ nextOf p s t
 going-done p s t first x is g off = sym (settled (turnsLeft x) x s t off) ∙ g .whole ∙ turns-enough p s t first is
+
+-- what a step meets: this position, or what the step behind it meets
+pub turn-next : (p : Pair) (s t : List ℕ) → turnOf p s t .same ≡ false → nextOf p s t ≡ turnOf p s t .met
+unfolding nextOf
+turn-next p s t off = settled (p .left .cursor .left) (turnOf p s t) s t off
+
+pub turn-over : (p : Pair) (s t : List ℕ) → turnOf p s t .same ≡ true → nextOf p s t ≡ nextOf (turnOf p s t .met .next) s t
+turn-over p s t on = sym (turns-enough p s t (turnOf p s t) refl) ∙ over-one (turnOf p s t) s t on

@@ -1,3 +1,5 @@
+pub mod Answers
 pub mod Pairs
 pub mod Sides
 pub mod Text
+pub mod inner

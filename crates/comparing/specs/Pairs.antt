@@ -1,6 +1,6 @@
 -- 02, Q-4: both rolls gone through beside each other, position by position; a step goes on to the next that differs. Zeros stand beside the end and beside a refusal.
 use Prim.Native.Nat.{ℕ, zero, suc, _+_}
-use mathlib.Core.Bool.{Bool, false, cond, _&&_}
+use mathlib.Core.Bool.{Bool, true, false, cond, _&&_}
 use mathlib.Core.List.{List, [], _∷_}
 use lib.Dec.{ltb, eqb}
 use Rattle.kind.specs.Limits.{mostTerms}
@@ -77,19 +77,24 @@ nextOf p s t = metFrom (p .left .cursor .left) (turnOf p s t) s t
 
 -- ---- stepping from a pair on
 
--- the lines that so many steps give, to the end or to a refusal
-abbrev pub lining : Line → Met → List Met → List Met
-lining line.Both m rest = m ∷ rest
-lining line.Left m rest = m ∷ rest
-lining line.Right m rest = m ∷ rest
-lining line.End m rest = []
-lining (line.RefusedLeft n place) m rest = []
-lining (line.RefusedRight n place) m rest = []
+-- what has a line of its own: a position that differs
+abbrev pub isLine : Line → Bool
+isLine line.Both = true
+isLine line.Left = true
+isLine line.Right = true
+isLine line.End = false
+isLine (line.RefusedLeft n place) = false
+isLine (line.RefusedRight n place) = false
 
+-- the positions that so many steps give, to the end or to a refusal
 unfoldable pub linesFrom : ℕ → Pair → List ℕ → List ℕ → List Met
 linesFrom zero p s t = []
-linesFrom (suc steps) p s t = lining (nextOf p s t .found) (nextOf p s t) (linesFrom steps (nextOf p s t .next) s t)
+linesFrom (suc steps) p s t = cond (isLine (nextOf p s t .found)) (nextOf p s t ∷ linesFrom steps (nextOf p s t .next) s t) []
 
--- no more lines than both sides have terms
+-- each of them leaves a term less on one side
+abbrev pub termsLeft : Pair → ℕ
+termsLeft p = p .left .cursor .left + p .right .cursor .left
+
+-- all that the steps give
 unfoldable pub linesOf : Pair → List ℕ → List ℕ → List Met
-linesOf p s t = linesFrom (p .left .cursor .left + p .right .cursor .left) p s t
+linesOf p s t = linesFrom (termsLeft p) p s t

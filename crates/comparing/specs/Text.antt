@@ -100,22 +100,29 @@ termsDiffer l r = not (eqb (length (l .terms)) (length (r .terms)))
 -- how many positions differ; then kind, orders and term count, each only where they differ
 unfoldable pub headText : Roll → Roll → List ℕ
 headText l r =
-    countLine (length (differences 1 (l .terms) (r .terms)))
-    ++ (pairLine (kindsDiffer l r) kindWord (numberOf (l .kind)) (numberOf (r .kind))
+    (countLine (length (differences 1 (l .terms) (r .terms))) ++ pairLine (kindsDiffer l r) kindWord (numberOf (l .kind)) (numberOf (r .kind)))
     ++ (ordersLine (ordersDiffer l r) (l .orders) (r .orders)
-    ++ pairLine (termsDiffer l r) termsWord (length (l .terms)) (length (r .terms))))
+    ++ pairLine (termsDiffer l r) termsWord (length (l .terms)) (length (r .terms)))
 
 -- ---- the lines
 
 -- a term as the listing writes it: 1 0: 7
 unfoldable pub readingText : Term → List ℕ
-readingText t = (decimalOf (t .scale) ++ (blank ++ decimalOf (t .boys))) ++ (colon ++ afterBlanks (t .prefactors))
+readingText t = decimalOf (t .scale) ++ ((blank ++ decimalOf (t .boys)) ++ (colon ++ afterBlanks (t .prefactors)))
 
--- 2: 1 0: 7 / 1 0: 6, and 3: right 1 0: 0 6
+-- a position's number, a word and a term
+unfoldable pub numberedText : ℕ → List ℕ → Term → List ℕ
+numberedText number word t = decimalOf number ++ (word ++ readingText t)
+
+-- a term of one side alone: 3: right 1 0: 0 6
+unfoldable pub oneLine : ℕ → List ℕ → Term → List ℕ
+oneLine number side t = numberedText number side t ++ feed
+
+-- and terms that differ: 2: 1 0: 7 / 1 0: 6
 unfoldable pub lineText : Difference → List ℕ
-lineText (both number l r) = decimalOf number ++ (bothWord ++ (readingText l ++ (barBlank ++ (readingText r ++ feed))))
-lineText (left number l) = decimalOf number ++ (leftWord ++ (readingText l ++ feed))
-lineText (right number r) = decimalOf number ++ (rightWord ++ (readingText r ++ feed))
+lineText (both number l r) = numberedText number bothWord l ++ (barBlank ++ (readingText r ++ feed))
+lineText (left number l) = oneLine number leftWord l
+lineText (right number r) = oneLine number rightWord r
 
 unfoldable pub linesText : List Difference → List ℕ
 linesText [] = []
