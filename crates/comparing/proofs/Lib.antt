@@ -1,8 +1,12 @@
 pub mod Answered
 pub mod DifferLaws
+pub mod Itself
 pub mod Lines
 pub mod PairLaws
+pub mod Positions
 pub mod Same
 pub mod SaysLaws
 pub mod SidesLaws
 pub mod Steps
+pub mod Swapped
+pub mod Whole

@@ -1,7 +1,7 @@
 -- 02, Q-4: what a comparison answers, and the text of each of its pieces: the head, then one line after the other.
 use Prim.Native.Nat.{ℕ}
 use mathlib.Core.Bool.{Bool, false}
-use mathlib.Core.List.{List, [], _++_}
+use mathlib.Core.List.{List, [], _∷_, _++_}
 use lib.ListN.{length, take, replicate}
 use Rattle.kind.specs.Limits.{requestOrders}
 use Rattle.kind.specs.Kinds.{kindOf, ordersOf}
@@ -89,3 +89,8 @@ metAs (line.RefusedRight n place) m = refusedText n place rightEnd
 -- a position's line; nothing at the end, and the line of a refusal
 unfoldable pub metText : Met → List ℕ
 metText m = metAs (m .found) m
+
+-- one line after the other
+unfoldable pub piecesText : List Met → List ℕ
+piecesText [] = []
+piecesText (m ∷ ms) = metText m ++ piecesText ms

@@ -1,0 +1,58 @@
+-- Swapping the sides swaps the sides of every line, and changes no number and no count.
+use Prim.Native.Nat.{ℕ, _+_}
+use mathlib.Core.Path.{_≡_, refl, sym, ap, ap₂, _∙_}
+use mathlib.Core.Bool.{Bool, true, false, cond, not, _&&_}
+use mathlib.Core.List.{List, [], _∷_, _++_, map}
+use borrow.Author.Tests.{eq-eqb, eqb-true}
+use lib.Dec.{eqb}
+use lib.ListN.{length, length-map}
+use Rattle.kind.specs.Kinds.{numberOf}
+use Rattle.laws.proofs.Cases.{tested}
+use Rattle.term.specs.Terms.{Term}
+use Rattle.roll.specs.Reading.{Roll}
+use Rattle.listing.specs.Text.{kindWord}
+use Rattle.comparing.specs.Text.{sameNumbers, sameTerm, Difference, both, left, right, differences, termsWord, countLine, pairLine, ordersLine, kindsDiffer, ordersDiffer, termsDiffer, headText, linesText, compareText}
+use Rattle.comparing.proofs.Same.{alike, numbers-same, numbers-equal, term-same, term-equal}
+
+abbrev pub swap : Difference → Difference
+swap (both n l r) = both n r l
+swap (left n t) = right n t
+swap (right n t) = left n t
+
+same-swapped : (l r : Term) → sameTerm r l ≡ sameTerm l r
+same-swapped l r = alike (sameTerm r l) (sameTerm l r) (λ e. term-same l r (sym (term-equal r l e))) (λ e. term-same r l (sym (term-equal l r e)))
+
+pub swapped-lines : (n : ℕ) (ls rs : List Term) → differences n rs ls ≡ map swap (differences n ls rs)
+unfolding differences
+swapped-lines n [] [] = refl
+swapped-lines n (l ∷ ls) [] = ap (λ (ds : List Difference). right n l ∷ ds) (swapped-lines (n + 1) ls [])
+swapped-lines n [] (r ∷ rs) = ap (λ (ds : List Difference). left n r ∷ ds) (swapped-lines (n + 1) [] rs)
+swapped-lines n (l ∷ ls) (r ∷ rs) =
+    let rest = swapped-lines (n + 1) ls rs in
+    let back = same-swapped l r in
+    tested (sameTerm l r)
+    (λ on. rw (on, back ∙ on) rest)
+    (λ off. rw (off, back ∙ off) (ap (λ (ds : List Difference). both n r l ∷ ds) rest))
+
+pub swapped-count : (n : ℕ) (ls rs : List Term) → length (differences n rs ls) ≡ length (differences n ls rs)
+swapped-count n ls rs = ap length (swapped-lines n ls rs) ∙ length-map (differences n ls rs) swap
+
+eqb-swapped : (n m : ℕ) → eqb n m ≡ eqb m n
+eqb-swapped n m = alike (eqb n m) (eqb m n) (λ e. eq-eqb m n (sym (eqb-true n m e))) (λ e. eq-eqb n m (sym (eqb-true m n e)))
+
+numbers-swapped : (l r : List ℕ) → sameNumbers l r ≡ sameNumbers r l
+numbers-swapped l r = alike (sameNumbers l r) (sameNumbers r l) (λ e. numbers-same r l (sym (numbers-equal l r e))) (λ e. numbers-same l r (sym (numbers-equal r l e)))
+
+-- the whole text with the sides swapped: the same count, the same lines, each with its sides swapped
+pub swapped-text : (l r : Roll) → compareText r l ≡
+    ((countLine (length (differences 1 (l .terms) (r .terms))) ++ pairLine (kindsDiffer l r) kindWord (numberOf (r .kind)) (numberOf (l .kind)))
+    ++ (ordersLine (ordersDiffer l r) (r .orders) (l .orders) ++ pairLine (termsDiffer l r) termsWord (length (r .terms)) (length (l .terms))))
+    ++ linesText (map swap (differences 1 (l .terms) (r .terms)))
+unfolding compareText headText
+swapped-text l r =
+    let count = swapped-count 1 (l .terms) (r .terms) in
+    let kinds : kindsDiffer r l ≡ kindsDiffer l r = ap not (eqb-swapped (numberOf (r .kind)) (numberOf (l .kind))) in
+    let orders : ordersDiffer r l ≡ ordersDiffer l r = ap not (numbers-swapped (r .orders) (l .orders)) in
+    let terms : termsDiffer r l ≡ termsDiffer l r = ap not (eqb-swapped (length (r .terms)) (length (l .terms))) in
+    let lines = swapped-lines 1 (l .terms) (r .terms) in
+    rw (count, kinds, orders, terms, lines) refl
