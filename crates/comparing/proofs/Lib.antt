@@ -2,6 +2,8 @@ pub mod Answered
 pub mod DifferLaws
 pub mod Itself
 pub mod Lines
+pub mod Only
+pub mod Onward
 pub mod PairLaws
 pub mod Positions
 pub mod Same

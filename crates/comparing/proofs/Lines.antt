@@ -42,7 +42,7 @@ positionOf m = positionAs (m .found) m
 -- ---- one position
 
 module _ (p : Pair) (s t : List ℕ) where
-  turn-at : (a b : Found) → stepSide (p .left) s .found ≡ a → stepSide (p .right) t .found ≡ b → turnOf p s t ≡ turnAs a b p (stepSide (p .left) s) (stepSide (p .right) t)
+  pub turn-at : (a b : Found) → stepSide (p .left) s .found ≡ a → stepSide (p .right) t .found ≡ b → turnOf p s t ≡ turnAs a b p (stepSide (p .left) s) (stepSide (p .right) t)
   unfolding turnOf
   turn-at a b one two = turn-by p (stepSide (p .left) s) (stepSide (p .right) t) a b one two
 
@@ -64,7 +64,7 @@ module _ (p : Pair) (s t : List ℕ) where
       let next : nextOf p s t ≡ last line.End .met = turn-next p s t (ap (λ (x : Turn). x .same) is) ∙ ap (λ (x : Turn). x .met) is in
       lines-turn p s t ∙ ap (λ (m : Met). cond (isLine (m .found)) (m ∷ linesOf (m .next) s t) []) next
 
-from-step : (x : Held) (t : Term) → x ≡ held t → fromHeld x ≡ t
+pub from-step : (x : Held) (t : Term) → x ≡ held t → fromHeld x ≡ t
 from-step x t is = ap fromHeld is ∙ from-held t
 
 -- ---- all positions
