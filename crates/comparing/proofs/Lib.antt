@@ -6,6 +6,7 @@ pub mod Only
 pub mod Onward
 pub mod PairLaws
 pub mod Positions
+pub mod Room
 pub mod Same
 pub mod SaysLaws
 pub mod SidesLaws

@@ -94,3 +94,7 @@ metText m = metAs (m .found) m
 unfoldable pub piecesText : List Met → List ℕ
 piecesText [] = []
 piecesText (m ∷ ms) = metText m ++ piecesText ms
+
+-- the bytes that a head or a line has at most
+abbrev pub pieceRoom : ℕ
+pieceRoom = 256
