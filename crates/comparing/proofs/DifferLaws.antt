@@ -144,7 +144,7 @@ pub record Counting (s t : List ℕ) (first m : Met) (more : Bool) (n : ℕ) : T
 pub counting-first : (s t : List ℕ) (m : Met) (more : Bool) → more ≡ isLine (m .found) → Counting s t m m more 0
 counting-first s t m more test = record { test = test; sum = omega arith }
 
-rest-more : (s t : List ℕ) (m x : Met) (more : Bool) → more ≡ isLine (m .found) → more ≡ true → x ≡ nextOf (m .next) s t → restOf s t m ≡ suc (restOf s t x)
+pub rest-more : (s t : List ℕ) (m x : Met) (more : Bool) → more ≡ isLine (m .found) → more ≡ true → x ≡ nextOf (m .next) s t → restOf s t m ≡ suc (restOf s t x)
 unfolding restOf
 rest-more s t m x more test on is = let line : isLine (m .found) ≡ true = sym test ∙ on in rw line (ap suc (sym (rest-next (m .next) s t x is)))
 

@@ -10,8 +10,9 @@ use Rattle.comparing.specs.declared.differ.Compared.{Compared}
 use Rattle.comparing.specs.declared.pair.Met.{Met}
 use Rattle.comparing.specs.declared.pair.Pair.{Pair}
 use Rattle.comparing.specs.Answers.{comparedOf, comparedText, metText}
-use Rattle.comparing.specs.Pairs.{nextOf}
+use Rattle.comparing.specs.Pairs.{nextOf, isLine}
 use Rattle.comparing.proofs.differ.compare.Reads.{Post as Compare}
+use Rattle.comparing.proofs.differ.is_line.Reads.{Post as IsLine}
 use Rattle.comparing.proofs.pair.Pair.next.Reads.{Post as Next}
 use Rattle.comparing.proofs.pieces.head.Reads.{Post as Head}
 use Rattle.comparing.proofs.pieces.line.Reads.{Post as Line}
@@ -33,3 +34,6 @@ module _ (κs : Lfts 1) (out : Lent ℕ) (start : ℕ) where
       Alone {A = Listed × List ℕ} (λ x. Line κs (m ▸ out ▸ start ▸ end) (x .0) (m ▸ out then (x .1) ▸ start ▸ end))
       (textAt (metText m) (out .now) start, placedWhereFits (out .now) start (metText m))
   line-only m = alone (λ x p i. (p .answer i, p .out i))
+
+pub is-line-only : (m : Met) → let g = m ▸ end in Alone (λ r. IsLine tt g r g) (isLine (m .found))
+is-line-only m = alone (λ r p. p)

@@ -57,7 +57,7 @@ fn refused(found: Outcome) -> Compared
 }
 
 // Whether a step has met a position that differs.
-fn is_line(met: Met) -> bool
+pub fn is_line(met: Met) -> bool
     ensures { λ r. ⌜ r ≡ isLine (met .found) ⌝ }
 {
     let found = met.found;

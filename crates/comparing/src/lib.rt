@@ -8,6 +8,7 @@ mod sides;
 pub use differ::Compared;
 pub use differ::Outcome;
 pub use differ::compare;
+pub use differ::is_line;
 pub use pair::Line;
 pub use pair::Met;
 pub use pair::Pair;
