@@ -1,25 +1,23 @@
 -- A comparison's answers: a refusal of the left side, then of the right; of two rolls that read, what differs.
 use Prim.Native.Nat.{ℕ, _-_}
 use mathlib.Core.Path.{_≡_, refl, sym, ap, ap₂, _∙_}
-use mathlib.Core.Bool.{Bool, true, false, not}
-use mathlib.Core.List.{List, _++_, map}
+use mathlib.Core.Bool.{Bool, not}
+use mathlib.Core.List.{List, map}
 use native.Mathlib.Omega.{arith}
 use lib.Dec.{eqb}
 use lib.ListN.{length, take, replicate, length-map}
 use lib.Seq.{take-at}
-use Rattle.kind.specs.Limits.{requestOrders, mostTerms}
-use Rattle.kind.specs.Kinds.{kindOf, numberOf, ordersOf}
-use Rattle.kind.specs.declared.Named.{Named}
+use Rattle.kind.specs.Limits.{requestOrders}
+use Rattle.kind.specs.Kinds.{kindOf, ordersOf}
 use Rattle.kind.proofs.KindNumber.{kind-number}
 use Rattle.roll.specs.declared.header.Opening.the-variants as opening
-use Rattle.roll.specs.Reading.{Reading, got, refused, Roll}
+use Rattle.roll.specs.Reading.{Reading, got, Roll}
 use Rattle.form2.specs.declared.header.Opened2.{Opened2}
 use Rattle.comparing.specs.declared.differ.Compared.{Compared}
 use Rattle.comparing.specs.declared.differ.Outcome.the-variants as outcome
 use Rattle.comparing.specs.declared.pair.Pair.{Pair}
-use Rattle.comparing.specs.declared.pair.Met.{Met}
 use Rattle.comparing.specs.Sides.{sideAt, openSide, checkSide}
-use Rattle.comparing.specs.Text.{Difference, sameNumbers, differences, kindsDiffer, ordersDiffer, termsDiffer}
+use Rattle.comparing.specs.Text.{sameNumbers, differences, kindsDiffer, ordersDiffer, termsDiffer}
 use Rattle.comparing.specs.Pairs.{linesOf}
 use Rattle.comparing.specs.Answers.{refusedCompared, firstPair, comparedAs, comparedOf, usedAs, usedOf}
 use Rattle.comparing.specs.inner.Sided.{Sided}

@@ -1,7 +1,7 @@
 -- A roll and itself, and a roll and its other form: `0 differ`, and nothing else.
 use Prim.Native.Nat.{ℕ, _+_}
 use mathlib.Core.Path.{_≡_, refl, sym, ap, ap₂, _∙_}
-use mathlib.Core.Bool.{Bool, true, false}
+use mathlib.Core.Bool.{true, false}
 use mathlib.Core.List.{List, [], _∷_, _++_, append-nil}
 use borrow.Author.Tests.{eq-eqb}
 use lib.ListN.{length}
@@ -11,7 +11,7 @@ use Rattle.kind.specs.declared.Kind.the-variants.{Overlap, Kinetic, Nuclear, Mo
 use Rattle.term.specs.Terms.{Term}
 use Rattle.number.specs.Numbers.{groups, bytesOf, Bytes}
 use Rattle.roll.specs.Bytes.{rollBytes}
-use Rattle.roll.specs.Reading.{Reading, got, refused, Roll, rollAt}
+use Rattle.roll.specs.Reading.{got, Roll, rollAt}
 use Rattle.form2.specs.Bytes.{formTwo, rollBytes2}
 use Rattle.form2.specs.Moves.{inForm1, inForm2}
 use Rattle.form2.specs.Reading.{rollAt2}
@@ -19,7 +19,7 @@ use Rattle.form2.proofs.Forms.{form2-and-back, form1-and-back}
 use Rattle.text.specs.Digits.{glyph, decimalOf}
 use Rattle.listing.specs.Text.{feed}
 use Rattle.comparing.specs.Sides.{isForm2, sideAt}
-use Rattle.comparing.specs.Text.{sameNumbers, sameTerm, differences, differWord, countLine, pairLine, ordersLine, headText, linesText, compareText, saidOf}
+use Rattle.comparing.specs.Text.{differences, differWord, countLine, pairLine, ordersLine, headText, linesText, compareText, saidOf}
 use Rattle.comparing.proofs.Same.{numbers-same, term-same}
 
 pub none-differ : (n : ℕ) (ts : List Term) → differences n ts ts ≡ []

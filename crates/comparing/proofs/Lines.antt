@@ -1,7 +1,7 @@
 -- The positions that the steps give from the first pair on are the positions that differ, in their order.
 use Prim.Native.Nat.{ℕ, _+_, _≤_}
 use mathlib.Core.Path.{_≡_, refl, sym, ap, ap₂, _∙_}
-use mathlib.Core.Bool.{Bool, true, false, cond}
+use mathlib.Core.Bool.{true, false, cond}
 use mathlib.Core.List.{List, [], _∷_, map}
 use native.Mathlib.Omega.{arith}
 use lib.ListN.{length}
@@ -13,7 +13,6 @@ use Rattle.roll.specs.declared.cursor.Found.{Found}
 use Rattle.roll.specs.declared.cursor.Found.the-variants as found
 use Rattle.roll.specs.inner.Held.{fromHeld}
 use Rattle.roll.proofs.Steps.{from-held}
-use Rattle.form2.specs.declared.cursor.Step2.{Step2}
 use Rattle.comparing.specs.declared.pair.Line.{Line}
 use Rattle.comparing.specs.declared.pair.Line.the-variants as line
 use Rattle.comparing.specs.declared.pair.Pair.{Pair}

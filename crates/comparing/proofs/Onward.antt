@@ -1,14 +1,13 @@
 -- From the first pair of two rolls that read, each step gives the next position that differs and goes on behind it, and the last one gives the end: no step is refused.
 use Prim.Native.Nat.{ℕ, _+_, _≤_}
 use mathlib.Core.Path.{_≡_, refl, sym, ap, ap₂, _∙_}
-use mathlib.Core.Bool.{Bool, true, false}
+use mathlib.Core.Bool.{true, false}
 use mathlib.Core.List.{List, [], _∷_}
 use native.Mathlib.Omega.{arith}
 use lib.ListN.{length}
 use Rattle.kind.specs.Limits.{mostTerms}
 use Rattle.laws.proofs.Cases.{tested}
-use Rattle.term.specs.declared.Term.{Term as Held}
-use Rattle.term.specs.Terms.{Term, held}
+use Rattle.term.specs.Terms.{Term}
 use Rattle.roll.specs.declared.cursor.Found.the-variants as found
 use Rattle.roll.specs.inner.Held.{fromHeld}
 use Rattle.form2.specs.declared.header.Opened2.{Opened2}
@@ -17,7 +16,7 @@ use Rattle.comparing.specs.declared.pair.Pair.{Pair}
 use Rattle.comparing.specs.declared.pair.Met.{Met}
 use Rattle.comparing.specs.declared.pair.Turn.{Turn}
 use Rattle.comparing.specs.Sides.{stepSide}
-use Rattle.comparing.specs.Text.{sameTerm, Difference, both, left, right, differences}
+use Rattle.comparing.specs.Text.{sameTerm, both, left, right, differences}
 use Rattle.comparing.specs.Pairs.{numberAfter, sameHeld, withoutTerms, last, metBy, staying, listed, turnOf, nextOf, isLine}
 use Rattle.comparing.specs.Answers.{firstPair}
 use Rattle.comparing.specs.inner.Sided.{Gives, Sided}

@@ -1,6 +1,6 @@
 -- No position that differs is left out, and none is listed that does not: in other words than the definition, by the terms that stand at a place of each list.
 use Prim.Native.Nat.{ℕ, zero, suc, _+_, _≤_}
-use mathlib.Core.Path.{_≡_, refl, sym, ap, ap₂, _∙_}
+use mathlib.Core.Path.{_≡_, refl, sym, ap, _∙_}
 use mathlib.Core.Bool.{Bool, true, false, cond, true≢false}
 use mathlib.Core.List.{List, [], _∷_, List·Memᴰ, List·Memᴰ·head, List·Memᴰ·tail, List·Memᴰ·not-nil, List·Memᴰ·cases-cons}
 use mathlib.Core.Logic.{_⊎_, inl, inr}
@@ -54,9 +54,6 @@ further n ls rs us vs d one two x =
       right-is = x .right-is ∙ sym (two (x .at));
       other = λ e. x .other (sym (one (x .at)) ∙ e ∙ two (x .at));
     }
-
-nothing : (i : ℕ) → entry (suc i) [] ≡ entry i []
-nothing i = refl
 
 pub listed-differs : (n : ℕ) (ls rs : List Term) (d : Difference) → List·Memᴰ d (differences n ls rs) → Differs n ls rs d
 unfolding differences

@@ -3,12 +3,12 @@ use Prim.Native.Nat.{ℕ, _+_, _-_, _≤_, _<_}
 use native.Mathlib.Omega.{arith}
 use mathlib.Core.Path.{_≡_, refl, sym, ap, _∙_}
 use mathlib.Core.Bool.{Bool, true, false}
-use mathlib.Core.List.{List, [], _++_}
+use mathlib.Core.List.{List, _++_}
 use borrow.Author.Tests.{lt-ltb, le-ltb, le-leb, ltb-true, ltb-false}
 use lib.Dec.{ltb}
 use lib.ListN.{length, take, drop}
 use lib.Seq.{take-all}
-use Rattle.kind.specs.Limits.{mostL·any, requestOrders}
+use Rattle.kind.specs.Limits.{mostL·any}
 use Rattle.laws.proofs.Cases.{tested}
 use Rattle.term.specs.declared.Term.{Term as Held}
 use Rattle.term.specs.Terms.{Term}
@@ -26,7 +26,7 @@ use Rattle.comparing.specs.declared.differ.Outcome.the-variants as outco
 use Rattle.comparing.specs.declared.pair.Met.{Met}
 use Rattle.comparing.specs.declared.pair.Line.the-variants as line
 use Rattle.comparing.specs.Text.{both, left, right, differWord, ordersWord, termsWord, bar, barBlank, bothWord, leftWord, rightWord, leftEnd, rightEnd, countLine, pairLine, ordersLine, readingText, numberedText, oneLine, lineText, refusedText}
-use Rattle.comparing.specs.Answers.{usedOf, headOf, headAs, comparedText, metAs, metText}
+use Rattle.comparing.specs.Answers.{usedOf, headOf, headAs, comparedText, metText}
 use Rattle.comparing.specs.inner.Sided.{shown}
 
 -- ---- a row

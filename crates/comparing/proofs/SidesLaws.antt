@@ -1,11 +1,11 @@
 -- One side: which form it has, and that the answers of both forms are those of the definition.
 use Prim.Native.Nat.{ℕ, _+_, _-_, _≤_, _<_}
 use mathlib.Core.Path.{_≡_, refl, sym, ap, _∙_}
-use mathlib.Core.Bool.{Bool, true, false, cond, _&&_, _||_}
+use mathlib.Core.Bool.{Bool, true, false, cond, _||_}
 use mathlib.Core.List.{List}
 use native.Mathlib.Omega.{arith}
 use borrow.Author.Tests.{le-leb, lt-leb, eqb-false}
-use lib.Dec.{eqb, ltb, leb}
+use lib.Dec.{eqb, leb}
 use lib.ListN.{length, getD}
 use Rattle.kind.specs.Kinds.{kindOf, numberOf}
 use Rattle.kind.specs.declared.Kind.{Kind}
@@ -20,7 +20,7 @@ use Rattle.roll.specs.declared.cursor.Step.{Step}
 use Rattle.roll.specs.declared.cursor.Found.the-variants as found
 use Rattle.roll.specs.declared.header.Opened.{Opened}
 use Rattle.roll.specs.Reading.{Reading, got, refused, termAt}
-use Rattle.roll.specs.Cursor.{refusedStep, endStep, stepped, endOr, stepWith, forged, stepAs, stepOf}
+use Rattle.roll.specs.Cursor.{refusedStep, endStep, stepped, stepWith, forged, stepAs, stepOf}
 use Rattle.roll.specs.Header.{checkOf}
 use Rattle.form2.specs.declared.cursor.Cursor2.{Cursor2}
 use Rattle.form2.specs.declared.cursor.Step2.{Step2}

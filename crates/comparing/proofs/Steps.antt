@@ -1,7 +1,7 @@
 -- A side that was judged: stepping its cursor gives the terms that the roll says, in either form, and then the end.
-use Prim.Native.Nat.{ℕ, suc, _-_, _≤_}
+use Prim.Native.Nat.{ℕ, suc, _≤_}
 use mathlib.Core.Path.{_≡_, refl, sym, ap, _∙_}
-use mathlib.Core.Bool.{Bool, true, false}
+use mathlib.Core.Bool.{true, false}
 use mathlib.Core.List.{List, [], _∷_, map}
 use native.Mathlib.Omega.{arith}
 use lib.ListN.{length}
@@ -13,9 +13,8 @@ use Rattle.term.specs.declared.Term.{Term as Held}
 use Rattle.term.specs.Terms.{Term, held}
 use Rattle.roll.specs.declared.cursor.Found.{Found}
 use Rattle.roll.specs.declared.cursor.Found.the-variants as found
-use Rattle.roll.specs.declared.header.Opened.{Opened}
 use Rattle.roll.specs.declared.header.Opening.the-variants as opening
-use Rattle.roll.specs.Reading.{Reading, got, refused, andThen, termsAt, Header, headerAt, Roll, rollAt}
+use Rattle.roll.specs.Reading.{Reading, got, refused, termsAt, Header, headerAt, Roll, rollAt}
 use Rattle.roll.specs.Cursor.{stepOf, gathering, gathered, heldTerms}
 use Rattle.roll.specs.Header.{heldHeader, cursorAt, openOf, checkOf}
 use Rattle.roll.proofs.Checked.{reads-checked, checked-reads, checked-refused}

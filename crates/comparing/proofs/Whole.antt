@@ -1,8 +1,8 @@
 -- The pieces are the text: what the head says, and behind it the line of each position that the steps give from the first pair on, is what 02 asks for of the two rolls.
 use Prim.Native.Nat.{ℕ, zero, suc, _+_}
 use mathlib.Core.Path.{_≡_, refl, sym, ap, ap₂, _∙_}
-use mathlib.Core.Bool.{Bool, true, false}
-use mathlib.Core.List.{List, [], _∷_, _++_, map, append-nil}
+use mathlib.Core.Bool.{true}
+use mathlib.Core.List.{List, [], _++_, map, append-nil}
 use lib.ListN.{length, take, length-map}
 use Rattle.kind.specs.Kinds.{numberOf}
 use Rattle.laws.proofs.Cases.{clash, tested}
@@ -10,14 +10,13 @@ use Rattle.roll.specs.declared.header.Opening.{Opening}
 use Rattle.roll.specs.declared.header.Opening.the-variants as opening
 use Rattle.roll.specs.Reading.{Reading, got, refused, Roll}
 use Rattle.form2.specs.declared.header.Opened2.{Opened2}
-use Rattle.listing.specs.Text.{kindWord}
 use Rattle.comparing.specs.declared.differ.Compared.{Compared}
 use Rattle.comparing.specs.declared.pair.Line.{Line}
 use Rattle.comparing.specs.declared.pair.Line.the-variants as line
 use Rattle.comparing.specs.declared.pair.Pair.{Pair}
 use Rattle.comparing.specs.declared.pair.Met.{Met}
 use Rattle.comparing.specs.Sides.{sideAt, openSide, checkSide}
-use Rattle.comparing.specs.Text.{Difference, differences, countLine, pairLine, ordersLine, kindsDiffer, ordersDiffer, termsDiffer, termsWord, headText, lineText, linesText, compareText, saidOf}
+use Rattle.comparing.specs.Text.{differences, headText, lineText, linesText, compareText, saidOf}
 use Rattle.comparing.specs.Pairs.{noPair, nextOf, isLine, linesFrom, linesOf}
 use Rattle.comparing.specs.Answers.{firstPair, comparedAs, comparedOf, usedOf, headOf, comparedText, metAs, metText, piecesText}
 use Rattle.comparing.specs.inner.Sided.{Sided}

@@ -1,6 +1,6 @@
 -- 02, Q-4: what a comparison answers, and the text of each of its pieces: the head, then one line after the other.
 use Prim.Native.Nat.{ℕ}
-use mathlib.Core.Bool.{Bool, false}
+use mathlib.Core.Bool.{false}
 use mathlib.Core.List.{List, [], _∷_, _++_}
 use lib.ListN.{length, take, replicate}
 use Rattle.kind.specs.Limits.{requestOrders}

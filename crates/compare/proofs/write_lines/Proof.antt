@@ -1,8 +1,5 @@
 -- `write_lines` meets its contract: each step leaves fewer positions. Assumes nothing.
 use borrow.Author.Needs.{needs}
-use Prim.Native.Nat.{_≤_}
-use lib.ListN.{length}
-use Rattle.comparing.specs.Answers.{pieceRoom}
 use Rattle.comparing.proofs.DifferLaws.{restOf}
 use Rattle.compare.proofs.Output.{Going, going-first, going-more, going-less, going-room}
 use Rattle.compare.proofs.write_lines.Statement.{statement}

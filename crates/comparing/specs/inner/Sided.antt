@@ -1,4 +1,4 @@
--- Inside the crate: a side that was judged, and what its cursor then gives.
+-- Inside the crate: a side that was judged, and what its cursor then gives; and how many prefactors of a term are shown.
 use Prim.Native.Nat.{ℕ, _-_, _≤_}
 use mathlib.Core.Path.{_≡_}
 use mathlib.Core.Bool.{cond}
