@@ -9,8 +9,11 @@ use lib.ListN.{length, length-map}
 use Rattle.kind.specs.Kinds.{numberOf}
 use Rattle.laws.proofs.Cases.{tested}
 use Rattle.term.specs.Terms.{Term}
-use Rattle.roll.specs.Reading.{Roll}
+use Rattle.roll.specs.Reading.{got, Roll}
 use Rattle.listing.specs.Text.{kindWord}
+use Rattle.comparing.specs.declared.differ.Compared.{Compared}
+use Rattle.comparing.specs.Sides.{sideAt}
+use Rattle.comparing.specs.Answers.{comparedOf}
 use Rattle.comparing.specs.Text.{sameNumbers, sameTerm, Difference, both, left, right, differences, termsWord, countLine, pairLine, ordersLine, kindsDiffer, ordersDiffer, termsDiffer, headText, linesText, compareText}
 use Rattle.comparing.proofs.Same.{alike, numbers-same, numbers-equal, term-same, term-equal}
 
@@ -56,3 +59,25 @@ swapped-text l r =
     let terms : termsDiffer r l ≡ termsDiffer l r = ap not (eqb-swapped (length (r .terms)) (length (l .terms))) in
     let lines = swapped-lines 1 (l .terms) (r .terms) in
     rw (count, kinds, orders, terms, lines) refl
+
+-- and so does the answer: the same counts, with the sides swapped
+pub record SwappedAnswer (there back : Compared) : Type 0 where
+  pub differ : back .differ ≡ there .differ
+  pub kinds : back .kinds ≡ there .kinds
+  pub orders : back .orders ≡ there .orders
+  pub terms : back .terms ≡ there .terms
+  pub left-is : back .left ≡ there .right
+  pub right-is : back .right ≡ there .left
+
+pub swapped-answer : (s t : List ℕ) (l r : Roll) (end last : ℕ) → sideAt s ≡ got l end → sideAt t ≡ got r last → SwappedAnswer (comparedOf s t) (comparedOf t s)
+unfolding comparedOf
+swapped-answer s t l r end last one two =
+    rw (one, two)
+    (record {
+      differ = swapped-count 1 (l .terms) (r .terms);
+      kinds = ap not (eqb-swapped (numberOf (r .kind)) (numberOf (l .kind)));
+      orders = ap not (numbers-swapped (r .orders) (l .orders));
+      terms = ap not (eqb-swapped (length (r .terms)) (length (l .terms)));
+      left-is = refl;
+      right-is = refl;
+    })

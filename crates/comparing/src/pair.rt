@@ -1,6 +1,6 @@
 // Both rolls gone through beside each other: a step by value goes on to the next position that differs.
 ghost use mathlib.Core.Path.{_≡_};
-ghost use Rattle.comparing.specs.Pairs.{numberAfter, sameHeld, noPair, withoutTerms, last, metBy, staying, listed, turnFrom, turnOf, nextOf};
+ghost use Rattle.comparing.specs.Pairs.{numberAfter, sameHeld, noPair, last, metBy, staying, listed, turnFrom, turnOf, nextOf};
 ghost use Rattle.comparing.specs.Text.{sameNumbers};
 use crate::sides::alone;
 use crate::sides::step_side;

@@ -1,9 +1,9 @@
 // Text said piece by piece, as the listing says it: the same functions measure a text and write it. Lent no bytes, they only find out whether it has room.
 ghost use mathlib.Core.Path.{_≡_};
 ghost use mathlib.Core.List.{_++_};
+ghost use lib.ListN.{take};
 ghost use Rattle.text.specs.Digits.{decimalOf};
 ghost use Rattle.roll.specs.inner.Held.{fromHeld};
-ghost use lib.ListN.{take};
 ghost use Rattle.listing.specs.Text.{colon, kindWord, afterBlanks};
 ghost use Rattle.listing.specs.inner.Saying.{advanced, Said, Kept};
 ghost use Rattle.comparing.specs.Text.{both, readingText, numberedText, oneLine, lineText, countLine, pairLine, ordersLine, refusedText};
