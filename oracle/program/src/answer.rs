@@ -2,7 +2,7 @@
 
 use crate::parse::{self, Centre, Cursor, Evaluation, Lengths, Line, Question};
 use crate::rust_side;
-use crate::second::{self, Form, Header, Refusal, Step, Term};
+use crate::second::{self, Form, Header, Refusal, Side, Step, Term};
 use std::io::{self, BufRead, BufReader, Read, Write};
 
 /// Answers lines until the input ends.
@@ -87,6 +87,10 @@ fn answer(question: Question, out: &mut Vec<u8>) -> Result<(), Refusal> {
             buffer,
             start,
         } => salvage(out, &roll, buffer, start),
+        Question::Compare { left, right } => {
+            compare(out, &left, &right);
+            Ok(())
+        }
         Question::Eval(evaluation) => eval(out, &evaluation),
         Question::Grouped { buffer, evaluation } => grouped(out, buffer, &evaluation),
         Question::Table(kind, centres) => table(out, kind, &centres),
@@ -223,6 +227,26 @@ fn list(out: &mut Vec<u8>, roll: &[u8]) -> Result<(), Refusal> {
     write(out, "listing ");
     write(out, &text.replace('\n', "|"));
     Ok(())
+}
+
+/// A refusal has its side.
+fn compare(out: &mut Vec<u8>, left: &[u8], right: &[u8]) {
+    match second::compared(left, right) {
+        Ok(text) => {
+            write(out, "compared ");
+            write(out, &text.replace('\n', "|"));
+        }
+        Err((refusal, side)) => {
+            write_refusal(out, refusal);
+            write(
+                out,
+                match side {
+                    Side::Left => " left",
+                    Side::Right => " right",
+                },
+            );
+        }
+    }
 }
 
 fn opened(out: &mut Vec<u8>, header: &Header) -> Result<(), Refusal> {

@@ -112,8 +112,8 @@ fn way(question: &[u8]) -> Option<Way> {
     Some(answer::way(&header, &terms, &evaluation))
 }
 
-/// The first word; a refusal with its number, a total apart from none, and a salvage with what it
-/// says of the count and of what follows.
+/// The first word; a refusal with its number and side, a total apart from none, a salvage with what it
+/// says of the count and of what follows, and a comparison with what differs.
 pub fn class(answer: &[u8]) -> String {
     if answer.is_empty() || answer[0] == b'#' {
         return "the same line".to_string();
@@ -121,8 +121,16 @@ pub fn class(answer: &[u8]) -> String {
     let mut words = answer.split(|&b| b == b' ').map(String::from_utf8_lossy);
     let first = words.next().unwrap_or_default().to_string();
     match (first.as_str(), words.next()) {
-        ("refused", Some(number)) => format!("refused {:>2}", number),
+        ("refused", Some(number)) => {
+            let side = words
+                .nth(2)
+                .map_or(String::new(), |side| format!(" {}", side));
+            format!("refused {:>2}{}", number, side)
+        }
         ("total", Some(none)) if none == "none" => "total none".to_string(),
+        ("compared", Some(number)) if number != "0" => "compared terms".to_string(),
+        ("compared", _) if answer == b"compared 0 differ|" => "compared equal".to_string(),
+        ("compared", _) => "compared header".to_string(),
         ("salvaged", _) => {
             let told: Vec<_> = words.take(10).collect();
             match &told[..] {

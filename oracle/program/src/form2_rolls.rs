@@ -8,25 +8,26 @@ use crate::rust_side;
 use crate::second::{self, Form, Term};
 
 /// What a roll says.
-struct Said {
-    kind: u8,
-    orders: [u8; 12],
-    terms: Vec<Term>,
+#[derive(Clone)]
+pub struct Said {
+    pub kind: u8,
+    pub orders: [u8; 12],
+    pub terms: Vec<Term>,
 }
 
 impl Said {
-    fn most_prefactors(&self) -> usize {
+    pub fn most_prefactors(&self) -> usize {
         let l: usize = self.orders.iter().map(|&o| usize::from(o)).sum();
         l + usize::from(self.kind == 1)
     }
 
-    fn write(&self, form: Form) -> Vec<u8> {
+    pub fn write(&self, form: Form) -> Vec<u8> {
         second::write_roll_in(form, self.kind, &self.orders, &self.terms)
     }
 }
 
 /// Legal terms, each of which begins as the one before.
-fn said(random: &mut Random) -> Said {
+pub fn said(random: &mut Random) -> Said {
     let kind = random.below(5) as u8;
     let mut said = Said {
         kind,

@@ -2,6 +2,7 @@
 //! knows nothing, from a second reading of documents 01 and 02.
 
 pub mod answer;
+pub mod compare_rolls;
 pub mod cursors;
 pub mod diff;
 pub mod floats;

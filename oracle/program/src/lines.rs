@@ -23,6 +23,14 @@ pub fn with_roll(word: &str, roll: &[u8]) -> Vec<u8> {
     line
 }
 
+/// A word and two rolls.
+pub fn with_rolls(word: &str, left: &[u8], right: &[u8]) -> Vec<u8> {
+    let mut line = with_roll(word, left);
+    line.push(b' ');
+    parse::write_roll(&mut line, right);
+    line
+}
+
 pub fn append_float(random: &mut Random, line: &mut Vec<u8>, float: f64) {
     line.push(b' ');
     if random.once_in(10) {

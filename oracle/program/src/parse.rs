@@ -92,6 +92,10 @@ pub enum Question {
         buffer: usize,
         start: u64,
     },
+    Compare {
+        left: Vec<u8>,
+        right: Vec<u8>,
+    },
     Eval(Evaluation),
     Grouped {
         buffer: usize,
@@ -237,6 +241,10 @@ fn question(bytes: &[u8]) -> Option<Question> {
                 start,
             }
         }
+        b"compare" => Question::Compare {
+            left: words.roll()?,
+            right: words.roll()?,
+        },
         b"eval" => Question::Eval(evaluation(&mut words)?),
         b"grouped" => Question::Grouped {
             buffer: words.number(LARGEST_GROUPING as u64)? as usize,

@@ -1,9 +1,10 @@
 //! Random questions of one kind: ordinary, extreme and wrong ones.
 
+use crate::compare_rolls::{self, Pair};
 use crate::cursors::{self, Walk};
 use crate::floats::{self, Taste};
 use crate::lines::{append, append_centres, append_float, append_floats, append_room};
-use crate::lines::{grouping_buffer, numbers, with_roll};
+use crate::lines::{grouping_buffer, numbers, with_roll, with_rolls};
 use crate::parse::{LONGEST_LINE, MOST_BOYS};
 use crate::random::Random;
 use crate::second::{self, Form, NOW};
@@ -11,7 +12,7 @@ use crate::{form2_rolls, matrices, odd_lines, requests, rolls, runs, rust_side, 
 use std::io::{self, Write};
 
 /// The kinds of question, as `oracle/ask-both` names them.
-pub const KINDS: [&str; 22] = [
+pub const KINDS: [&str; 23] = [
     "shell",
     "component",
     "expand",
@@ -29,6 +30,7 @@ pub const KINDS: [&str; 22] = [
     "form2",
     "form1",
     "salvage",
+    "compare",
     "eval",
     "grouped",
     "table",
@@ -60,13 +62,19 @@ pub fn write_all(kind: &str, count: u64, seed: u64, out: &mut dyn Write) -> io::
         "salvage" => salvage_rolls::tried_one_by_one(),
         _ => Vec::new(),
     };
+    let pairs = match kind {
+        "compare" => compare_rolls::tried_one_by_one(),
+        _ => Vec::new(),
+    };
     let most_tried = if count < ALL_TRIED { count / 2 } else { count };
     let mut random = Random::new(seed);
     for at in 0..count {
         let tried = one_by_one.get(at as usize).filter(|_| at < most_tried);
-        let mut line = match tried {
-            Some(roll) => about_roll(&mut random, kind, roll, Walk::ToTheStop),
-            None => match at_a_limit(kind, count - at) {
+        let pair = pairs.get(at as usize).filter(|_| at < most_tried);
+        let mut line = match (tried, pair) {
+            (Some(roll), _) => about_roll(&mut random, kind, roll, Walk::ToTheStop),
+            (_, Some((left, right))) => with_rolls(kind, left, right),
+            _ => match at_a_limit(kind, count - at) {
                 Some(line) => line,
                 None => question(&mut random, kind, at),
             },
@@ -91,6 +99,7 @@ fn fixed_kind(kind: &str) -> Option<u8> {
 
 /// The last lines but one of a run stand at a limit of the language and one beyond it.
 fn at_a_limit(kind: &str, from_end: u64) -> Option<Vec<u8>> {
+    let compared = |(left, right): Pair| with_rolls(kind, &left, &right);
     match from_end {
         6 if kind == "grouped" => Some(odd_lines::most_grouped()),
         5 => Some(odd_lines::longest(kind, LONGEST_LINE)),
@@ -106,6 +115,8 @@ fn at_a_limit(kind: &str, from_end: u64) -> Option<Vec<u8>> {
             kind,
             &salvage_rolls::of_the_most_terms(Form::Two),
         )),
+        3 if kind == "compare" => Some(compared(compare_rolls::of_long_lines())),
+        2 if kind == "compare" => Some(compared(compare_rolls::of_one_side())),
         2 if kind == "eval" => Some(odd_lines::with_boys("eval", MOST_BOYS + 1)),
         2 if kind == "grouped" => Some(odd_lines::with_boys("grouped 0", MOST_BOYS + 1)),
         _ => None,
@@ -134,6 +145,10 @@ fn question(random: &mut Random, kind: &str, at: u64) -> Vec<u8> {
         "salvage" => {
             let roll = salvage_rolls::any(random);
             about_roll(random, kind, &roll, Walk::Anywhere)
+        }
+        "compare" => {
+            let (left, right) = compare_rolls::any(random);
+            with_rolls(kind, &left, &right)
         }
         "eval" => eval(random),
         "grouped" => grouped(random),

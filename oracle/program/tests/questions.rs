@@ -1,6 +1,7 @@
 //! The random questions: as many lines as asked for, and every kind of answer among them.
 
 use oracle::answer::answer_all;
+use oracle::compare_rolls;
 use oracle::diff::class;
 use oracle::form2_rolls;
 use oracle::form2_runs::{self, Asked};
@@ -83,6 +84,15 @@ fn every_kind_of_answer_comes_up() {
                 "refused  6",
                 "refused  7",
                 "refused 14",
+            ],
+            "compare" => &[
+                "compared equal",
+                "compared header",
+                "compared terms",
+                "refused  7 left",
+                "refused  7 right",
+                "refused 14 left",
+                "refused 14 right",
             ],
             "eval" => &[
                 "value",
@@ -243,6 +253,24 @@ fn damaged_rolls_that_are_tried_one_by_one() {
         line.truncate(8);
         write_roll(&mut line, roll);
         assert!(asked == line || asked.starts_with(&[&line[..], b" "].concat()));
+    }
+}
+
+/// checks/questions counts on this number.
+#[test]
+fn pairs_that_are_tried_one_by_one() {
+    let tried = compare_rolls::tried_one_by_one();
+    // The small rolls have 17, 19, 22 and 24 bytes.
+    let bytes = 17 + 19 + 22 + 24;
+    assert_eq!(tried.len(), 72 * 72 + 256 * bytes + bytes + 4);
+    assert_eq!(tried.len(), 26_262);
+    let asked = questions("compare", 50_000, 1);
+    for (asked, (left, right)) in lines(&asked).into_iter().zip(&tried) {
+        let mut line = b"compare ".to_vec();
+        write_roll(&mut line, left);
+        line.push(b' ');
+        write_roll(&mut line, right);
+        assert!(asked == line);
     }
 }
 

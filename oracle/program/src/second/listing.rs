@@ -2,6 +2,7 @@
 
 use super::limits::{orders_used, LONGEST_LISTED, NOW};
 use super::refusal::{refusal, Refusal};
+use super::steps::Term;
 
 /// The listing of a roll, each line with its line feed.
 pub fn listing(roll: &[u8]) -> Result<String, Refusal> {
@@ -15,11 +16,16 @@ pub fn listing(roll: &[u8]) -> Result<String, Refusal> {
     }
     text += &format!(" terms {}\n", header.count);
     for (at, term) in terms.iter().enumerate() {
-        text += &format!("{} {} {}:", at + 1, term.scale, term.boys);
-        for prefactor in &term.prefactors {
-            text += &format!(" {}", prefactor);
-        }
-        text.push('\n');
+        text += &format!("{} {}\n", at + 1, reading(term));
     }
     Ok(text)
+}
+
+/// A term without its number: scale, Boys order, colon, then prefactors each after a blank.
+pub fn reading(term: &Term) -> String {
+    let mut text = format!("{} {}:", term.scale, term.boys);
+    for prefactor in &term.prefactors {
+        text += &format!(" {}", prefactor);
+    }
+    text
 }
