@@ -165,6 +165,40 @@ typedef struct {
     uint8_t miscounted, after, refusal;
 } xew_salvaged;
 
+/* Where both readers of a comparison stand, and the number of the position, counted from 1. */
+typedef struct {
+    xew_cursor2 left, right;
+    uint32_t number;
+} xew_pair;
+
+/* How many positions of two rolls differ: their terms do, or only one roll has one. kinds, orders and terms are 1 where the
+ * kinds, the orders that each kind uses, or the term counts differ. left and right are the orders of each roll (zeros after
+ * those that its kind uses); its kind, L and term count stand in the cursor. Beside a refusal side is 1 for the left roll, 2
+ * for the right one, and place is that of 7 and 14 there. */
+typedef struct {
+    xew_pair cursor;
+    size_t place;
+    uint32_t differ;
+    uint8_t left[XEW_ORDERS], right[XEW_ORDERS];
+    uint8_t kinds, orders, terms, side, refusal;
+} xew_compared;
+
+/* A term: its scale, its Boys order and its first count prefactors, zeros after them. */
+typedef struct {
+    uint32_t scale;
+    uint8_t boys, count, prefactors[XEW_PREFACTORS];
+} xew_term;
+
+/* The next position that differs, its terms, and the cursor behind it. found: 0 refused, 1 both terms, which differ, 2 a term of
+ * the left roll alone, 3 of the right one, 4 the end. side is as that of xew_compared. All but found are 0 at the end. */
+typedef struct {
+    xew_pair next;
+    size_t place;
+    uint32_t number;
+    xew_term left, right;
+    uint8_t found, side, refusal;
+} xew_met;
+
 /* What the scales of a request's terms add up to. claimed is 1 beside a total; it is 0 for kinetic and Coulomb, whose
  * totals do not go by the summed orders, and beside a refusal. */
 typedef struct {
@@ -237,6 +271,14 @@ xew_moved xew_to_form1(const uint8_t *roll, size_t roll_len, uint8_t *out, size_
  * worked out afresh and written into out from start on, in the form of the damaged one, and compared with it. The stored
  * count does not limit that. Refusals: 7 or 14 of the header, 5, 4, 6. */
 xew_salvaged xew_salvage(const uint8_t *roll, size_t roll_len, uint8_t *out, size_t out_len, size_t start);
+
+/* Compares two rolls, each of either form, term by term; both are judged whole first, the left one first. Refusals: 7 or 14, with
+ * the side. */
+xew_compared xew_compare(const uint8_t *left, size_t left_len, const uint8_t *right, size_t right_len);
+
+/* The next position that differs, from a cursor of xew_compare on, and the cursor for the next call. A cursor that was made up
+ * is answered too: as xew_next and xew_next2 answer its two. Refusals: 7 or 14, with the side. */
+xew_met xew_compare_next(xew_pair cursor, const uint8_t *left, size_t left_len, const uint8_t *right, size_t right_len);
 
 /* What the scales of a request's terms add up to, worked out from the orders alone (docs/BY-HAND.md): for overlap, nuclear
  * and moment xew_roll_total of the roll that xew_expand writes is the same number. Refusals: 1, 2, 3. */

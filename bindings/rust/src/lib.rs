@@ -26,7 +26,7 @@ mod raw;
 #[allow(missing_docs)]
 mod refusal;
 
-pub use raw::{Centre, Cursor, Cursor2};
+pub use raw::{Centre, Cursor, Cursor2, Pair};
 pub use refusal::Refusal;
 
 /// The version of include/xewumbal.h.
@@ -185,6 +185,41 @@ pub enum Salvaged {
     Roll { length: usize, terms: u32, kept: u32, anew: u32, miscounted: bool, after: After },
     /// By 7 or 14 of the header, 5, 4 or 6.
     Refused(Refusal),
+}
+
+/// One of the two rolls of a comparison.
+#[derive(Clone, Copy, Debug, PartialEq, Eq)]
+#[allow(missing_docs)]
+pub enum Side {
+    Left,
+    Right,
+}
+
+/// The answer of [`compare`].
+#[derive(Clone, Copy, Debug, PartialEq, Eq)]
+pub enum Compared {
+    /// `differ` positions differ: their terms do, or only one roll has one. `kinds`, `orders` and `terms` say whether the kinds,
+    /// the orders that each kind uses, and the term counts differ; `left` and `right` are the orders of each roll, and `cursor`
+    /// stands before the first position.
+    #[allow(missing_docs)]
+    Rolls { differ: u32, kinds: bool, orders: bool, terms: bool, left: [u8; ORDERS], right: [u8; ORDERS], cursor: Pair },
+    /// A roll by 7 or 14, the left one first.
+    Refused(Side, Refusal),
+}
+
+/// The answer of [`Pair::next`].
+#[derive(Clone, Copy, Debug, PartialEq, Eq)]
+pub enum Met {
+    /// Both rolls have a term at this position, and they differ.
+    #[allow(missing_docs)]
+    Both { number: u32, left: Term, right: Term, next: Pair },
+    /// Only one roll has a term at this position.
+    #[allow(missing_docs)]
+    One { side: Side, number: u32, term: Term, next: Pair },
+    /// No position is left that differs.
+    End,
+    /// A roll by 7 or 14.
+    Refused(Side, Refusal),
 }
 
 /// The answer of [`scale_total`].
@@ -387,6 +422,45 @@ pub fn salvage(roll: &[u8], out: &mut [u8], start: usize) -> Salvaged {
     match Refusal::of(answer.refusal, answer.place) {
         Some(refusal) => Salvaged::Refused(refusal),
         None => Salvaged::Roll { length, terms, kept, anew, miscounted: answer.miscounted == 1, after },
+    }
+}
+
+fn side(code: u8) -> Side {
+    if code == 2 {
+        Side::Right
+    } else {
+        Side::Left
+    }
+}
+
+/// Compares two rolls, each of either form, term by term; both are judged whole first, the left one first.
+pub fn compare(left: &[u8], right: &[u8]) -> Compared {
+    let answer = raw::compare(left, right);
+    let raw::Compared { cursor, differ, left, right, .. } = answer;
+    let (kinds, orders, terms) = (answer.kinds == 1, answer.orders == 1, answer.terms == 1);
+    match Refusal::of(answer.refusal, answer.place) {
+        Some(refusal) => Compared::Refused(side(answer.side), refusal),
+        None => Compared::Rolls { differ, kinds, orders, terms, left, right, cursor },
+    }
+}
+
+fn term(answer: raw::Term) -> Term {
+    let raw::Term { scale, boys, count, prefactors } = answer;
+    Term { scale, boys, count, prefactors }
+}
+
+impl Pair {
+    /// The next position that differs, and the cursor for the next call.
+    pub fn next(self, left: &[u8], right: &[u8]) -> Met {
+        let answer = raw::compare_next(self, left, right);
+        let raw::Met { next, number, left, right, found, .. } = answer;
+        match (Refusal::of(answer.refusal, answer.place), found) {
+            (Some(refusal), _) => Met::Refused(side(answer.side), refusal),
+            (None, 1) => Met::Both { number, left: term(left), right: term(right), next },
+            (None, 2) => Met::One { side: Side::Left, number, term: term(left), next },
+            (None, 3) => Met::One { side: Side::Right, number, term: term(right), next },
+            (None, _) => Met::End,
+        }
     }
 }
 

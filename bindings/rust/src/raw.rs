@@ -131,6 +131,50 @@ pub struct Salvaged {
     pub refusal: u8,
 }
 
+/// Where both readers of a comparison stand, and the number of the position, counted from 1. `compare` gives one; one that was
+/// made up is answered too.
+#[repr(C)]
+#[derive(Clone, Copy, Debug, Default, PartialEq, Eq)]
+pub struct Pair {
+    pub left: Cursor2,
+    pub right: Cursor2,
+    pub number: u32,
+}
+
+#[repr(C)]
+pub struct Compared {
+    pub cursor: Pair,
+    pub place: usize,
+    pub differ: u32,
+    pub left: [u8; ORDERS],
+    pub right: [u8; ORDERS],
+    pub kinds: u8,
+    pub orders: u8,
+    pub terms: u8,
+    pub side: u8,
+    pub refusal: u8,
+}
+
+#[repr(C)]
+pub struct Term {
+    pub scale: u32,
+    pub boys: u8,
+    pub count: u8,
+    pub prefactors: [u8; PREFACTORS],
+}
+
+#[repr(C)]
+pub struct Met {
+    pub next: Pair,
+    pub place: usize,
+    pub number: u32,
+    pub left: Term,
+    pub right: Term,
+    pub found: u8,
+    pub side: u8,
+    pub refusal: u8,
+}
+
 #[repr(C)]
 pub struct Total {
     pub total: u64,
@@ -154,6 +198,8 @@ const _: () = assert!(size_of::<Cursor2>() == 48 && size_of::<Opened2>() == 72);
 const _: () = assert!(size_of::<Step2>() == 88 && size_of::<Moved>() == 24);
 const _: () = assert!(size_of::<Total>() == 16 && size_of::<Scales>() == 24);
 const _: () = assert!(size_of::<Restored>() == 40 && size_of::<Salvaged>() == 32);
+const _: () = assert!(size_of::<Pair>() == 104 && size_of::<Compared>() == 152);
+const _: () = assert!(size_of::<Term>() == 32 && size_of::<Met>() == 184);
 
 #[rustfmt::skip]
 extern "C" {
@@ -172,6 +218,8 @@ extern "C" {
     fn xew_to_form2(roll: *const u8, roll_len: usize, out: *mut u8, out_len: usize, start: usize) -> Moved;
     fn xew_to_form1(roll: *const u8, roll_len: usize, out: *mut u8, out_len: usize, start: usize) -> Moved;
     fn xew_salvage(roll: *const u8, roll_len: usize, out: *mut u8, out_len: usize, start: usize) -> Salvaged;
+    fn xew_compare(left: *const u8, left_len: usize, right: *const u8, right_len: usize) -> Compared;
+    fn xew_compare_next(cursor: Pair, left: *const u8, left_len: usize, right: *const u8, right_len: usize) -> Met;
     fn xew_scale_total(kind: u8, orders: *const [u8; ORDERS]) -> Total;
     fn xew_roll_total(roll: *const u8, roll_len: usize) -> Scales;
     fn xew_prefactors(kind: u8, a: Centre, b: Centre, c: Centre, d: Centre) -> Table;
@@ -242,6 +290,14 @@ pub fn to_form1(roll: &[u8], out: &mut [u8], start: usize) -> Moved {
 
 pub fn salvage(roll: &[u8], out: &mut [u8], start: usize) -> Salvaged {
     unsafe { xew_salvage(roll.as_ptr(), roll.len(), out.as_mut_ptr(), out.len(), start) }
+}
+
+pub fn compare(left: &[u8], right: &[u8]) -> Compared {
+    unsafe { xew_compare(left.as_ptr(), left.len(), right.as_ptr(), right.len()) }
+}
+
+pub fn compare_next(cursor: Pair, left: &[u8], right: &[u8]) -> Met {
+    unsafe { xew_compare_next(cursor, left.as_ptr(), left.len(), right.as_ptr(), right.len()) }
 }
 
 pub fn scale_total(kind: u8, orders: &[u8; ORDERS]) -> Total {

@@ -163,6 +163,45 @@ fn what_is_salvaged() {
     assert_eq!(room, [UNTOUCHED; 25]);
 }
 
+/// Overlap Ax1 Bx1 beside overlap Ax3: three positions differ, of which the right roll alone has the third.
+#[test]
+fn what_differs() {
+    let right = expanded(OVERLAP, FORM2_ORDERS);
+    let mut found = vec![];
+    for (a, b) in [(&ROLL[..], &right[..]), (&ROLL[..], &FORM2[..])] {
+        let mut at = match compare(a, b) {
+            Compared::Rolls { differ: 3, kinds: false, orders: true, terms: true, left, right, cursor } => {
+                assert_eq!((left, right), (ROLL_ORDERS, FORM2_ORDERS));
+                cursor
+            }
+            other => panic!("{other:?}"),
+        };
+        loop {
+            match at.next(a, b) {
+                Met::Both { number, left, right, next } => {
+                    found.push((number, left.prefactors().to_vec(), right.prefactors().to_vec()));
+                    at = next;
+                }
+                Met::One { side: Side::Right, number, term, next } => {
+                    found.push((number, vec![], term.prefactors().to_vec()));
+                    at = next;
+                }
+                Met::End => break,
+                other => panic!("{other:?}"),
+            }
+        }
+    }
+    let once = [(1, vec![0, 1], vec![0, 0, 0]), (2, vec![7], vec![0, 6]), (3, vec![], vec![6, 0])];
+    assert_eq!(found, [once.clone(), once].concat());
+    let same = compare(&right, &FORM2);
+    assert!(matches!(same, Compared::Rolls { differ: 0, kinds: false, orders: false, terms: false, .. }), "{same:?}");
+    let cut = |place| Refusal::CutRoll { place };
+    assert_eq!(compare(&ROLL[..9], &FORM2[..8]), Compared::Refused(Side::Left, cut(9)));
+    assert_eq!(compare(&ROLL, &FORM2[..8]), Compared::Refused(Side::Right, cut(8)));
+    let forged = Pair { number: 7, ..Pair::default() };
+    assert_eq!(forged.next(&[5], &[]), Met::Refused(Side::Left, Refusal::BadRoll { place: 0 }));
+}
+
 /// Document 02's faults, each at its place.
 #[test]
 fn faults_of_form_2() {

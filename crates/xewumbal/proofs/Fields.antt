@@ -28,6 +28,13 @@ use Rattle.form2.specs.declared.cursor.Step2.{Step2}
 use Rattle.form2.specs.declared.header.Opened2.{Opened2}
 use Rattle.form2.specs.declared.moves.Moved.{Moved}
 use Rattle.form2.specs.declared.moves.Moved.the-variants as moved
+use Rattle.comparing.specs.declared.differ.Outcome.the-variants as outcome
+use Rattle.comparing.specs.declared.differ.Compared.{Compared}
+use Rattle.comparing.specs.declared.pair.Line.the-variants as line
+use Rattle.comparing.specs.declared.pair.Pair.{Pair}
+use Rattle.comparing.specs.declared.pair.Met.{Met}
+use Rattle.comparing.specs.Answers.{comparedOf}
+use Rattle.comparing.specs.Pairs.{nextOf}
 use Rattle.salvaging.specs.declared.After.{After}
 use Rattle.salvaging.specs.declared.After.the-variants as after
 use Rattle.salvaging.specs.declared.Told.{Told}
@@ -69,12 +76,17 @@ use Rattle.xewumbal.specs.declared.xew_opened2.{«xew_opened2»}
 use Rattle.xewumbal.specs.declared.xew_step2.{«xew_step2»}
 use Rattle.xewumbal.specs.declared.xew_moved.{«xew_moved»}
 use Rattle.xewumbal.specs.declared.xew_salvaged.{«xew_salvaged»}
+use Rattle.xewumbal.specs.declared.xew_pair.{«xew_pair»}
+use Rattle.xewumbal.specs.declared.xew_compared.{«xew_compared»}
+use Rattle.xewumbal.specs.declared.xew_term.{«xew_term»}
+use Rattle.xewumbal.specs.declared.xew_met.{«xew_met»}
 use Rattle.xewumbal.specs.declared.xew_restored.{«xew_restored»}
 use Rattle.xewumbal.specs.declared.xew_total.{«xew_total»}
 use Rattle.xewumbal.specs.declared.xew_scales.{«xew_scales»}
 use Rattle.xewumbal.specs.Answers.{ExpandCallTold, ListCallTold, GroupedCallTold, hostRestored, groupedTermAnswer, JkCallTold, centreIn, cursorIn, hostExpanded, hostListed, hostComponent, hostCursor, hostOpened, foundStep, hostStep, hostTotal, hostScales, hostTable, hostValue}
 use Rattle.xewumbal.specs.Answers.{Expand2CallTold, ToForm2CallTold, ToForm1CallTold, cursor2In, hostCursor2, hostOpened2, foundStep2, hostStep2, hostMoved}
-use Rattle.xewumbal.specs.Answers.{afterCode, miscountedCode, hostSalvaged, SalvageCallTold}
+use Rattle.xewumbal.specs.Answers.{afterCode, flagOf, hostSalvaged, SalvageCallTold}
+use Rattle.xewumbal.specs.Answers.{hostPair, pairIn, hostTerm, comparedBy, hostCompared, compareAnswer, metBy, hostMet, compareNextAnswer}
 use Rattle.xewumbal.specs.Answers.{measureAnswer, shell2Answer, shell4Answer, openAnswer, checkAnswer, nextAnswer, open2Answer, check2Answer, next2Answer, scaleTotalAnswer, rollTotalAnswer, prefactorsAnswer, evaluateAnswer}
 
 -- ---- the cases in fields
@@ -151,7 +163,7 @@ move-written m long terms is = sym (ap hostMoved is)
 pub move-refused : (m : Moved) (n place : ℕ) → m ≡ moved.Refused n place → record { length = 0; place = place; terms = 0; refusal = n } ≡ hostMoved m
 move-refused m n place is = sym (ap hostMoved is)
 
-pub salvage-roll : (t : Told) (after : After) (other follows : ℕ) → after ≡ t .after → other ≡ miscountedCode (t .miscounted) → follows ≡ afterCode after →
+pub salvage-roll : (t : Told) (after : After) (other follows : ℕ) → after ≡ t .after → other ≡ flagOf (t .miscounted) → follows ≡ afterCode after →
     record { length = t .length; place = 0; terms = t .terms; kept = t .kept; anew = t .anew; miscounted = other; after = follows; refusal = 0 } ≡ hostSalvaged (salvaged.Roll t)
 salvage-roll t after other follows is e f = rw (e, f, is)
 
@@ -161,6 +173,52 @@ salvage-told a t x is e = e ∙ sym (ap hostSalvaged is)
 pub salvage-refused : (a : Salvaged) (n place : ℕ) → a ≡ salvaged.Refused n place →
     record { length = 0; place = place; terms = 0; kept = 0; anew = 0; miscounted = 0; after = 0; refusal = n } ≡ hostSalvaged a
 salvage-refused a n place is = sym (ap hostSalvaged is)
+
+-- ---- a comparison
+
+pub pair-made : (p : Pair) (l r : «xew_cursor2») → l ≡ hostCursor2 (p .left) → r ≡ hostCursor2 (p .right) → record { left = l; right = r; number = p .number } ≡ hostPair p
+pair-made p l r e f = rw (e, f)
+
+pub pair-taken : (p : «xew_pair») (l r : Cursor2) → l ≡ cursor2In (p .left) → r ≡ cursor2In (p .right) → record { left = l; right = r; number = p .number } ≡ pairIn p
+pair-taken p l r e f = rw (e, f)
+
+module _ (c : Compared) (side place number : ℕ) where
+  pub compared-made : (left right : List ℕ) (p : «xew_pair») (kinds orders terms : ℕ) → left ≡ c .left → right ≡ c .right → p ≡ hostPair (c .cursor) → kinds ≡ flagOf (c .kinds) → orders ≡ flagOf (c .orders) → terms ≡ flagOf (c .terms) →
+      record { cursor = p; place = place; differ = c .differ; left = left; right = right; kinds = kinds; orders = orders; terms = terms; side = side; refusal = number } ≡ comparedBy c side place number
+  compared-made left right p kinds orders terms a b e f g h = rw (a, b, e, f, g, h)
+
+pub met-made : (m : Met) (code side place number : ℕ) (p : «xew_pair») (l r : «xew_term») → p ≡ hostPair (m .next) → l ≡ hostTerm (m .left) → r ≡ hostTerm (m .right) →
+    record { next = p; place = place; number = m .number; left = l; right = r; found = code; side = side; refusal = number } ≡ metBy m code side place number
+met-made m code side place number p l r e f g = rw (e, f, g)
+
+module _ (c : Compared) (x : «xew_compared») where
+  pub compared-rolls : c .found ≡ outcome.Rolls → x ≡ comparedBy c 0 0 0 → x ≡ hostCompared c
+  compared-rolls is answer = simp is answer
+
+  pub compared-left : (n place : ℕ) → c .found ≡ outcome.RefusedLeft n place → x ≡ comparedBy c 1 place n → x ≡ hostCompared c
+  compared-left n place is answer = simp is answer
+
+  pub compared-right : (n place : ℕ) → c .found ≡ outcome.RefusedRight n place → x ≡ comparedBy c 2 place n → x ≡ hostCompared c
+  compared-right n place is answer = simp is answer
+
+module _ (m : Met) (x : «xew_met») where
+  pub met-left-refused : (n place : ℕ) → m .found ≡ line.RefusedLeft n place → x ≡ metBy m 0 1 place n → x ≡ hostMet m
+  met-left-refused n place is answer = simp is answer
+
+  pub met-right-refused : (n place : ℕ) → m .found ≡ line.RefusedRight n place → x ≡ metBy m 0 2 place n → x ≡ hostMet m
+  met-right-refused n place is answer = simp is answer
+
+  pub met-both : m .found ≡ line.Both → x ≡ metBy m 1 0 0 0 → x ≡ hostMet m
+  met-both is answer = simp is answer
+
+  pub met-left : m .found ≡ line.Left → x ≡ metBy m 2 0 0 0 → x ≡ hostMet m
+  met-left is answer = simp is answer
+
+  pub met-right : m .found ≡ line.Right → x ≡ metBy m 3 0 0 0 → x ≡ hostMet m
+  met-right is answer = simp is answer
+
+  pub met-end : m .found ≡ line.End → x ≡ metBy m 4 0 0 0 → x ≡ hostMet m
+  met-end is answer = simp is answer
 
 pub total-given : (t : Total) (n : ℕ) → t ≡ total.Is n → record { total = n; claimed = 1; refusal = 0 } ≡ hostTotal t
 total-given t n is = sym (ap hostTotal is)
@@ -246,6 +304,14 @@ to-form1-answered roll before start m after x told is = record { answer = is ∙
 
 pub salvage-answered : (roll before : List ℕ) (start : ℕ) (a : Salvaged) (now : List ℕ) (x : «xew_salvaged») → SalvageTold roll before start a now → x ≡ hostSalvaged a → SalvageCallTold roll before start x now
 salvage-answered roll before start a now x told is = record { answer = is ∙ ap hostSalvaged (told .answer); out = told .out }
+
+pub compare-answered : (left right : List ℕ) (c : Compared) (x : «xew_compared») → c ≡ comparedOf left right → x ≡ hostCompared c → x ≡ compareAnswer left right
+unfolding compareAnswer
+compare-answered left right c x told is = is ∙ ap hostCompared told
+
+pub compare-next-answered : (p : «xew_pair») (left right : List ℕ) (below : Pair) (m : Met) (x : «xew_met») → below ≡ pairIn p → m ≡ nextOf below left right → x ≡ hostMet m → x ≡ compareNextAnswer p left right
+unfolding compareNextAnswer
+compare-next-answered p left right below m x at told is = is ∙ ap hostMet (told ∙ ap (λ (b : Pair). nextOf b left right) at)
 
 module _ (a b c d : «xew_centre») (p q r s : Centre) where
   pub prefactors-answered : (kind : ℕ) (t : Table) (x : «xew_table») → p ≡ centreIn a → q ≡ centreIn b → r ≡ centreIn c → s ≡ centreIn d → t ≡ prefactorTableOf kind p q r s → x ≡ hostTable t → x ≡ prefactorsAnswer kind a b c d

@@ -20,8 +20,9 @@ use Rattle.xewumbal.specs.declared.xew_cursor.{«xew_cursor»}
 use Rattle.xewumbal.specs.declared.xew_cursor2.{«xew_cursor2»}
 use Rattle.xewumbal.specs.declared.xew_moved.{«xew_moved»}
 use Rattle.xewumbal.specs.declared.xew_salvaged.{«xew_salvaged»}
+use Rattle.xewumbal.specs.declared.xew_pair.{«xew_pair»}
 use Rattle.xewumbal.specs.declared.xew_value.{«xew_value»}
-use Rattle.xewumbal.specs.Answers.{hostExpanded, hostListed, hostMoved, hostSalvaged, measureAnswer, shell2Answer, shell4Answer, openAnswer, checkAnswer, nextAnswer, open2Answer, check2Answer, next2Answer}
+use Rattle.xewumbal.specs.Answers.{hostExpanded, hostListed, hostMoved, hostSalvaged, compareAnswer, compareNextAnswer, measureAnswer, shell2Answer, shell4Answer, openAnswer, checkAnswer, nextAnswer, open2Answer, check2Answer, next2Answer}
 use Rattle.xewumbal.specs.Answers.{scaleTotalAnswer, rollTotalAnswer, prefactorsAnswer, evaluateAnswer, groupedTermAnswer, hostValue, centreIn}
 use Rattle.xewumbal.proofs.xew_expand.Reads.{Post as Expand}
 use Rattle.xewumbal.proofs.xew_measure.Reads.{Post as Measure}
@@ -38,6 +39,8 @@ use Rattle.xewumbal.proofs.xew_next2.Reads.{Post as Next2}
 use Rattle.xewumbal.proofs.xew_to_form2.Reads.{Post as ToForm2}
 use Rattle.xewumbal.proofs.xew_to_form1.Reads.{Post as ToForm1}
 use Rattle.xewumbal.proofs.xew_salvage.Reads.{Post as Salvage}
+use Rattle.xewumbal.proofs.xew_compare.Reads.{Post as Compare}
+use Rattle.xewumbal.proofs.xew_compare_next.Reads.{Post as CompareNext}
 use Rattle.xewumbal.proofs.xew_scale_total.Reads.{Post as ScaleTotal}
 use Rattle.xewumbal.proofs.xew_roll_total.Reads.{Post as RollTotal}
 use Rattle.xewumbal.proofs.xew_prefactors.Reads.{Post as Prefactors}
@@ -104,6 +107,13 @@ pub salvage-only : (κs : Lfts 2) (roll out : Lent ℕ) (start : ℕ) →
     Alone {A = «xew_salvaged» × List ℕ} (λ x. Salvage κs (roll ▸ out ▸ start ▸ end) (x .0) (roll ▸ out then (x .1) ▸ start ▸ end))
     (hostSalvaged (salvagedOf (roll .now) (out .now) start), salvageOut (roll .now) (out .now) start)
 salvage-only κs roll out start = alone (λ x p i. (p .answer i, p .out i))
+
+module _ (κs : Lfts 2) (left right : Lent ℕ) where
+  pub compare-only : let g = left ▸ right ▸ end in Alone (λ r. Compare κs g r g) (compareAnswer (left .now) (right .now))
+  compare-only = alone (λ r p. p)
+
+  pub compare-next-only : (cursor : «xew_pair») → let g = cursor ▸ left ▸ right ▸ end in Alone (λ r. CompareNext κs g r g) (compareNextAnswer cursor (left .now) (right .now))
+  compare-next-only cursor = alone (λ r p. p)
 
 pub scale-total-only : (κs : Lfts 1) (kind : ℕ) (orders : Lent ℕ) → let g = kind ▸ orders ▸ end in Alone (λ r. ScaleTotal κs g r g) (scaleTotalAnswer kind (orders .now))
 scale-total-only κs kind orders = alone (λ r p. p)

@@ -27,6 +27,16 @@ use Rattle.form2.specs.declared.moves.Moved.{Moved}
 use Rattle.form2.specs.Reading.{rollAt2}
 use Rattle.form2.specs.Header.{open2Of, check2Of}
 use Rattle.form2.specs.Cursor.{step2Of}
+use Rattle.term.specs.declared.Term.{Term as Held}
+use Rattle.comparing.specs.declared.differ.Outcome.{Outcome}
+use Rattle.comparing.specs.declared.differ.Outcome.the-variants as outcome
+use Rattle.comparing.specs.declared.differ.Compared.{Compared}
+use Rattle.comparing.specs.declared.pair.Line.{Line}
+use Rattle.comparing.specs.declared.pair.Line.the-variants as line
+use Rattle.comparing.specs.declared.pair.Pair.{Pair}
+use Rattle.comparing.specs.declared.pair.Met.{Met}
+use Rattle.comparing.specs.Answers.{comparedOf}
+use Rattle.comparing.specs.Pairs.{nextOf}
 use Rattle.salvaging.specs.declared.After.{After}
 use Rattle.salvaging.specs.declared.After.the-variants as after
 use Rattle.salvaging.specs.declared.Salvaged.{Salvaged}
@@ -60,6 +70,10 @@ use Rattle.xewumbal.specs.declared.xew_opened2.{«xew_opened2»}
 use Rattle.xewumbal.specs.declared.xew_step2.{«xew_step2»}
 use Rattle.xewumbal.specs.declared.xew_moved.{«xew_moved»}
 use Rattle.xewumbal.specs.declared.xew_salvaged.{«xew_salvaged»}
+use Rattle.xewumbal.specs.declared.xew_pair.{«xew_pair»}
+use Rattle.xewumbal.specs.declared.xew_compared.{«xew_compared»}
+use Rattle.xewumbal.specs.declared.xew_term.{«xew_term»}
+use Rattle.xewumbal.specs.declared.xew_met.{«xew_met»}
 use Rattle.xewumbal.specs.declared.xew_total.{«xew_total»}
 use Rattle.xewumbal.specs.declared.xew_scales.{«xew_scales»}
 
@@ -187,6 +201,12 @@ ToForm2CallTold roll before start r after = MoveCallTold inForm2 (rollAt roll) b
 abbrev pub ToForm1CallTold : List ℕ → List ℕ → ℕ → «xew_moved» → List ℕ → Type 0
 ToForm1CallTold roll before start r after = MoveCallTold inForm1 (rollAt2 roll) before start r after
 
+-- ---- a flag
+
+abbrev pub flagOf : Bool → ℕ
+flagOf true = 1
+flagOf false = 0
+
 -- ---- xew_salvage: what is told of the damaged roll, and a refusal with its place
 
 -- 0 unknown, 1 nothing, 2 bytes (D-100)
@@ -195,19 +215,72 @@ afterCode after.Unknown = 0
 afterCode after.None = 1
 afterCode after.Bytes = 2
 
--- 1 where the stored count is not the fresh one
-abbrev pub miscountedCode : Bool → ℕ
-miscountedCode true = 1
-miscountedCode false = 0
-
 abbrev pub hostSalvaged : Salvaged → «xew_salvaged»
 hostSalvaged (salvaged.Roll t) =
-    record { length = t .length; place = 0; terms = t .terms; kept = t .kept; anew = t .anew; miscounted = miscountedCode (t .miscounted); after = afterCode (t .after); refusal = 0 }
+    record { length = t .length; place = 0; terms = t .terms; kept = t .kept; anew = t .anew; miscounted = flagOf (t .miscounted); after = afterCode (t .after); refusal = 0 }
 hostSalvaged (salvaged.Refused n place) = record { length = 0; place = place; terms = 0; kept = 0; anew = 0; miscounted = 0; after = 0; refusal = n }
 
 pub record SalvageCallTold (roll before : List ℕ) (start : ℕ) (r : «xew_salvaged») (now : List ℕ) : Type 0 where
   pub answer : r ≡ hostSalvaged (salvagedOf roll before start)
   pub out : now ≡ salvageOut roll before start
+
+-- ---- xew_compare: how many positions differ, and what else does; or the side, number and place of a refusal
+
+abbrev pub hostPair : Pair → «xew_pair»
+hostPair p = record { left = hostCursor2 (p .left); right = hostCursor2 (p .right); number = p .number }
+
+abbrev pub pairIn : «xew_pair» → Pair
+pairIn p = record { left = cursor2In (p .left); right = cursor2In (p .right); number = p .number }
+
+abbrev pub comparedBy : Compared → ℕ → ℕ → ℕ → «xew_compared»
+comparedBy c side place number =
+    record {
+      cursor = hostPair (c .cursor);
+      place = place;
+      differ = c .differ;
+      left = c .left;
+      right = c .right;
+      kinds = flagOf (c .kinds);
+      orders = flagOf (c .orders);
+      terms = flagOf (c .terms);
+      side = side;
+      refusal = number;
+    }
+
+-- the side is 1 for the left roll, 2 for the right one (D-103)
+abbrev pub comparedWith : Outcome → Compared → «xew_compared»
+comparedWith outcome.Rolls c = comparedBy c 0 0 0
+comparedWith (outcome.RefusedLeft n place) c = comparedBy c 1 place n
+comparedWith (outcome.RefusedRight n place) c = comparedBy c 2 place n
+
+abbrev pub hostCompared : Compared → «xew_compared»
+hostCompared c = comparedWith (c .found) c
+
+unfoldable pub compareAnswer : List ℕ → List ℕ → «xew_compared»
+compareAnswer left right = hostCompared (comparedOf left right)
+
+-- ---- xew_compare_next: the next position that differs
+
+abbrev pub hostTerm : Held → «xew_term»
+hostTerm t = record { scale = t .scale; boys = t .boys; count = t .count; prefactors = t .prefactors }
+
+abbrev pub metBy : Met → ℕ → ℕ → ℕ → ℕ → «xew_met»
+metBy m code side place number = record { next = hostPair (m .next); place = place; number = m .number; left = hostTerm (m .left); right = hostTerm (m .right); found = code; side = side; refusal = number }
+
+-- 0 refused, 1 both terms differ, 2 a term of the left roll alone, 3 of the right one, 4 the end
+abbrev pub metWith : Line → Met → «xew_met»
+metWith (line.RefusedLeft n place) m = metBy m 0 1 place n
+metWith (line.RefusedRight n place) m = metBy m 0 2 place n
+metWith line.Both m = metBy m 1 0 0 0
+metWith line.Left m = metBy m 2 0 0 0
+metWith line.Right m = metBy m 3 0 0 0
+metWith line.End m = metBy m 4 0 0 0
+
+abbrev pub hostMet : Met → «xew_met»
+hostMet m = metWith (m .found) m
+
+unfoldable pub compareNextAnswer : «xew_pair» → List ℕ → List ℕ → «xew_met»
+compareNextAnswer p left right = hostMet (nextOf (pairIn p) left right)
 
 -- ---- xew_scale_total: the number, whether one is claimed, and the refusal
 

@@ -2,23 +2,33 @@
 ghost use mathlib.Core.Path.{_≡_};
 ghost use Rattle.jk.specs.Outcome.{refusalOf};
 ghost use Rattle.xewumbal.specs.Answers.{centreIn, cursorIn, cursor2In, hostExpanded, hostListed, hostComponent, hostCursor, hostOpened, foundStep, hostStep};
-ghost use Rattle.xewumbal.specs.Answers.{hostCursor2, hostOpened2, foundStep2, hostStep2, hostMoved, afterCode, miscountedCode, hostSalvaged, hostTotal, hostScales, hostTable, hostValue, hostRestored};
+ghost use Rattle.xewumbal.specs.Answers.{hostCursor2, hostOpened2, foundStep2, hostStep2, hostMoved, afterCode, hostSalvaged, hostTotal, hostScales, hostTable, hostValue, hostRestored};
+ghost use Rattle.xewumbal.specs.Answers.{pairIn, hostPair, hostTerm, flagOf, comparedBy, hostCompared, metBy, hostMet};
 use crate::xew_centre;
+use crate::xew_compared;
 use crate::xew_component;
 use crate::xew_cursor;
 use crate::xew_cursor2;
+use crate::xew_met;
 use crate::xew_moved;
 use crate::xew_opened;
 use crate::xew_opened2;
+use crate::xew_pair;
 use crate::xew_restored;
 use crate::xew_salvaged;
 use crate::xew_scales;
 use crate::xew_step;
 use crate::xew_step2;
 use crate::xew_table;
+use crate::xew_term;
 use crate::xew_total;
 use crate::xew_value;
 use crate::xew_written;
+use comparing::Compared;
+use comparing::Line;
+use comparing::Met;
+use comparing::Outcome;
+use comparing::Pair;
 use expansion::Expanded;
 use form2::Cursor2;
 use form2::Moved;
@@ -38,6 +48,7 @@ use salvaging::Salvaged;
 use salvaging::Told;
 use shell::Component;
 use shell::Listed;
+use term::Term;
 use totals::RollTotal;
 use totals::Total;
 
@@ -301,15 +312,6 @@ fn after_code(after: After) -> u8
     }
 }
 
-fn miscounted_code(other: bool) -> u8
-    ensures { λ r. ⌜ r ≡ miscountedCode other ⌝ }
-{
-    if other {
-        return 1;
-    }
-    0
-}
-
 fn salvaged_roll(told: Told) -> xew_salvaged
     ensures { λ r. ⌜ r ≡ hostSalvaged (Salvaged.Roll told) ⌝ }
 {
@@ -320,7 +322,7 @@ fn salvaged_roll(told: Told) -> xew_salvaged
         terms: told.terms,
         kept: told.kept,
         anew: told.anew,
-        miscounted: miscounted_code(told.miscounted),
+        miscounted: flag(told.miscounted),
         after: after_code(after),
         refusal: 0,
     }
@@ -341,6 +343,106 @@ pub(crate) fn salvaged(answer: Salvaged) -> xew_salvaged
             after: 0,
             refusal,
         },
+    }
+}
+
+pub(crate) fn pair_in(p: xew_pair) -> Pair
+    ensures { λ r. ⌜ r ≡ pairIn p ⌝ }
+{
+    Pair {
+        left: cursor2_in(p.left),
+        right: cursor2_in(p.right),
+        number: p.number,
+    }
+}
+
+fn pair(p: Pair) -> xew_pair
+    ensures { λ r. ⌜ r ≡ hostPair p ⌝ }
+{
+    xew_pair {
+        left: cursor2(p.left),
+        right: cursor2(p.right),
+        number: p.number,
+    }
+}
+
+fn term(t: Term) -> xew_term
+    ensures { λ r. ⌜ r ≡ hostTerm t ⌝ }
+{
+    let prefactors = t.prefactors;
+    xew_term {
+        scale: t.scale,
+        boys: t.boys,
+        count: t.count,
+        prefactors,
+    }
+}
+
+fn flag(b: bool) -> u8
+    ensures { λ r. ⌜ r ≡ flagOf b ⌝ }
+{
+    if b {
+        return 1;
+    }
+    0
+}
+
+fn compared_by(c: Compared, side: u8, place: usize, refusal: u8) -> xew_compared
+    ensures { λ r. ⌜ r ≡ comparedBy c side place refusal ⌝ }
+{
+    let left = c.left;
+    let right = c.right;
+    xew_compared {
+        cursor: pair(c.cursor),
+        place,
+        differ: c.differ,
+        left,
+        right,
+        kinds: flag(c.kinds),
+        orders: flag(c.orders),
+        terms: flag(c.terms),
+        side,
+        refusal,
+    }
+}
+
+pub(crate) fn compared(c: Compared) -> xew_compared
+    ensures { λ r. ⌜ r ≡ hostCompared c ⌝ }
+{
+    let found = c.found;
+    match found {
+        Outcome::Rolls => compared_by(c, 0, 0, 0),
+        Outcome::RefusedLeft(refusal, place) => compared_by(c, 1, place, refusal),
+        Outcome::RefusedRight(refusal, place) => compared_by(c, 2, place, refusal),
+    }
+}
+
+fn met_by(m: Met, found: u8, side: u8, place: usize, refusal: u8) -> xew_met
+    ensures { λ r. ⌜ r ≡ metBy m found side place refusal ⌝ }
+{
+    xew_met {
+        next: pair(m.next),
+        place,
+        number: m.number,
+        left: term(m.left),
+        right: term(m.right),
+        found,
+        side,
+        refusal,
+    }
+}
+
+pub(crate) fn met(m: Met) -> xew_met
+    ensures { λ r. ⌜ r ≡ hostMet m ⌝ }
+{
+    let found = m.found;
+    match found {
+        Line::RefusedLeft(refusal, place) => met_by(m, 0, 1, place, refusal),
+        Line::RefusedRight(refusal, place) => met_by(m, 0, 2, place, refusal),
+        Line::Both => met_by(m, 1, 0, 0, 0),
+        Line::Left => met_by(m, 2, 0, 0, 0),
+        Line::Right => met_by(m, 3, 0, 0, 0),
+        Line::End => met_by(m, 4, 0, 0, 0),
     }
 }
 

@@ -4,7 +4,7 @@ mod answers;
 
 ghost use mathlib.Core.Path.{_≡_};
 ghost use Rattle.xewumbal.specs.Answers.{ExpandCallTold, Expand2CallTold, ListCallTold, ToForm2CallTold, ToForm1CallTold, SalvageCallTold, GroupedCallTold, JkCallTold};
-ghost use Rattle.xewumbal.specs.Answers.{measureAnswer, shell2Answer, shell4Answer, openAnswer, checkAnswer, nextAnswer, open2Answer, check2Answer, next2Answer};
+ghost use Rattle.xewumbal.specs.Answers.{measureAnswer, shell2Answer, shell4Answer, openAnswer, checkAnswer, nextAnswer, open2Answer, check2Answer, next2Answer, compareAnswer, compareNextAnswer};
 ghost use Rattle.xewumbal.specs.Answers.{scaleTotalAnswer, rollTotalAnswer, prefactorsAnswer, evaluateAnswer, groupedTermAnswer};
 use kind::Kind;
 
@@ -132,6 +132,50 @@ pub struct xew_salvaged {
     pub anew: u32,
     pub miscounted: u8,
     pub after: u8,
+    pub refusal: u8,
+}
+
+// Where both readers of a comparison stand, and the number of the position.
+#[repr(C)]
+pub struct xew_pair {
+    pub left: xew_cursor2,
+    pub right: xew_cursor2,
+    pub number: u32,
+}
+
+// `kinds`, `orders` and `terms` are 1 where these differ; `side` is 1 beside a refusal of the left roll, 2 of the right one (D-103).
+#[repr(C)]
+pub struct xew_compared {
+    pub cursor: xew_pair,
+    pub place: usize,
+    pub differ: u32,
+    pub left: [u8; Kind::ORDERS],
+    pub right: [u8; Kind::ORDERS],
+    pub kinds: u8,
+    pub orders: u8,
+    pub terms: u8,
+    pub side: u8,
+    pub refusal: u8,
+}
+
+#[repr(C)]
+pub struct xew_term {
+    pub scale: u32,
+    pub boys: u8,
+    pub count: u8,
+    pub prefactors: [u8; Kind::PREFACTORS],
+}
+
+// `found` is 0 for a refusal, 1 where both terms differ, 2 for a term of the left roll alone, 3 of the right one, 4 for the end.
+#[repr(C)]
+pub struct xew_met {
+    pub next: xew_pair,
+    pub place: usize,
+    pub number: u32,
+    pub left: xew_term,
+    pub right: xew_term,
+    pub found: u8,
+    pub side: u8,
     pub refusal: u8,
 }
 
@@ -263,6 +307,20 @@ pub extern "C" fn xew_salvage(roll: &[u8], out: &mut [u8], start: usize) -> xew_
     ensures { λ r. ⌜ SalvageCallTold (now (roll .entry)) (now (out .entry)) start r (now (out .exit)) ⌝ }
 {
     answers::salvaged(salvaging::salvage(roll, out, start))
+}
+
+#[no_mangle]
+pub extern "C" fn xew_compare(left: &[u8], right: &[u8]) -> xew_compared
+    ensures { λ r. ⌜ r ≡ compareAnswer (now (left .entry)) (now (right .entry)) ⌝ }
+{
+    answers::compared(comparing::compare(left, right))
+}
+
+#[no_mangle]
+pub extern "C" fn xew_compare_next(cursor: xew_pair, left: &[u8], right: &[u8]) -> xew_met
+    ensures { λ r. ⌜ r ≡ compareNextAnswer cursor (now (left .entry)) (now (right .entry)) ⌝ }
+{
+    answers::met(answers::pair_in(cursor).next(left, right))
 }
 
 #[no_mangle]
