@@ -52,7 +52,13 @@ pub(crate) const SALVAGED: usize = 19;
 
 pub(crate) const SALVAGED_OTHER: usize = 22;
 
-pub(crate) const WAIT: usize = 25;
+pub(crate) const COMPARED: usize = 25;
+
+pub(crate) const REFUSED_LEFT: usize = 26;
+
+pub(crate) const REFUSED_RIGHT: usize = 27;
+
+pub(crate) const WAIT: usize = 28;
 
 // The refusal of an output that has no room.
 const NO_ROOM: u64 = 6;

@@ -5,6 +5,7 @@
 ghost use Prim.Native.Nat.{_<_};
 
 mod answers;
+mod compares;
 mod expands;
 mod floats;
 mod forms;

@@ -1,6 +1,7 @@
 // The questions: the number of each one's shape, what it has lent, and the call that answers it.
 ghost use Prim.Native.Nat.{_≤_};
 use crate::answers;
+use crate::compares;
 use crate::expands;
 use crate::forms;
 use crate::lent;
@@ -54,6 +55,7 @@ enum Question {
     Grouped,
     Salvage,
     SalvageIn,
+    Compare,
     Unknown,
 }
 
@@ -98,6 +100,7 @@ fn of(shape: usize) -> Question {
         28 => Question::Grouped,
         29 => Question::Salvage,
         30 => Question::SalvageIn,
+        31 => Question::Compare,
         _ => Question::Unknown,
     }
 }
@@ -112,6 +115,7 @@ fn lends(q: Question, n: [u64; NUMBERS]) -> Lent {
         Question::Form2 | Question::Form1 | Question::Salvage => usual(lent::LARGE as u64),
         Question::Form2In | Question::Form1In | Question::SalvageIn => said(n[0], n[1]),
         Question::List => usual(LISTING_LENT),
+        Question::Compare => usual(lent::LARGEST as u64),
         Question::Grouped => said(n[0], 0),
         _ => usual(0),
     }
@@ -265,6 +269,7 @@ fn in_bytes(
             salvaging::salvage(roll, lent, start),
             start,
         ),
+        Question::Compare => compares::told(roll, n[0], lent),
         Question::List => lists::told(listing::listing(roll, lent, 0)),
         Question::Grouped => values::grouped(roll, floats, lent),
         _ => told,

@@ -11,7 +11,7 @@ use forms::Told;
 use lines::State;
 use words::Asked;
 
-// Shapes: B, W and P are numbers below 2^8, 2^32 and 2^64, L a buffer's length, G a grouping buffer's, R a roll, * floats, + one number below 2^8 or
+// Shapes: B, W and P are numbers below 2^8, 2^32 and 2^64, L a buffer's length, G a grouping buffer's, R a roll, S a second one, * floats, + one number below 2^8 or
 // none, ^ any bytes; the first is the empty line. `questions::of` has their numbers.
 pub(crate) fn turn(
     input: &[u8],
@@ -55,6 +55,7 @@ form1 R L P
 grouped G R*
 salvage R
 salvage R L P
+compare R S
 ",
         line,
         given,
@@ -191,6 +192,9 @@ salvaged # terms # kept # anew # count same after unknown %
 salvaged # terms # kept # anew # count other after none %
 salvaged # terms # kept # anew # count other after bytes %
 salvaged # terms # kept # anew # count other after unknown %
+compared |
+refused # at # left
+refused # at # right
 !",
         t,
         line,

@@ -1,6 +1,8 @@
 // The words of a line. Each reader takes what is read so far, and answers it with one word more.
 use crate::floats;
+use crate::questions;
 use kind::Kind;
+use questions::sum;
 use text::Parsed;
 
 // The numbers of a cursor.
@@ -201,5 +203,21 @@ pub(crate) fn roll(line: &[u8], a: Asked, room: &mut [u8]) -> Asked {
     let mut b = a;
     b.at = run.end;
     b.bytes = run.count;
+    b
+}
+
+// A second roll, whose bytes stand behind the first one's; how many they are is a number of the question.
+pub(crate) fn second(line: &[u8], a: Asked, room: &mut [u8]) -> Asked {
+    let first = a.bytes;
+    if room.len() < first {
+        return misfit(a);
+    }
+    let run = read_pairs(line, a.at, &mut room[first..]);
+    if run.count == 0 {
+        let dash = letter(line, a, b'-');
+        return with(dash, 0, dash.at);
+    }
+    let mut b = with(a, run.count as u64, run.end);
+    b.bytes = sum(first, run.count);
     b
 }
