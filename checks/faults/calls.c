@@ -10,7 +10,7 @@
 
 static uint8_t bytes[MOST_BYTES];
 struct arena roll_arena, orders_arena, out_arena, boys_arena, i_arena, d_arena, j_arena, k_arena;
-struct arena buffer_arena, grouping_arena;
+struct arena buffer_arena, grouping_arena, right_arena;
 
 static void try_shell_list(void)
 {
@@ -249,6 +249,7 @@ int main(int words, char **word)
     make_arena(&boys_arena, 48 * 8, false);
     make_arena(&buffer_arena, MOST_BUFFER, true);
     make_arena(&grouping_arena, MOST_BUFFER, false);
+    make_arena(&right_arena, MOST_BYTES, false);
     make_arena(&i_arena, 65537 * 8, false);
     make_arena(&d_arena, 257 * 8, false);
     make_arena(&j_arena, 257 * 8, true);
@@ -270,8 +271,10 @@ int main(int words, char **word)
         else if (call.scene % 6 == 4)
             play_grouping();
         else if (call.scene % 6 == 2)
-            for (int i = 0; i < 4; i++)
+            for (int i = 0; i < 4; i++) {
                 play_salvage(bytes);
+                play_compare(bytes);
+            }
         else
             play();
     } while (words == 4 && call.number < calls);

@@ -181,3 +181,23 @@ size_t in_form1(const uint8_t *roll, size_t length, uint8_t *out)
     }
     return at;
 }
+
+bool begins_as_form2(const uint8_t *roll, size_t length)
+{
+    return length && roll[0] >= FORM_TWO && roll[0] < FORM_TWO + XEW_KINDS;
+}
+
+xew_opened2 as_opened2(xew_opened opened)
+{
+    xew_opened2 answer = { .cursor = { .cursor = opened.cursor }, .place = opened.place, .refusal = opened.refusal };
+    memcpy(answer.orders, opened.orders, sizeof answer.orders);
+    return answer;
+}
+
+xew_step2 as_step2(xew_step step)
+{
+    xew_step2 answer = { .next = { .cursor = step.next }, .place = step.place, .scale = step.scale, .boys = step.boys,
+                         .count = step.count, .found = step.found, .refusal = step.refusal };
+    memcpy(answer.prefactors, step.prefactors, sizeof answer.prefactors);
+    return answer;
+}

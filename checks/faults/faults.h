@@ -120,6 +120,9 @@ size_t put(uint8_t *out, uint64_t number); /* writes a number; answers its bytes
  * shared length is so much more than the longest, with the further prefactors that then follow; UINT32_MAX for none. */
 size_t in_form2(const uint8_t *roll, size_t length, uint8_t *out, uint32_t odd, int more);
 size_t in_form1(const uint8_t *roll, size_t length, uint8_t *out); /* the way back */
+bool begins_as_form2(const uint8_t *roll, size_t length);
+xew_opened2 as_opened2(xew_opened opened); /* what form 1 answers, as form 2 does */
+xew_step2 as_step2(xew_step step);
 
 /* expected_grouping.c: the same of a grouping, and which of its own faults was met last. */
 enum disorder { IN_ORDER, L_BEYOND, ANOTHER_NUMBER, BOYS_FALLS, NUMBER_FALLS, ASKED_TWICE, MISSING, DISORDERS };

@@ -5,7 +5,7 @@
 
 static uint8_t written[MOST_BYTES], expected_bytes[MOST_BYTES];
 
-static bool same_cursor2(xew_cursor2 a, xew_cursor2 b)
+bool same_cursor2(xew_cursor2 a, xew_cursor2 b)
 {
     return same_cursor(a.cursor, b.cursor) && a.count == b.count && memcmp(a.earlier, b.earlier, sizeof a.earlier) == 0;
 }

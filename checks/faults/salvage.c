@@ -5,32 +5,16 @@
 enum { FORM_TWO = 16 };
 static uint8_t form1[MOST_BYTES], fresh[MOST_BYTES];
 
-static bool is_form2(const uint8_t *roll, size_t length)
-{
-    return length && roll[0] >= FORM_TWO && roll[0] < FORM_TWO + XEW_KINDS;
-}
-
 static xew_opened2 header(bool two, const uint8_t *roll, size_t length)
 {
-    if (two)
-        return expected_open2(roll, length);
-    xew_opened opened = expected_open(roll, length);
-    xew_opened2 answer = { .cursor = { .cursor = opened.cursor }, .place = opened.place, .refusal = opened.refusal };
-    memcpy(answer.orders, opened.orders, sizeof answer.orders);
-    return answer;
+    return two ? expected_open2(roll, length) : as_opened2(expected_open(roll, length));
 }
 
 /* The next term, whatever the count says. */
 static xew_step2 term(bool two, xew_cursor2 cursor, const uint8_t *roll, size_t length)
 {
     cursor.cursor.left = 1;
-    if (two)
-        return expected_next2(cursor, roll, length);
-    xew_step step = expected_next(cursor.cursor, roll, length);
-    xew_step2 answer = { .next = { .cursor = step.next }, .scale = step.scale, .boys = step.boys, .count = step.count,
-                         .found = step.found };
-    memcpy(answer.prefactors, step.prefactors, sizeof answer.prefactors);
-    return answer;
+    return two ? expected_next2(cursor, roll, length) : as_step2(expected_next(cursor.cursor, roll, length));
 }
 
 static bool same_term(xew_step2 a, xew_step2 b)
@@ -77,7 +61,7 @@ static bool same_salvaged(xew_salvaged a, xew_salvaged b)
 
 void try_salvage(struct slice roll)
 {
-    bool two = is_form2(roll.mine, roll.length);
+    bool two = begins_as_form2(roll.mine, roll.length);
     xew_opened2 opened = header(two, roll.mine, roll.length);
     xew_written written = opened.refusal ? (xew_written){ .refusal = 0 } : worked_out(two, opened);
     size_t start, length = any_output(written.length, &start);

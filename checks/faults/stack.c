@@ -228,6 +228,22 @@ CALLER void salvage(void)
     }
 }
 
+CALLER void compare(void)
+{
+    FROM_HERE;
+    for (int k = 0; k < XEW_KINDS; k++)
+        note(xew_compare(rolls[k], lengths[k], rolls2[k], lengths2[k]).refusal);
+}
+
+CALLER void compare_next(void)
+{
+    FROM_HERE;
+    for (int k = 0; k < XEW_KINDS; k++) {
+        xew_pair at = { xew_check2(rolls2[k], lengths2[k]).cursor, xew_check2(rolls2[k], lengths2[k]).cursor, 1 };
+        note(xew_compare_next(at, rolls2[k], lengths2[k], rolls2[k], lengths2[k]).refusal);
+    }
+}
+
 CALLER void scale_total(void)
 {
     FROM_HERE;
@@ -346,6 +362,8 @@ int main(int words, char **word)
     row("xew_to_form2, the most terms of each kind", move_to_form2);
     row("xew_to_form1, the most terms of each kind", move_to_form1);
     row("xew_salvage, the most terms of each kind, both forms", salvage);
+    row("xew_compare, the most terms of each kind", compare);
+    row("xew_compare_next, the same in form 2", compare_next);
     row("xew_scale_total, each kind", scale_total);
     row("xew_roll_total, the most terms of each kind", roll_total);
     row("xew_prefactors, each kind", prefactors);

@@ -24,6 +24,8 @@ static const struct {
     [TO_FORM2] = { "xew_to_form2", { 7, 14, 5, 6 } },
     [TO_FORM1] = { "xew_to_form1", { 7, 14, 5, 6 } },
     [SALVAGE] = { "xew_salvage", { 7, 14, 5, 4, 6 } },
+    [COMPARE] = { "xew_compare", { 7, 14 } },
+    [COMPARE_NEXT] = { "xew_compare_next", { 7, 14 } },
     [SCALE_TOTAL] = { "xew_scale_total", { 1, 2, 3 } },
     [ROLL_TOTAL] = { "xew_roll_total", { 7, 14 } },
     [PREFACTORS] = { "xew_prefactors", { 1, 8, 9, 11 } },
@@ -52,6 +54,10 @@ static const struct {
     [TO_FORM1_OUT] = { TO_FORM1, "out" },
     [SALVAGE_ROLL] = { SALVAGE, "roll" },
     [SALVAGE_OUT] = { SALVAGE, "out" },
+    [COMPARE_LEFT] = { COMPARE, "left" },
+    [COMPARE_RIGHT] = { COMPARE, "right" },
+    [COMPARE_NEXT_LEFT] = { COMPARE_NEXT, "left" },
+    [COMPARE_NEXT_RIGHT] = { COMPARE_NEXT, "right" },
     [TOTAL_ROLL] = { ROLL_TOTAL, "roll" },
     [EVALUATE_ROLL] = { EVALUATE, "roll" },
     [EVALUATE_BOYS] = { EVALUATE, "boys" },
@@ -83,9 +89,11 @@ static const char *const disorder_names[DISORDERS] = { "", "L beyond", "another 
 enum { NONE_KEPT, SOME_KEPT, ALL_KEPT, BYTES_AFTER, OTHER_COUNT, TOLD };
 static const char *const told_names[TOLD] = { "none kept", "some kept", "all kept", "bytes after", "another count" };
 
+static const char *const met_names[5] = { "refused", "both", "left", "right", "end" };
+
 uint64_t further_calls;
 static uint64_t answers[FUNCTIONS][REFUSALS], found[FUNCTIONS][3], faults[FAULTS], rolls[LARGE], empties[EMPTIES];
-static uint64_t disorders[DISORDERS], tolds[TOLD], left[REFUSALS], just_over, most_histories;
+static uint64_t disorders[DISORDERS], tolds[TOLD], mets[5], left[REFUSALS], just_over, most_histories;
 
 void begin(enum function f, const char *labels, size_t words_count, const uint64_t *words)
 {
@@ -144,6 +152,11 @@ void count_salvaged(xew_salvaged told)
 {
     tolds[told.after ? ALL_KEPT + (told.after == 2) : told.kept > 0]++;
     tolds[OTHER_COUNT] += told.miscounted;
+}
+
+void count_met(uint8_t found)
+{
+    mets[found]++;
 }
 
 void count_left(uint8_t refusal)
@@ -213,6 +226,8 @@ bool report(void)
             show(name, disorder_names[i], disorders[i]);
         for (int i = 0; f == SALVAGE && i < TOLD; i++)
             show(name, told_names[i], tolds[i]);
+        for (int i = 0; f == COMPARE_NEXT && i < 5; i++)
+            show(name, met_names[i], mets[i]);
         if (f == EVALUATE_GROUPED)
             show(name, "grouped", left[0]);
         for (const uint8_t *refusal = functions[f].refusals; *refusal; refusal++) {

@@ -6,18 +6,19 @@
 
 enum function {
     EXPAND, MEASURE, EXPAND2, SHELL_LIST, SHELL2, SHELL4, OPEN, CHECK, NEXT, OPEN2, CHECK2, NEXT2, TO_FORM2, TO_FORM1,
-    SALVAGE, SCALE_TOTAL, ROLL_TOTAL, PREFACTORS, EVALUATE, EVALUATE_GROUPED, GROUPED_TERM, JK, FUNCTIONS
+    SALVAGE, COMPARE, COMPARE_NEXT, SCALE_TOTAL, ROLL_TOTAL, PREFACTORS, EVALUATE, EVALUATE_GROUPED, GROUPED_TERM, JK, FUNCTIONS
 };
 
 /* Slices that may be of length 0 and null. */
 enum empty {
     EXPAND_OUT, EXPAND2_OUT, LIST_OUT, OPEN_ROLL, CHECK_ROLL, NEXT_ROLL, OPEN2_ROLL, CHECK2_ROLL, NEXT2_ROLL,
-    TO_FORM2_ROLL, TO_FORM2_OUT, TO_FORM1_ROLL, TO_FORM1_OUT, SALVAGE_ROLL, SALVAGE_OUT, TOTAL_ROLL, EVALUATE_ROLL, EVALUATE_BOYS,
+    TO_FORM2_ROLL, TO_FORM2_OUT, TO_FORM1_ROLL, TO_FORM1_OUT, SALVAGE_ROLL, SALVAGE_OUT, COMPARE_LEFT, COMPARE_RIGHT,
+    COMPARE_NEXT_LEFT, COMPARE_NEXT_RIGHT, TOTAL_ROLL, EVALUATE_ROLL, EVALUATE_BOYS,
     GROUPED_ROLL, GROUPED_BOYS, GROUPED_BUFFER, GROUPING, JK_I, JK_D, JK_J, JK_K, EMPTIES
 };
 
 extern struct arena roll_arena, orders_arena, out_arena, boys_arena, i_arena, d_arena, j_arena, k_arena;
-extern struct arena buffer_arena, grouping_arena;
+extern struct arena buffer_arena, grouping_arena, right_arena;
 extern uint64_t further_calls; /* second calls with the same arguments, and steps through a roll */
 
 /* tally.c */
@@ -32,6 +33,7 @@ void count_found(enum function f, uint8_t found); /* of xew_next or xew_next2 */
 void count_fault(enum fault met); /* of a form 2 roll */
 void count_disorder(enum disorder met); /* of a grouping */
 void count_salvaged(xew_salvaged told); /* what was told of a damaged roll */
+void count_met(uint8_t found); /* of xew_compare_next */
 void count_left(uint8_t refusal); /* a grouping left in its buffer beside a value, or beside a refusal */
 void count_roll(xew_written written);
 void count_histories(uint64_t histories); /* of a request over the cap */
@@ -59,6 +61,7 @@ void try_cuts(const uint8_t *bytes, size_t length); /* of a roll that reads */
 struct slice try_expand(const struct request *request, size_t length, size_t start);
 
 /* forms.c: calls on rolls of form 2, and moves, each made twice */
+bool same_cursor2(xew_cursor2 a, xew_cursor2 b);
 bool same_opened2(xew_opened2 a, xew_opened2 b);
 xew_opened2 try_open2(struct slice roll);
 xew_opened2 try_check2(struct slice roll);
@@ -77,5 +80,8 @@ void play_salvage(uint8_t *bytes); /* an expansion, damaged or not */
 /* grouping.c: calls that lay terms out by Boys order, and that ask for them, each made twice */
 size_t try_evaluate_grouped(struct slice roll, xew_opened checked); /* the grouping's bytes; 0 where there is none */
 void try_grouping(struct slice roll, xew_opened checked); /* a grouping asked for its terms, then forged */
+
+/* compare.c: calls on two rolls, each made twice */
+void play_compare(uint8_t *bytes);
 
 #endif

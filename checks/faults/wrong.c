@@ -375,6 +375,40 @@ xew_salvaged __wrap_xew_salvage(const uint8_t *roll, size_t roll_len, uint8_t *o
     return salvaged;
 }
 
+xew_compared __real_xew_compare(const uint8_t *left, size_t left_len, const uint8_t *right, size_t right_len);
+xew_compared __wrap_xew_compare(const uint8_t *left, size_t left_len, const uint8_t *right, size_t right_len)
+{
+    if (is("reads-the-left-roll-past-its-end"))
+        seen = *(const volatile uint8_t *)(left + left_len);
+    xew_compared compared = __real_xew_compare(left, left_len, right, right_len);
+    if (is("refuses-the-right-roll-first") && compared.side == 1) {
+        xew_compared turned = __real_xew_compare(right, right_len, left, left_len);
+        if (turned.side == 1)
+            turned.side = 2;
+        return turned.side == 2 && turned.refusal ? turned : compared;
+    }
+    if (is("counts-a-position-too-few") && compared.differ)
+        compared.differ--;
+    if (is("exchanges-the-sides") && compared.terms) {
+        xew_cursor2 left_cursor = compared.cursor.left;
+        compared.cursor.left = compared.cursor.right;
+        compared.cursor.right = left_cursor;
+    }
+    return compared;
+}
+
+xew_met __real_xew_compare_next(xew_pair cursor, const uint8_t *left, size_t left_len, const uint8_t *right, size_t right_len);
+xew_met __wrap_xew_compare_next(xew_pair cursor, const uint8_t *left, size_t left_len, const uint8_t *right, size_t right_len)
+{
+    xew_met met = __real_xew_compare_next(cursor, left, left_len, right, right_len);
+    if (is("leaves-the-last-position-out") && (met.found == 2 || met.found == 3)
+        && __real_xew_compare_next(met.next, left, left_len, right, right_len).found == 4)
+        met = __real_xew_compare_next(met.next, left, left_len, right, right_len);
+    if (is("lists-an-equal-position") && met.found == 1 && met.number > cursor.number)
+        met.number = cursor.number;
+    return met;
+}
+
 xew_total __real_xew_scale_total(uint8_t kind, const uint8_t (*orders)[12]);
 xew_total __wrap_xew_scale_total(uint8_t kind, const uint8_t (*orders)[12])
 {
