@@ -1,6 +1,7 @@
 //! The library and the unchanged Rust side by side. bench/run calls it: `list` the requests, `measure` each in runs of
 //! its own, then the table or the picture from what was measured, on standard input.
 
+mod compare;
 mod components;
 mod forms;
 mod grouped;

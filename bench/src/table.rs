@@ -1,6 +1,7 @@
 //! The table: ratios of both sides, natively beside the goals.
 
 use crate::components::{self, COUNT};
+use crate::compare;
 use crate::forms;
 use crate::salvage;
 use crate::grouped;
@@ -248,6 +249,23 @@ fn print_salvage(rows: &[&Row]) -> Result<(), String> {
     Ok(())
 }
 
+/// A comparison judges both rolls, then steps through both.
+fn print_compare(rows: &[&Row]) -> Result<(), String> {
+    heading("comparison | xew_check, ns a term | xew_compare with itself, ns a term | with its form 2 | with itself, times check");
+    for row in rows {
+        let took = compare::times(&row.request, Duration::from_millis(100))?;
+        println!(
+            "| {} | {:.1} | {:.1} | {:.1} | {:.1} |",
+            row.request.title(),
+            took.check / row.terms,
+            took.same / row.terms,
+            took.forms / row.terms,
+            took.same / took.check
+        );
+    }
+    Ok(())
+}
+
 pub fn print(rows: &[Row], has_goals: bool) -> Result<(), String> {
     let table = Table { has_goals };
     let (accepted, refused): (Vec<&Row>, Vec<&Row>) = rows.iter().partition(|row| row.terms > 0.0);
@@ -266,5 +284,6 @@ pub fn print(rows: &[Row], has_goals: bool) -> Result<(), String> {
     print_matrices()?;
     print_forms(&accepted)?;
     print_salvage(&accepted)?;
+    print_compare(&accepted)?;
     print_totals()
 }
