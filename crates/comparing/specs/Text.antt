@@ -91,6 +91,7 @@ ordersLine on l r = cond on ((ordersWord ++ afterBlanks l) ++ ((bar ++ afterBlan
 abbrev pub kindsDiffer : Roll → Roll → Bool
 kindsDiffer l r = not (eqb (numberOf (l .kind)) (numberOf (r .kind)))
 
+-- as lists: of another number of them too (D-102)
 abbrev pub ordersDiffer : Roll → Roll → Bool
 ordersDiffer l r = not (sameNumbers (l .orders) (r .orders))
 
