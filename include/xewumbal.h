@@ -6,9 +6,10 @@
  * of length 0 may have a null pointer; a pointer with no length beside it must point to what it says.
  *
  * Every call answers every input. refusal is 0 for success, or one of these numbers; beside a refusal every other
- * number and array of the answer is 0 (7 and 14 also have their place), and no lent byte or float has changed, but for
- * the grouping that xew_evaluate_grouped leaves. On success only the bytes or floats of the output itself change. Where several refusals apply, the one told is the
- * first in the order that stands at the call; 7 and 14 never apply at once.
+ * number and array of the answer is 0 (7 and 14 also have their place, and of two rolls their side), and no lent byte or
+ * float has changed, but for the grouping that xew_evaluate_grouped leaves. On success only the bytes or floats of the
+ * output itself change. Where several refusals apply, the one told is the first in the order that stands at the call; 7
+ * and 14 never apply to one roll at once.
  *
  *    1  kind above 4
  *    2  an order sum the kind uses, or a shell's order, above 6
@@ -190,7 +191,8 @@ typedef struct {
 } xew_term;
 
 /* The next position that differs, its terms, and the cursor behind it. found: 0 refused, 1 both terms, which differ, 2 a term of
- * the left roll alone, 3 of the right one, 4 the end. side is as that of xew_compared. All but found are 0 at the end. */
+ * the left roll alone, 3 of the right one, 4 the end; so the calls end at 0 and at 4. The term of a roll that has none there is zeros. side is as
+ * that of xew_compared. All but found are 0 at the end. */
 typedef struct {
     xew_pair next;
     size_t place;
@@ -269,7 +271,8 @@ xew_moved xew_to_form1(const uint8_t *roll, size_t roll_len, uint8_t *out, size_
 
 /* Salvages a damaged roll of either form whose header (kind, orders and term count) reads: the expansion of its request is
  * worked out afresh and written into out from start on, in the form of the damaged one, and compared with it. The stored
- * count does not limit that. Refusals: 7 or 14 of the header, 5, 4, 6. */
+ * count does not limit that. The length that xew_measure tells of the header's kind and orders holds it, in form 2 with its
+ * terms added. Refusals: 7 or 14 of the header, 5, 4, 6. */
 xew_salvaged xew_salvage(const uint8_t *roll, size_t roll_len, uint8_t *out, size_t out_len, size_t start);
 
 /* Compares two rolls, each of either form, term by term; both are judged whole first, the left one first. Refusals: 7 or 14, with

@@ -228,6 +228,17 @@ CALLER void salvage(void)
     }
 }
 
+/* The headers alone of the deepest request, in both forms. */
+CALLER void salvage_deepest(void)
+{
+    FROM_HERE;
+    uint8_t head[XEW_ORDERS + 2] = { 4 };
+    memcpy(head + 1, deepest, XEW_ORDERS);
+    head[XEW_ORDERS + 1] = 1;
+    for (int form = 0; form < 2; form++, head[0] += 16)
+        note(xew_salvage(head, sizeof head, out, sizeof out, 0).refusal);
+}
+
 CALLER void compare(void)
 {
     FROM_HERE;
@@ -362,6 +373,7 @@ int main(int words, char **word)
     row("xew_to_form2, the most terms of each kind", move_to_form2);
     row("xew_to_form1, the most terms of each kind", move_to_form1);
     row("xew_salvage, the most terms of each kind, both forms", salvage);
+    row("xew_salvage, Coulomb, the deepest, both forms", salvage_deepest);
     row("xew_compare, the most terms of each kind", compare);
     row("xew_compare_next, the same in form 2", compare_next);
     row("xew_scale_total, each kind", scale_total);

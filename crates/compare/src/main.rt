@@ -1,6 +1,6 @@
 // Tells where two rolls differ: `compare LEFT RIGHT`, each a file with a roll of either form (02, Q-4).
 //
-// What there is to tell goes to standard output, one piece after the other; a file that can't be read is told on standard error.
+// What there is to tell goes to standard output, one piece after the other; a file that can't be opened is told on standard error (D-105).
 ghost use Prim.Native.Nat.{_≤_};
 ghost use lib.ListN.{length};
 ghost use Rattle.comparing.specs.Answers.{pieceRoom, comparedText, metText};

@@ -12,4 +12,6 @@ pub mod SaysLaws
 pub mod SidesLaws
 pub mod Steps
 pub mod Swapped
+pub mod Unsaid
 pub mod Whole
+pub mod Worked

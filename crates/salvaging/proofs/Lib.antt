@@ -1,3 +1,4 @@
+pub mod Counted
 pub mod EndsLaws
 pub mod FirstByte
 pub mod FormsLaws

@@ -62,6 +62,8 @@ cases =
     -- another count is stored: it does not limit the reading
     case (head 1 ++ terms) 17 0 (two 17 2 0 true None)
     ∷ case (head 3 ++ terms) 17 0 (two 17 2 0 true None)
+    ∷ case (head2 1 ++ terms2) 19 0 (two 19 2 0 true None)
+    ∷ case (head 1 ++ terms ++ (0xff ∷ [])) 17 0 (two 17 2 0 true Bytes)
     ∷
     -- bytes follow; they are not looked at where a term differs
     case (head 2 ++ terms ++ (0xff ∷ [])) 17 0 (two 17 2 0 false Bytes)
