@@ -11,6 +11,7 @@ use Rattle.geometry.specs.declared.Point.{Point}
 use Rattle.geometry.specs.Floats.{allFinite, inPlaces}
 use Rattle.geometry.specs.Geometry.{pointOf, biCenter, r12Squared}
 use Rattle.geometry.specs.Tables.{prefac}
+use Rattle.geometry.specs.Charges.{chargeKept, charged}
 use Rattle.geometry.specs.Checks.{usedFinite, exponentsAboveZero, finiteWith, prefactorTableOf}
 use Rattle.geometry.proofs.Centre.point.Reads.{Post as CentrePoint}
 use Rattle.geometry.proofs.finite.Reads.{Post as Finite}
@@ -21,6 +22,8 @@ use Rattle.geometry.proofs.prefac.Reads.{Post as Prefac}
 use Rattle.geometry.proofs.used_finite.Reads.{Post as UsedFinite}
 use Rattle.geometry.proofs.exponents_above_zero.Reads.{Post as ExponentsAboveZero}
 use Rattle.geometry.proofs.geometry_finite.Reads.{Post as GeometryFinite}
+use Rattle.geometry.proofs.charge_kept.Reads.{Post as ChargeKept}
+use Rattle.geometry.proofs.charged.Reads.{Post as Charged}
 use Rattle.geometry.proofs.prefactors.Reads.{Post as Prefactors}
 
 pub point-only : (c : Centre) → let g = c ▸ end in Alone (λ r. CentrePoint tt g r g) (pointOf c)
@@ -51,6 +54,12 @@ module _ (k : Kind) (a b c d : Centre) where
   pub geometry-finite-only : (κs : Lfts 1) (entries : Lent Float) →
       let g = k ▸ a ▸ b ▸ c ▸ d ▸ entries ▸ end in Alone (λ r. GeometryFinite κs g r g) (finiteWith k a b c d (entries .now))
   geometry-finite-only κs entries = alone (λ r p. p)
+
+pub charge-kept-only : (k : Kind) (c : Centre) → let g = k ▸ c ▸ end in Alone (λ r. ChargeKept tt g r g) (chargeKept k c)
+charge-kept-only k c = alone (λ r p. p)
+
+pub charged-only : (k : Kind) (c : Centre) (x : Float) → let g = k ▸ c ▸ x ▸ end in Alone (λ r. Charged tt g r g) (charged k c x)
+charged-only k c x = alone (λ r p. p)
 
 pub prefactors-only : (kind : ℕ) (a b c d : Centre) → let g = kind ▸ a ▸ b ▸ c ▸ d ▸ end in Alone (λ r. Prefactors tt g r g) (prefactorTableOf kind a b c d)
 prefactors-only kind a b c d = alone (λ r p. p)

@@ -1,4 +1,5 @@
 pub mod Floats
 pub mod Geometry
 pub mod Tables
+pub mod Charges
 pub mod Checks

@@ -6,6 +6,7 @@ ghost use Rattle.kind.specs.Limits.{tablePlaces};
 ghost use Rattle.geometry.specs.Floats.{aboveZero, allFinite, allAboveZero, inPlaces};
 ghost use Rattle.geometry.specs.Geometry.{pointOf, coordinates, biCenter, r12Squared, rpOf};
 ghost use Rattle.geometry.specs.Tables.{prefac};
+ghost use Rattle.geometry.specs.Charges.{chargeKept, charged};
 ghost use Rattle.geometry.specs.Checks.{whole, usedFinite, exponentsAboveZero, finiteWith, refused, checkedTable, prefactorTableOf};
 use kind::Kind;
 use kind::Named;
@@ -13,14 +14,18 @@ use kind::Named;
 mod numbers;
 mod tables;
 
-// Three coordinates and an exponent, kept together (D-43).
+// Three coordinates, an exponent and a charge, kept together (D-43).
 #[repr(C)]
 pub struct Centre {
     pub x: f64,
     pub y: f64,
     pub z: f64,
     pub exponent: f64,
+    pub charge: u32,
 }
+
+// The highest charge of a nucleus.
+pub const MOST_CHARGE: u32 = 118;
 
 pub struct Point {
     pub x: f64,
@@ -177,6 +182,32 @@ pub fn used_finite(kind: Kind, a: Centre, b: Centre, c: Centre, d: Centre) -> bo
         Kind::Nuclear => three_finite(a, b, c),
         Kind::Moment => three_finite(a, b, c),
         Kind::Coulomb => four_finite(a, b, c, d),
+    }
+}
+
+// Check 17: a nucleus has a charge up to 118; no other kind's charges are looked at.
+pub fn charge_kept(kind: Kind, c: Centre) -> bool
+    ensures { λ r. ⌜ r ≡ chargeKept kind c ⌝ }
+{
+    match kind {
+        Kind::Overlap => true,
+        Kind::Kinetic => true,
+        Kind::Nuclear => c.charge <= MOST_CHARGE,
+        Kind::Moment => true,
+        Kind::Coulomb => true,
+    }
+}
+
+// A nuclear value is the charge times the sum, any other the sum itself.
+pub fn charged(kind: Kind, c: Centre, x: f64) -> f64
+    ensures { λ r. ⌜ r ≡ charged kind c x ⌝ }
+{
+    match kind {
+        Kind::Overlap => x,
+        Kind::Kinetic => x,
+        Kind::Nuclear => c.charge as f64 * x,
+        Kind::Moment => x,
+        Kind::Coulomb => x,
     }
 }
 
