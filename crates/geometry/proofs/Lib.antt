@@ -1,4 +1,5 @@
 pub mod FiniteFloats
 pub mod Numbered
 pub mod Checks
+pub mod Charges
 pub mod Only

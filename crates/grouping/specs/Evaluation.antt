@@ -34,7 +34,7 @@ isGrouped Coulomb = true
 abbrev pub enough : ℕ → Roll → Bool
 enough size r = leb (entryRoom * length (r .terms)) size
 
--- 6 when a Coulomb roll's buffer is under 40 bytes a term, right after the roll is read; then 8, 9, 10, 11 and the integral
+-- 6 when a Coulomb roll's buffer is under 40 bytes a term, right after the roll is read; then 17 (nuclear), 8, 9, 10, 11 and the integral
 unfoldable pub ofRoll : Reading Roll → ℕ → Centre → Centre → Centre → Centre → Float → List Float → Value
 ofRoll (got r end) size a b c d aux boys =
     unless (cond (isGrouped (r .kind)) (enough size r) true) (Refused 6 0)

@@ -1,3 +1,4 @@
+pub mod Charges
 pub mod Only
 pub mod Rolls
 pub mod SumsLaws

@@ -17,6 +17,7 @@ use Rattle.geometry.specs.declared.Point.{Point}
 use Rattle.geometry.specs.Floats.{_⊖_, _⊗_, two, three, allFinite, inPlaces}
 use Rattle.geometry.specs.Geometry.{pointOf, r12Squared, eOf}
 use Rattle.geometry.specs.Tables.{prefac}
+use Rattle.geometry.specs.Charges.{chargeKept, charged}
 use Rattle.geometry.specs.Checks.{usedFinite, exponentsAboveZero, finiteWith, geometryFinite}
 use Rattle.geometry.proofs.Checks.{finite-table}
 use Rattle.integrals.specs.declared.Value.{Value}
@@ -98,19 +99,24 @@ by-bars true true false s v = refl
 by-bars true false r s v = refl
 by-bars false q r s v = refl
 
-module _ (k : Kind) (l : ℕ) (a b c d : Centre) (aux : Float) (boys : List Float) (ts : List Term) (table : List Float) (n : ℕ) (is : table ≡ inPlaces tablePlaces (prefac k a b c d)) (e : n ≡ barsWith k l a b c d aux boys table) where
-  -- of the centres' own table the checks are the evaluation's
-  value-is : valueOf k l a b c d aux boys ts ≡ cond (eqb n 0) (resultOf (integralOf k l a b c d aux boys ts)) (Refused n 0)
-  unfolding valueOf barsWith
-  value-is =
-      let same : finiteWith k a b c d table ≡ geometryFinite k a b c d = finite-table k a b c d table (finiteWith k a b c d table) is refl in
-      rw (e, same) (by-bars (inputsFinite k a b c d aux boys) (exponentsAboveZero k a b c d) (boysCounted k l (length boys)) (geometryFinite k a b c d) (resultOf (integralOf k l a b c d aux boys ts)))
+module _ (k : Kind) (l : ℕ) (a b c d : Centre) (aux : Float) (boys : List Float) (ts : List Term) (t : Bool) (kept : t ≡ chargeKept k c) where
+  pub value-uncharged : not t ≡ true → Refused 17 0 ≡ valueOf k l a b c d aux boys ts
+  unfolding valueOf refusedUnless
+  value-uncharged none = rw (← kept, not-true t none)
 
-  pub value-barred : (n ≡ 0 → ⊥) → Refused n 0 ≡ valueOf k l a b c d aux boys ts
-  value-barred some = sym (value-is ∙ rw (ne-eqb n 0 some))
+  module _ (table : List Float) (n : ℕ) (is : table ≡ inPlaces tablePlaces (prefac k a b c d)) (e : n ≡ barsWith k l a b c d aux boys table) (some : not t ≡ false) where
+    -- of the centres' own table the checks are the evaluation's
+    value-is : valueOf k l a b c d aux boys ts ≡ cond (eqb n 0) (resultOf (charged k c (integralOf k l a b c d aux boys ts))) (Refused n 0)
+    unfolding valueOf barsWith refusedUnless
+    value-is =
+        let same : finiteWith k a b c d table ≡ geometryFinite k a b c d = finite-table k a b c d table (finiteWith k a b c d table) is refl in
+        rw (e, same, ← kept, not-false t some) (by-bars (inputsFinite k a b c d aux boys) (exponentsAboveZero k a b c d) (boysCounted k l (length boys)) (geometryFinite k a b c d) (resultOf (charged k c (integralOf k l a b c d aux boys ts))))
 
-  pub value-passed : (x : Float) (r : Value) → n ≡ 0 → x ≡ totalOf k l (kineticStart a b) table aux boys ts → r ≡ resultOf x → r ≡ valueOf k l a b c d aux boys ts
-  unfolding integralOf
-  value-passed x r none y z =
-      let whole : x ≡ integralOf k l a b c d aux boys ts = rw (← is) y in
-      z ∙ ap resultOf whole ∙ sym (value-is ∙ rw (eq-eqb n 0 none))
+    pub value-barred : (n ≡ 0 → ⊥) → Refused n 0 ≡ valueOf k l a b c d aux boys ts
+    value-barred differs = sym (value-is ∙ rw (ne-eqb n 0 differs))
+
+    pub value-passed : (x y : Float) (r : Value) → n ≡ 0 → x ≡ totalOf k l (kineticStart a b) table aux boys ts → y ≡ charged k c x → r ≡ resultOf y → r ≡ valueOf k l a b c d aux boys ts
+    unfolding integralOf
+    value-passed x y r none u v z =
+        let whole : x ≡ integralOf k l a b c d aux boys ts = rw (← is) u in
+        z ∙ ap resultOf (v ∙ ap (charged k c) whole) ∙ sym (value-is ∙ rw (eq-eqb n 0 none))

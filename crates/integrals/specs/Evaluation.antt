@@ -1,4 +1,4 @@
--- 01, "Limits and refusal numbers": an evaluation answers 7 or 14 with its place, then 8, 9, 10 or 11, or the integral.
+-- 01, "Limits and refusal numbers": an evaluation answers 7 or 14 with its place, then 17 (02, Q-10), 8, 9, 10 or 11, or the integral.
 use Prim.Native.Nat.{ℕ}
 use mathlib.Core.List.{List}
 use lib.Ieee.{Float}
@@ -15,7 +15,7 @@ unfoldable pub ofRoll : Reading Roll → Centre → Centre → Centre → Centre
 ofRoll (got roll end) a b c d aux boys = valueOf (roll .kind) (total (roll .orders)) a b c d aux boys (roll .terms)
 ofRoll (refused number place) a b c d aux boys = Refused number place
 
--- evaluation: 7 or 14, 8, 9, 10, 11
+-- evaluation: 7 or 14, 17, 8, 9, 10, 11
 unfoldable pub evaluateOf : List ℕ → Centre → Centre → Centre → Centre → Float → List Float → Value
 evaluateOf s a b c d aux boys = ofRoll (rollAt s) a b c d aux boys
 

@@ -1,4 +1,4 @@
--- 01, "Limits and refusal numbers": an evaluation is refused 8, 9, 10 or 11, in this order, once its roll has been read.
+-- 01, "Limits and refusal numbers", and 02, Q-10: an evaluation is refused 17, 8, 9, 10 or 11, in this order, once its roll has been read.
 use Prim.Native.Nat.{ℕ, _+_}
 use mathlib.Core.Bool.{Bool, true, false, _&&_, cond}
 use mathlib.Core.List.{List}
@@ -11,6 +11,7 @@ use Rattle.kind.specs.Kinds.{usesBoys}
 use Rattle.term.specs.Terms.{Term}
 use Rattle.geometry.specs.declared.Centre.{Centre}
 use Rattle.geometry.specs.Floats.{allFinite}
+use Rattle.geometry.specs.Charges.{chargeKept, charged}
 use Rattle.geometry.specs.Checks.{usedFinite, exponentsAboveZero, geometryFinite}
 use Rattle.integrals.specs.declared.Value.{Value}
 use Rattle.integrals.specs.declared.Value.the-variants.{Is, Refused}
@@ -33,11 +34,12 @@ refusedUnless false number v = Refused number 0
 unfoldable pub resultOf : Float → Value
 resultOf x = refusedUnless (finite x) 11 (Is x)
 
--- 8, 9, 10, 11
+-- 17, 8, 9, 10, 11; the nuclear value is the charge times the integral
 unfoldable pub valueOf : Kind → ℕ → Centre → Centre → Centre → Centre → Float → List Float → List Term → Value
 valueOf k l a b c d aux boys ts =
-    refusedUnless (inputsFinite k a b c d aux boys) 8
+    refusedUnless (chargeKept k c) 17
+    (refusedUnless (inputsFinite k a b c d aux boys) 8
     (refusedUnless (exponentsAboveZero k a b c d) 9
     (refusedUnless (boysCounted k l (length boys)) 10
     (refusedUnless (geometryFinite k a b c d) 11
-    (resultOf (integralOf k l a b c d aux boys ts)))))
+    (resultOf (charged k c (integralOf k l a b c d aux boys ts)))))))

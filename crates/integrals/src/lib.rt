@@ -35,7 +35,7 @@ fn kinetic_of(a: Centre, b: Centre) -> f64
 }
 
 // The sum of the terms, with the start that the centres give.
-fn integral(
+pub fn integral(
     terms: Terms,
     a: Centre,
     b: Centre,
@@ -120,7 +120,7 @@ pub fn barred(
     0
 }
 
-// Checks 8, 9, 10 and 11 of a roll's terms, and their sum.
+// Checks 17, 8, 9, 10 and 11 of a roll's terms, and their sum, with the charge that the kind looks at.
 fn judged(
     terms: Terms,
     a: Centre,
@@ -134,12 +134,16 @@ fn judged(
     ensures { λ r. ⌜ r ≡ valueOf (terms .kind) (terms .cursor .l) a b c d aux (now (boys .entry)) (againFrom (now (roll .entry)) (terms .cursor)) ⌝ }
 {
     let kind = terms.kind;
+    if !geometry::charge_kept(kind, c) {
+        return Value::Refused(17, 0);
+    }
     let table = geometry::prefac(kind, a, b, c, d);
     let refusal = barred(terms, a, b, c, d, aux, boys, &table);
     if refusal != 0 {
         return Value::Refused(refusal, 0);
     }
-    result(integral(terms, a, b, &table, aux, boys, roll))
+    let sum = integral(terms, a, b, &table, aux, boys, roll);
+    result(geometry::charged(kind, c, sum))
 }
 
 // The terms of a roll that was judged, from its cursor on.
@@ -161,7 +165,7 @@ pub fn from_cursor(
     }
 }
 
-// The integral of a roll with the host's numbers, or 7 or 14 with its place, 8, 9, 10 or 11 (D-62).
+// The integral of a roll with the host's numbers, or 7 or 14 with its place, 17, 8, 9, 10 or 11 (D-62).
 pub fn evaluate(
     roll: &[u8],
     a: Centre,
