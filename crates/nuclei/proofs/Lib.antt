@@ -1,0 +1,3 @@
+pub mod NucleiLaws
+pub mod Only
+pub mod Promised

@@ -1,0 +1,2 @@
+pub mod Nuclei
+pub mod inner
