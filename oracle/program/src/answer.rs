@@ -1,6 +1,6 @@
 //! One answer line for each question line.
 
-use crate::parse::{self, Centre, Cursor, Evaluation, Lengths, Line, Question};
+use crate::parse::{self, Centre, Cursor, Evaluation, Lengths, Line, Nuclei, Question};
 use crate::rust_side;
 use crate::second::{self, Form, Header, Refusal, Side, Step, Term};
 use std::io::{self, BufRead, BufReader, Read, Write};
@@ -93,6 +93,7 @@ fn answer(question: Question, out: &mut Vec<u8>) -> Result<(), Refusal> {
         }
         Question::Eval(evaluation) => eval(out, &evaluation),
         Question::Grouped { buffer, evaluation } => grouped(out, buffer, &evaluation),
+        Question::Nuclei(asked) => nuclei(out, &asked),
         Question::Table(kind, centres) => table(out, kind, &centres),
         Question::JK { n, lengths, i, d } => jk(out, n, &lengths, &i, &d),
     }
@@ -282,6 +283,7 @@ fn next(
 }
 
 /// How an evaluation comes to its value.
+#[derive(Clone, Copy)]
 pub enum Way {
     /// The Rust's own list and aux: the unchanged get_ function.
     Unchanged,
@@ -289,12 +291,27 @@ pub enum Way {
     SumLoops,
 }
 
-pub fn way(header: &Header, terms: &[Term], evaluation: &Evaluation) -> Way {
-    let own_aux = rust_side::aux(header.kind, &evaluation.centres);
-    if own_aux.to_bits() == evaluation.aux.to_bits() && rust_side::is_own_list(header, terms) {
+pub fn way(header: &Header, terms: &[Term], centres: &[Centre; 4], aux: f64) -> Way {
+    let own_aux = rust_side::aux(header.kind, centres);
+    if own_aux.to_bits() == aux.to_bits() && rust_side::is_own_list(header, terms) {
         Way::Unchanged
     } else {
         Way::SumLoops
+    }
+}
+
+/// The value that the Rust comes to by that way.
+fn rust_value(
+    way: Way,
+    header: &Header,
+    terms: &[Term],
+    centres: &[Centre; 4],
+    aux: f64,
+    boys: &[f64],
+) -> f64 {
+    match way {
+        Way::Unchanged => rust_side::value(header, centres, boys),
+        Way::SumLoops => rust_side::value_of_terms(header, terms, centres, aux, boys),
     }
 }
 
@@ -322,7 +339,8 @@ fn grouped(out: &mut Vec<u8>, buffer: usize, evaluation: &Evaluation) -> Result<
     write_value(out, value)
 }
 
-/// The Rust's value, on which 11 is still to be decided, and its table.
+/// The Rust's value, on which 11 is still to be decided, and its table. That of a nuclear roll is
+/// multiplied by the charge of C, and the second reading must come to the same.
 fn value_and_table(
     header: &Header,
     terms: &[Term],
@@ -333,11 +351,46 @@ fn value_and_table(
     } = evaluation;
     second::check_evaluation(header, centres, *aux, boys)?;
     let table = table_of(header.kind, centres)?;
-    let value = match way(header, terms, evaluation) {
-        Way::Unchanged => rust_side::value(header, centres, boys),
-        Way::SumLoops => rust_side::value_of_terms(header, terms, centres, *aux, boys),
-    };
+    let way = way(header, terms, centres, *aux);
+    let value = rust_value(way, header, terms, centres, *aux, boys);
+    if header.kind != 2 {
+        return Ok((value, table));
+    }
+    let charge = centres[2].charge;
+    let value = f64::from(charge) * value;
+    let value2 = second::value_of_nucleus(charge, terms, &table, *aux, boys);
+    assert!(
+        same(&[value], &[value2]),
+        "the Rust and the second reading differ: the nucleus of {:?}",
+        evaluation
+    );
     Ok((value, table))
+}
+
+/// The Rust's value of each nucleus times its charge, as `V` of basis.rs multiplies, added from 0.0 in
+/// list order; `V` adds by ndarray, which is not here. The second reading must sum the same, as for
+/// a table.
+fn nuclei(out: &mut Vec<u8>, asked: &Nuclei) -> Result<(), Refusal> {
+    let (header, terms) = second::NOW.check(&asked.roll)?;
+    second::check_nuclei(&header, asked)?;
+    for nucleus in &asked.list {
+        table_of(2, &asked.centres(nucleus))?;
+    }
+    // The Rust's aux does not depend on the nucleus.
+    let way = way(&header, &terms, &asked.centres(&asked.list[0]), asked.aux);
+    let boys_of_each = asked.boys.chunks(usize::from(header.l) + 1);
+    let mut sum = 0.0;
+    for (nucleus, boys) in asked.list.iter().zip(boys_of_each) {
+        let centres = asked.centres(nucleus);
+        let value = rust_value(way, &header, &terms, &centres, asked.aux, boys);
+        sum += f64::from(nucleus.charge) * value;
+    }
+    assert!(
+        same(&[sum], &[second::sum_of_nuclei(header.l, &terms, asked)]),
+        "the Rust and the second reading differ: the sum of {:?}",
+        asked
+    );
+    write_value(out, sum)
 }
 
 fn write_value(out: &mut Vec<u8>, value: f64) -> Result<(), Refusal> {

@@ -99,17 +99,23 @@ fn note(tally: &mut Tally, kind: &str, question: &[u8], answer: &[u8]) {
 }
 
 fn is_evaluation(kind: &str) -> bool {
-    kind == "eval" || kind == "grouped"
+    ["eval", "grouped", "nuclei"].contains(&kind)
 }
 
 fn way(question: &[u8]) -> Option<Way> {
-    let evaluation = match parse::line(question) {
-        Line::Asks(Question::Eval(evaluation)) => evaluation,
-        Line::Asks(Question::Grouped { evaluation, .. }) => evaluation,
+    let (roll, centres, aux) = match parse::line(question) {
+        Line::Asks(Question::Eval(asked)) => (asked.roll, *asked.centres, asked.aux),
+        Line::Asks(Question::Grouped { evaluation, .. }) => {
+            (evaluation.roll, *evaluation.centres, evaluation.aux)
+        }
+        Line::Asks(Question::Nuclei(asked)) => {
+            let centres = asked.centres(asked.list.first()?);
+            (asked.roll, centres, asked.aux)
+        }
         _ => return None,
     };
-    let (header, terms) = second::NOW.check(&evaluation.roll).ok()?;
-    Some(answer::way(&header, &terms, &evaluation))
+    let (header, terms) = second::NOW.check(&roll).ok()?;
+    Some(answer::way(&header, &terms, &centres, aux))
 }
 
 /// The first word; a refusal with its number and side, a total apart from none, a salvage with what it

@@ -1,4 +1,4 @@
-//! Floats and centres for questions: ordinary, extreme and wrong ones.
+//! Floats, charges and centres for questions: ordinary, extreme and wrong ones.
 
 use crate::parse::Centre;
 use crate::random::Random;
@@ -145,14 +145,73 @@ fn exponent(random: &mut Random, taste: Taste) -> f64 {
     }
 }
 
+/// Above a nucleus's limit: by little, by so much that a byte or two would lose it, and by most.
+const TOO_MUCH: [u32; 11] = [
+    119,
+    120,
+    127,
+    255,
+    256,
+    300,
+    65_535,
+    65_536,
+    65_537,
+    1 << 31,
+    u32::MAX,
+];
+
+pub fn too_much(random: &mut Random) -> u32 {
+    match random.below(3) {
+        0 => 256 + random.below(119) as u32,
+        _ => random.one_of(&TOO_MUCH),
+    }
+}
+
+/// A charge that a nucleus may have.
+pub fn right_charge(random: &mut Random) -> u32 {
+    match random.below(8) {
+        0 => 0,
+        1 => 118,
+        2 => 1,
+        3 => random.from_to(1, 10) as u32,
+        _ => random.below(119) as u32,
+    }
+}
+
+/// A nucleus's charge, one in so many above the limit.
+pub fn charge(random: &mut Random, wrong: u64) -> u32 {
+    if random.once_in(wrong) {
+        too_much(random)
+    } else {
+        right_charge(random)
+    }
+}
+
+/// A charge that is not looked at.
+pub fn any_charge(random: &mut Random) -> u32 {
+    match random.below(4) {
+        0 => random.bits() as u32,
+        1 => too_much(random),
+        _ => right_charge(random),
+    }
+}
+
+/// A centre with any charge.
+pub fn centre(random: &mut Random, taste: Taste) -> Centre {
+    let mut centre = Centre::default();
+    for x in centre.r.iter_mut() {
+        *x = float(random, taste);
+    }
+    centre.z = exponent(random, taste);
+    centre.charge = any_charge(random);
+    centre
+}
+
 /// Four centres; now and then two of them are one, or one stands at the origin.
 pub fn centres(random: &mut Random, taste: Taste) -> [Centre; 4] {
     let mut centres = [Centre::default(); 4];
-    for centre in centres.iter_mut() {
-        for x in centre.r.iter_mut() {
-            *x = float(random, taste);
-        }
-        centre.z = exponent(random, taste);
+    for one in centres.iter_mut() {
+        *one = centre(random, taste);
     }
     if random.once_in(5) {
         let (from, to) = (random.index(4), random.index(4));
@@ -171,18 +230,25 @@ pub fn centres(random: &mut Random, taste: Taste) -> [Centre; 4] {
     centres
 }
 
+/// What is as wrong as can be where a float is not looked at.
+pub fn unused(random: &mut Random) -> f64 {
+    random.one_of(&[f64::INFINITY, f64::NAN, f64::MAX, -1.0, -0.0])
+}
+
 /// Centres for a kind. Now and then what the kind does not use is as wrong as can be, which
-/// must make no difference.
+/// must make no difference. The nucleus of a nuclear roll has mostly a charge that it may have.
 pub fn centres_for(random: &mut Random, taste: Taste, kind: u8) -> [Centre; 4] {
     let mut centres = centres(random, taste);
     if kind < 4 && random.once_in(4) {
-        let wrong = [f64::INFINITY, f64::NAN, f64::MAX, -1.0, -0.0];
-        centres[2].z = random.one_of(&wrong);
-        centres[3].z = random.one_of(&wrong);
-        centres[3].r = [random.one_of(&wrong); 3];
+        centres[2].z = unused(random);
+        centres[3].z = unused(random);
+        centres[3].r = [unused(random); 3];
         if kind < 2 {
-            centres[2].r = [random.one_of(&wrong); 3];
+            centres[2].r = [unused(random); 3];
         }
+    }
+    if kind == 2 {
+        centres[2].charge = charge(random, 12);
     }
     centres
 }

@@ -11,6 +11,7 @@ pub mod form2_runs;
 pub mod last_bits;
 pub mod lines;
 pub mod matrices;
+pub mod nuclei;
 pub mod odd_lines;
 pub mod parse;
 pub mod questions;

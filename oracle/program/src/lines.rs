@@ -40,12 +40,13 @@ pub fn append_float(random: &mut Random, line: &mut Vec<u8>, float: f64) {
     }
 }
 
-pub fn append_centres(random: &mut Random, line: &mut Vec<u8>, centres: &[Centre; 4]) {
+pub fn append_centres(random: &mut Random, line: &mut Vec<u8>, centres: &[Centre]) {
     for centre in centres {
         for &x in &centre.r {
             append_float(random, line, x);
         }
         append_float(random, line, centre.z);
+        append(line, centre.charge.into());
     }
 }
 

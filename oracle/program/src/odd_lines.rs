@@ -77,6 +77,56 @@ pub fn malformed(random: &mut Random, mut line: Vec<u8>) -> Vec<u8> {
     line
 }
 
+/// Spoils a charge of a question of this kind, or its number of nuclei.
+pub fn wrong_charge(random: &mut Random, kind: &str, line: Vec<u8>) -> Vec<u8> {
+    let mut words: Vec<Vec<u8>> = line.split(|&b| b == b' ').map(<[u8]>::to_vec).collect();
+    let place = match kind {
+        "nuclei" if random.once_in(3) => NUMBER_OF_NUCLEI,
+        _ => random.one_of(&charges(kind, &words)),
+    };
+    let wrong = [
+        "256",
+        "4294967296",
+        "18446744073709551617",
+        "3ff0000000000000",
+        "4000000000000000",
+        "7ff0000000000000",
+        "1.0",
+        "-1",
+        "+1",
+        "a",
+        "",
+    ];
+    match random.below(16) {
+        0 | 1 => {
+            words.remove(place);
+        }
+        2 => words.insert(place, b"1".to_vec()),
+        3..=5 => words[place].insert(0, b'0'),
+        _ => words[place] = random.one_of(&wrong).into(),
+    }
+    words.join(&b' ')
+}
+
+/// The place of N among the words of a question about nuclei, after its roll and two centres.
+const NUMBER_OF_NUCLEI: usize = 12;
+
+/// The places of the charges among the words of a question, each the fifth of a centre.
+fn charges(kind: &str, words: &[Vec<u8>]) -> Vec<usize> {
+    let charges = |before: usize, centres: usize| (0..centres).map(move |at| before + 5 * at + 4);
+    match kind {
+        "nuclei" => {
+            let number = String::from_utf8_lossy(&words[NUMBER_OF_NUCLEI]);
+            let number: usize = number.parse().unwrap_or(0);
+            let listed = charges(NUMBER_OF_NUCLEI + 1, number);
+            let places = charges(2, 2).chain(listed);
+            places.filter(|&place| place < words.len()).collect()
+        }
+        "grouped" => charges(3, 4).collect(),
+        _ => charges(2, 4).collect(),
+    }
+}
+
 fn random_line(random: &mut Random) -> Vec<u8> {
     (0..random.below(60)).map(|_| random.bits() as u8).collect()
 }
@@ -99,9 +149,12 @@ pub fn longest(kind: &str, length: usize) -> Vec<u8> {
     line
 }
 
-/// Four centres and aux, all 1.0.
+/// A centre of 1.0 and the charge 1.
+const CENTRE: &[u8] = b" 3ff0000000000000 3ff0000000000000 3ff0000000000000 3ff0000000000000 1";
+
+/// Four such centres, and an aux of 1.0.
 fn ones() -> Vec<u8> {
-    b" 3ff0000000000000".repeat(17)
+    [&CENTRE.repeat(4)[..], b" 3ff0000000000000"].concat()
 }
 
 /// An evaluation of overlap s,s, by the words before its roll, with this many Boys numbers, where
@@ -109,6 +162,17 @@ fn ones() -> Vec<u8> {
 pub fn with_boys(words: &str, count: usize) -> Vec<u8> {
     let mut line = with_roll(words, &rust_side::roll(0, &[0; 12]));
     line.extend(ones());
+    line.extend(b" 0".repeat(count));
+    line
+}
+
+/// A question about two nuclei with this many Boys numbers, where two belong.
+pub fn nuclei_with_boys(count: usize) -> Vec<u8> {
+    let mut line = with_roll("nuclei", &rust_side::roll(2, &[0; 12]));
+    line.extend(CENTRE.repeat(2));
+    line.extend(b" 2");
+    line.extend(CENTRE.repeat(2));
+    line.extend(b" 3ff0000000000000");
     line.extend(b" 0".repeat(count));
     line
 }

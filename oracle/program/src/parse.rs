@@ -10,14 +10,17 @@ pub const LARGEST_BUFFER: usize = 16_777_216;
 pub const LARGEST_GROUPING: usize = 67_108_864;
 /// The most Boys numbers of a question.
 pub const MOST_BOYS: usize = 65_536;
+/// The most nuclei that follow their count; where it is larger, or 0, none follows.
+pub const MOST_LISTED: u8 = 32;
 /// The most prefactors of the term before that a question's cursor holds.
 pub const MOST_BEFORE: usize = 24;
 
-/// Three coordinates and an exponent.
+/// Three coordinates, an exponent and a charge.
 #[derive(Clone, Copy, Debug, Default, PartialEq)]
 pub struct Centre {
     pub r: [f64; 3],
     pub z: f64,
+    pub charge: u32,
 }
 
 #[derive(Clone, Copy, Debug, PartialEq)]
@@ -31,9 +34,29 @@ pub struct Cursor {
 #[derive(Clone, Debug, PartialEq)]
 pub struct Evaluation {
     pub roll: Vec<u8>,
-    pub centres: [Centre; 4],
+    pub centres: Box<[Centre; 4]>,
     pub aux: f64,
     pub boys: Vec<f64>,
+}
+
+/// A pair of functions and a list of nuclei.
+#[derive(Clone, Debug, PartialEq)]
+pub struct Nuclei {
+    pub roll: Vec<u8>,
+    pub pair: [Centre; 2],
+    /// As the question says it. Out of range it has an empty list beside it.
+    pub count: u8,
+    pub list: Vec<Centre>,
+    pub aux: f64,
+    pub boys: Vec<f64>,
+}
+
+impl Nuclei {
+    /// The centres of an evaluation with one nucleus of the list.
+    pub fn centres(&self, nucleus: &Centre) -> [Centre; 4] {
+        let [a, b] = self.pair;
+        [a, b, *nucleus, Centre::default()]
+    }
 }
 
 /// The sizes of J and K's inputs and outputs, said apart from the floats.
@@ -101,6 +124,7 @@ pub enum Question {
         buffer: usize,
         evaluation: Evaluation,
     },
+    Nuclei(Nuclei),
     Table(u8, [Centre; 4]),
     JK {
         n: u64,
@@ -170,15 +194,35 @@ impl<'a> Words<'a> {
         (0..count).map(|_| self.float()).collect()
     }
 
+    /// All that are left.
+    fn boys(&mut self) -> Option<Vec<f64>> {
+        let mut boys = Vec::new();
+        while self.more() {
+            if boys.len() == MOST_BOYS {
+                return None;
+            }
+            boys.push(self.float()?);
+        }
+        Some(boys)
+    }
+
     fn roll(&mut self) -> Option<Vec<u8>> {
         roll(self.next()?)
+    }
+
+    /// x y z exponent charge.
+    fn centre(&mut self) -> Option<Centre> {
+        Some(Centre {
+            r: [self.float()?, self.float()?, self.float()?],
+            z: self.float()?,
+            charge: self.number(u32::MAX.into())? as u32,
+        })
     }
 
     fn centres(&mut self) -> Option<[Centre; 4]> {
         let mut centres = [Centre::default(); 4];
         for centre in centres.iter_mut() {
-            centre.r = [self.float()?, self.float()?, self.float()?];
-            centre.z = self.float()?;
+            *centre = self.centre()?;
         }
         Some(centres)
     }
@@ -250,6 +294,7 @@ fn question(bytes: &[u8]) -> Option<Question> {
             buffer: words.number(LARGEST_GROUPING as u64)? as usize,
             evaluation: evaluation(&mut words)?,
         },
+        b"nuclei" => Question::Nuclei(nuclei(&mut words)?),
         b"table" => Question::Table(words.byte()?, words.centres()?),
         b"jk" => jk(&mut words)?,
         b"jkl" => jkl(&mut words)?,
@@ -333,21 +378,28 @@ fn component(words: &mut Words) -> Option<Question> {
 }
 
 fn evaluation(words: &mut Words) -> Option<Evaluation> {
-    let roll = words.roll()?;
-    let centres = words.centres()?;
-    let aux = words.float()?;
-    let mut boys = Vec::new();
-    while words.more() {
-        if boys.len() == MOST_BOYS {
-            return None;
-        }
-        boys.push(words.float()?);
-    }
     Some(Evaluation {
+        roll: words.roll()?,
+        centres: Box::new(words.centres()?),
+        aux: words.float()?,
+        boys: words.boys()?,
+    })
+}
+
+/// The list of nuclei is as long as its count says; where that is out of range there is none.
+fn nuclei(words: &mut Words) -> Option<Nuclei> {
+    let roll = words.roll()?;
+    let pair = [words.centre()?, words.centre()?];
+    let count = words.byte()?;
+    let follow = if count <= MOST_LISTED { count } else { 0 };
+    let list: Option<_> = (0..follow).map(|_| words.centre()).collect();
+    Some(Nuclei {
         roll,
-        centres,
-        aux,
-        boys,
+        pair,
+        count,
+        list: list?,
+        aux: words.float()?,
+        boys: words.boys()?,
     })
 }
 

@@ -8,11 +8,12 @@ use crate::lines::{grouping_buffer, numbers, with_roll, with_rolls};
 use crate::parse::{LONGEST_LINE, MOST_BOYS};
 use crate::random::Random;
 use crate::second::{self, Form, NOW};
-use crate::{form2_rolls, matrices, odd_lines, requests, rolls, runs, rust_side, salvage_rolls};
+use crate::{form2_rolls, matrices, nuclei, odd_lines, requests, rolls, runs};
+use crate::{rust_side, salvage_rolls};
 use std::io::{self, Write};
 
 /// The kinds of question, as `oracle/ask-both` names them.
-pub const KINDS: [&str; 23] = [
+pub const KINDS: [&str; 24] = [
     "shell",
     "component",
     "expand",
@@ -33,6 +34,7 @@ pub const KINDS: [&str; 23] = [
     "compare",
     "eval",
     "grouped",
+    "nuclei",
     "table",
     "jk",
     "jkl",
@@ -117,13 +119,16 @@ fn at_a_limit(kind: &str, from_end: u64) -> Option<Vec<u8>> {
         )),
         3 if kind == "compare" => Some(compared(compare_rolls::of_long_lines())),
         2 if kind == "compare" => Some(compared(compare_rolls::of_one_side())),
+        3 if kind == "nuclei" => Some(odd_lines::nuclei_with_boys(MOST_BOYS)),
+        2 if kind == "nuclei" => Some(odd_lines::nuclei_with_boys(MOST_BOYS + 1)),
         2 if kind == "eval" => Some(odd_lines::with_boys("eval", MOST_BOYS + 1)),
         2 if kind == "grouped" => Some(odd_lines::with_boys("grouped 0", MOST_BOYS + 1)),
         _ => None,
     }
 }
 
-/// A question of the kind; one in fifty is malformed.
+/// A question of the kind; one in fifty is malformed, and as many of those with centres have a wrong
+/// charge.
 fn question(random: &mut Random, kind: &str, at: u64) -> Vec<u8> {
     let line = match kind {
         "shell" => shell(random, at),
@@ -152,6 +157,7 @@ fn question(random: &mut Random, kind: &str, at: u64) -> Vec<u8> {
         }
         "eval" => eval(random),
         "grouped" => grouped(random),
+        "nuclei" => nuclei::any(random),
         "table" => table(random),
         "jk" => jk(random, at),
         "jkl" => jkl(random, at),
@@ -160,9 +166,16 @@ fn question(random: &mut Random, kind: &str, at: u64) -> Vec<u8> {
     };
     if random.once_in(50) {
         odd_lines::malformed(random, line)
+    } else if has_charges(kind) && random.once_in(50) {
+        odd_lines::wrong_charge(random, kind, line)
     } else {
         line
     }
+}
+
+/// Are there centres in a question of the kind?
+fn has_charges(kind: &str) -> bool {
+    ["eval", "grouped", "nuclei", "table"].contains(&kind)
 }
 
 fn about_roll(random: &mut Random, kind: &str, roll: &[u8], walk: Walk) -> Vec<u8> {
@@ -309,14 +322,15 @@ fn eval(random: &mut Random) -> Vec<u8> {
     evaluation(random, "eval", &roll, taste, way <= 10)
 }
 
-/// An evaluation with a grouping buffer: mostly a Coulomb roll, of the Rust's own list or another.
+/// An evaluation with a grouping buffer: mostly a Coulomb roll, of the Rust's own list or another;
+/// now and then a nuclear one, whose charge is looked at, or any.
 fn grouped(random: &mut Random) -> Vec<u8> {
     let mut taste = floats::taste(random);
     let way = random.below(20);
     let roll = match way {
         0..=6 if random.once_in(200) => rolls::fresh_and_long(random),
         0..=6 => rolls::fresh_of(random, 4),
-        7 => rolls::fresh(random),
+        7 => rolls::fresh_of(random, 2),
         8..=11 => rolls::rearranged(random),
         12..=14 => rolls::legal_of(random, 4),
         15 => rolls::legal(random),

@@ -229,7 +229,8 @@ fn the_reader_of_one_number() {
 /// everything that reads a roll says 14 where the input ended, 7 else, at the same place.
 #[test]
 fn cut_or_wrong() {
-    let floats = " 3ff0000000000000".repeat(17);
+    let centre = " 3ff0000000000000".repeat(4) + " 1";
+    let floats = centre.repeat(4) + " 3ff0000000000000";
     let whole = "0000000000000001010000";
     let cases = [
         ("-", "14 at 0"),
@@ -301,12 +302,12 @@ fn each_cut_of_a_good_roll_is_14() {
 #[test]
 fn numbers() {
     let one = "3ff0000000000000";
-    let centre = |z: &str| format!("0 0 0 {}", z);
+    let centre = |z: &str| format!("0 0 0 {} 1", z);
     let (good, minus_zero) = (centre(one), centre("8000000000000000"));
     let roll = "0000000000000001010000";
     let eval = |a: &str, rest: &str| {
         ask(&format!(
-            "eval {} {} {} 0 0 0 0 7ff0000000000000 0 0 0 {}",
+            "eval {} {} {} 0 0 0 0 1 7ff0000000000000 0 0 0 1 {}",
             roll, a, good, rest
         ))
     };
@@ -327,10 +328,10 @@ fn numbers() {
     assert_eq!(ask("jkl 1 1 1 1 2 0 0"), "refused 12");
     assert_eq!(ask("jkl 1 1 1 1 1 0 7ff0000000000000"), "refused 8");
     assert_eq!(ask("jk 1 7fefffffffffffff 7fefffffffffffff"), "refused 11");
-    let table = ask(&format!("table 0 {} {} 0 0 0 0 0 0 0 0", good, good));
+    let table = ask(&format!("table 0 {} {} 0 0 0 0 1 0 0 0 0 1", good, good));
     assert_eq!(table.split(' ').count(), 24);
     assert_eq!(
-        ask(&format!("table 5 {} {} 0 0 0 0 0 0 0 0", good, good)),
+        ask(&format!("table 5 {} {} 0 0 0 0 1 0 0 0 0 1", good, good)),
         "refused 1"
     );
 }

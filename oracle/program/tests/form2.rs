@@ -111,7 +111,8 @@ fn the_requests_that_01_prints() {
 
 #[test]
 fn each_form_refuses_the_other_at_0() {
-    let floats = " 3ff0000000000000".repeat(17);
+    let centre = " 3ff0000000000000".repeat(4) + " 1";
+    let floats = centre.repeat(4) + " 3ff0000000000000";
     for (_, form1, form2) in PRINTED {
         let (form1, form2) = (joined(form1), joined(form2));
         for word in ["open2", "check2", "form1"] {

@@ -152,8 +152,8 @@ const MOST: &str = "7fefffffffffffff";
 
 /// `grouped` with this exponent on D, the others 1.0, all at the origin; aux and Boys numbers follow.
 fn asked(buffer: usize, roll: &str, exponent: &str, rest: &str) -> String {
-    let centre = format!("0 0 0 {}", ONE);
-    let centres = format!("{} {} {} 0 0 0 {}", centre, centre, centre, exponent);
+    let centre = format!("0 0 0 {} 1", ONE);
+    let centres = format!("{} {} {} 0 0 0 {} 1", centre, centre, centre, exponent);
     ask(&format!("grouped {} {} {} {}", buffer, roll, centres, rest))
 }
 
@@ -220,7 +220,8 @@ fn as_many_terms_as_a_line_holds() {
 #[test]
 fn lines_that_are_no_question() {
     let s = "0400000000000000000000000001010000";
-    let floats = " 0".repeat(18);
+    // Four centres of five words each, aux and a Boys number.
+    let floats = " 0".repeat(22);
     assert_eq!(ask(&format!("grouped 40 {}{}", s, floats)), "refused 9");
     let lines = [
         format!("grouped 67108865 {}{}", s, floats),
@@ -231,7 +232,7 @@ fn lines_that_are_no_question() {
         format!("grouped {}{}", s, floats),
         format!("grouped - {}{}", s, floats),
         format!("grouped 40{}", floats),
-        format!("grouped 40 {}{}", s, &floats[..32]),
+        format!("grouped 40 {}{}", s, &floats[..40]),
         format!("grouped 40 {}{} ", s, floats),
         format!("grouped 40 {}{} 00000000000000000", s, floats),
         "grouped".to_string(),

@@ -5,13 +5,13 @@ use oracle::compare_rolls;
 use oracle::diff::class;
 use oracle::form2_rolls;
 use oracle::form2_runs::{self, Asked};
-use oracle::parse::{self, write_roll, Line, Question, LONGEST_LINE};
+use oracle::parse::{self, write_roll, Line, Nuclei, Question, LONGEST_LINE};
 use oracle::questions::{write_all, KINDS};
 use oracle::requests;
 use oracle::rolls::{to_be_cut, tried_one_by_one};
 use oracle::runs;
 use oracle::salvage_rolls;
-use oracle::second::Form;
+use oracle::second::{Form, NOW};
 use std::collections::BTreeSet;
 use std::io::{self, Write};
 
@@ -102,6 +102,7 @@ fn every_kind_of_answer_comes_up() {
                 "refused 10",
                 "refused 11",
                 "refused 14",
+                "refused 17",
             ],
             "grouped" => &[
                 "value",
@@ -112,6 +113,18 @@ fn every_kind_of_answer_comes_up() {
                 "refused 10",
                 "refused 11",
                 "refused 14",
+                "refused 17",
+            ],
+            "nuclei" => &[
+                "value",
+                "refused  1",
+                "refused  7",
+                "refused  8",
+                "refused  9",
+                "refused 10",
+                "refused 11",
+                "refused 14",
+                "refused 17",
             ],
             "table" => &[
                 "table",
@@ -198,6 +211,96 @@ fn matrices_of_every_sort() {
             assert!(told.contains(&expected), "{}: {}", kind, expected);
         }
         assert!(all.contains("infinite") && all.contains("no number"));
+    }
+}
+
+/// What there is to find in a question about nuclei: its count, charges, exponents and Boys numbers.
+fn sorts_of_nuclei(asked: &Nuclei) -> BTreeSet<String> {
+    let mut found = BTreeSet::new();
+    found.insert(format!("count {}", asked.count));
+    for nucleus in &asked.list {
+        found.insert(format!("charge {}", nucleus.charge));
+        found.insert(format!("exponent {}", sort(&nucleus.z)));
+        if (256..=374).contains(&nucleus.charge) {
+            found.insert("charge that a byte takes for another".to_string());
+        }
+    }
+    for function in &asked.pair {
+        found.insert(format!("charge of a function {}", function.charge));
+    }
+    for number in &asked.boys {
+        found.insert(format!("Boys number {}", sort(number)));
+    }
+    if let Ok(header) = NOW.open(&asked.roll) {
+        let each = usize::from(header.l) + 1;
+        let right = each * asked.list.len();
+        let count = asked.boys.len();
+        let named = [
+            (right, "as many Boys numbers as asked for"),
+            (right + 1, "one Boys number too many"),
+            (right.wrapping_sub(1), "one Boys number too few"),
+            (each, "the Boys numbers of one nucleus"),
+            (0, "no Boys number"),
+        ];
+        let named = named.iter().filter(|(number, _)| *number == count);
+        found.extend(named.map(|(_, name)| name.to_string()));
+    }
+    found
+}
+
+/// Every count, charge and number of Boys numbers at a limit and beyond it comes up; those that are
+/// right, and what is not looked at, also where a value is told.
+#[test]
+fn nuclei_of_every_sort() {
+    let asked = questions("nuclei", 5_000, 1);
+    let answered = answers(&asked);
+    let (mut all, mut told) = (BTreeSet::new(), BTreeSet::new());
+    for (question, answer) in lines(&asked).into_iter().zip(lines(&answered)) {
+        if let Line::Asks(Question::Nuclei(asked)) = parse::line(question) {
+            let found = sorts_of_nuclei(&asked);
+            if answer.starts_with(b"value") {
+                told.extend(found.iter().cloned());
+            }
+            all.extend(found);
+        }
+    }
+    let counts = [1, 2, 3, 31, 32].map(|count| format!("count {}", count));
+    let charges = [0, 1, 2, 117, 118].map(|charge| format!("charge {}", charge));
+    let not_looked_at = [0, 1, 118, 119, 255, 256, 300, u32::MAX];
+    let not_looked_at = not_looked_at.map(|charge| format!("charge of a function {}", charge));
+    let exponents = [
+        "0.0",
+        "-0.0",
+        "subnormal",
+        "normal",
+        "infinite",
+        "no number",
+    ];
+    let exponents = exponents.map(|sort| format!("exponent {}", sort));
+    let finite = ["0.0", "-0.0", "subnormal", "normal"];
+    let finite = finite.map(|sort| format!("Boys number {}", sort));
+    let right = ["as many Boys numbers as asked for".to_string()];
+    let expected = counts.iter().chain(&charges).chain(&not_looked_at);
+    for expected in expected.chain(&exponents).chain(&finite).chain(&right) {
+        assert!(told.contains(expected), "{}", expected);
+    }
+    let wrong = [
+        "count 0",
+        "count 33",
+        "count 255",
+        "charge 119",
+        "charge 300",
+        "charge 4294967295",
+        "charge that a byte takes for another",
+        "Boys number infinite",
+        "Boys number no number",
+        "one Boys number too many",
+        "one Boys number too few",
+        "the Boys numbers of one nucleus",
+        "no Boys number",
+    ];
+    for expected in wrong {
+        assert!(all.contains(expected), "{}", expected);
     }
 }
 

@@ -1,10 +1,10 @@
 //! The checks of each call but the roll's, in the order in which they refuse.
 
-use super::limits::{orders_used, LARGEST_MATRIX, NOW};
+use super::limits::{orders_used, LARGEST_CHARGE, LARGEST_MATRIX, MOST_NUCLEI, NOW};
 use super::refusal::{refusal, Refusal};
 use super::roll::Header;
 use super::steps::count_histories;
-use crate::parse::{Centre, Lengths};
+use crate::parse::{Centre, Lengths, Nuclei};
 
 // Shells
 
@@ -140,13 +140,23 @@ fn check_exponents(kind: u8, centres: &[Centre; 4]) -> Result<(), Refusal> {
     Ok(())
 }
 
-/// Evaluation after 7 and 14: 8, 9, 10. 11 is for geometry, table and result.
+/// 17: the nucleus, which is C, has a charge above the limit. Nuclear evaluations only; no other
+/// charge is looked at.
+fn check_charge(kind: u8, centres: &[Centre; 4]) -> Result<(), Refusal> {
+    if kind == 2 && centres[2].charge > LARGEST_CHARGE {
+        return Err(refusal(17));
+    }
+    Ok(())
+}
+
+/// Evaluation after 7 and 14: 17, 8, 9, 10. 11 is for geometry, table and result.
 pub fn check_evaluation(
     header: &Header,
     centres: &[Centre; 4],
     aux: f64,
     boys: &[f64],
 ) -> Result<(), Refusal> {
+    check_charge(header.kind, centres)?;
     check_finite(header.kind, centres, &[aux])?;
     if boys.iter().any(|f| !f.is_finite()) {
         return Err(refusal(8));
@@ -157,6 +167,28 @@ pub fn check_evaluation(
         _ => 0,
     };
     if boys.len() != asked {
+        return Err(refusal(10));
+    }
+    Ok(())
+}
+
+/// A list of nuclei after 7 and 14: 1, 17, 8, 9, 10, each over all nuclei before the next. 11 is for
+/// geometry and table of each, and for the sum.
+pub fn check_nuclei(header: &Header, asked: &Nuclei) -> Result<(), Refusal> {
+    if header.kind != 2 {
+        return Err(refusal(1));
+    }
+    if asked.count < 1 || asked.count > MOST_NUCLEI {
+        return Err(refusal(17));
+    }
+    let each = || asked.list.iter().map(|nucleus| asked.centres(nucleus));
+    each().try_for_each(|centres| check_charge(2, &centres))?;
+    each().try_for_each(|centres| check_finite(2, &centres, &[asked.aux]))?;
+    if asked.boys.iter().any(|f| !f.is_finite()) {
+        return Err(refusal(8));
+    }
+    each().try_for_each(|centres| check_exponents(2, &centres))?;
+    if asked.boys.len() != asked.list.len() * (usize::from(header.l) + 1) {
         return Err(refusal(10));
     }
     Ok(())

@@ -32,6 +32,9 @@ impl Limits {
 
 pub const LONGEST_LISTED: usize = 65_536;
 pub const LARGEST_MATRIX: u64 = 16;
+/// Of a nucleus.
+pub const LARGEST_CHARGE: u32 = 118;
+pub const MOST_NUCLEI: u8 = 32;
 
 /// How many of the twelve orders a kind uses.
 pub fn orders_used(kind: u8) -> usize {

@@ -2,8 +2,8 @@
 //!
 //! Everything that os86.rs, shell.rs and basis.rs do not know stands here: limits and
 //! refusals, the roll in its two forms, the reader and the cursor, the moves, what is left of a
-//! damaged roll, the listing, the comparison of two rolls, the capped count of histories, the checks of an evaluation and the
-//! grouping of terms. Nothing here calls the unchanged Rust. The step rules, the geometry and the
+//! damaged roll, the listing, the comparison of two rolls, the capped count of histories, the checks of an evaluation, the
+//! grouping of terms, and the charges and lists of nuclei. Nothing here calls the unchanged Rust. The step rules, the geometry and the
 //! sums of J and K are here too, so that the two can be held against each other.
 
 mod census;
@@ -16,6 +16,7 @@ mod limits;
 mod listing;
 mod matrices;
 mod moves;
+mod nuclei;
 mod refusal;
 mod roll;
 mod salvage;
@@ -24,7 +25,7 @@ mod totals;
 
 pub use census::{facts, totals, Facts};
 pub use checks::{check_component, check_evaluation, check_grouping, check_matrices};
-pub use checks::{check_measured, check_request, check_results, check_room};
+pub use checks::{check_measured, check_nuclei, check_request, check_results, check_room};
 pub use checks::{check_shell, check_table, check_total, BYTES_OF_AN_ENTRY};
 pub use compare::{compared, Side};
 pub use form::{shared_length, Form};
@@ -34,6 +35,7 @@ pub use limits::{orders_used, table_size, Limits, BEFORE, NOW};
 pub use listing::listing;
 pub use matrices::j_and_k;
 pub use moves::moved;
+pub use nuclei::{sum_of_nuclei, value_of_nucleus};
 pub use refusal::{refusal, Refusal};
 pub use roll::{fresh_roll, measure, write_number, write_roll, write_roll_in};
 pub use roll::{read_number, Header, Step, Unread};
