@@ -57,13 +57,14 @@ use Rattle.geometry.specs.Floats.{zero}
 use Rattle.integrals.specs.declared.Value.{Value}
 use Rattle.integrals.specs.declared.Value.the-variants as value
 use Rattle.roll.specs.Reading.{rollAt}
+use Rattle.nuclei.specs.declared.Nuclei.{Nuclei}
+use Rattle.nuclei.specs.Nuclei.{nuclearOf}
 use Rattle.integrals.specs.Evaluation.{evaluateOf}
 use Rattle.grouping.specs.Evaluation.{ofRoll as groupedOfRoll, GroupedTold}
 use Rattle.grouping.specs.Restoring.{restoredOf}
 use Rattle.grouping.specs.declared.restoring.Restored.{Restored}
 use Rattle.jk.specs.declared.Answer.{Answer}
 use Rattle.jk.specs.Outcome.{Outcome, outcome, jkOf, refusalOf as jkRefusal}
-use Rattle.xewumbal.specs.declared.xew_centre.{«xew_centre»}
 use Rattle.xewumbal.specs.declared.xew_written.{«xew_written»}
 use Rattle.xewumbal.specs.declared.xew_value.{«xew_value»}
 use Rattle.xewumbal.specs.declared.xew_component.{«xew_component»}
@@ -83,11 +84,11 @@ use Rattle.xewumbal.specs.declared.xew_met.{«xew_met»}
 use Rattle.xewumbal.specs.declared.xew_restored.{«xew_restored»}
 use Rattle.xewumbal.specs.declared.xew_total.{«xew_total»}
 use Rattle.xewumbal.specs.declared.xew_scales.{«xew_scales»}
-use Rattle.xewumbal.specs.Answers.{ExpandCallTold, ListCallTold, GroupedCallTold, hostRestored, groupedTermAnswer, JkCallTold, centreIn, cursorIn, hostExpanded, hostListed, hostComponent, hostCursor, hostOpened, foundStep, hostStep, hostTotal, hostScales, hostTable, hostValue}
+use Rattle.xewumbal.specs.Answers.{ExpandCallTold, ListCallTold, GroupedCallTold, hostRestored, groupedTermAnswer, JkCallTold, cursorIn, hostExpanded, hostListed, hostComponent, hostCursor, hostOpened, foundStep, hostStep, hostTotal, hostScales, hostTable, hostValue}
 use Rattle.xewumbal.specs.Answers.{Expand2CallTold, ToForm2CallTold, ToForm1CallTold, cursor2In, hostCursor2, hostOpened2, foundStep2, hostStep2, hostMoved}
 use Rattle.xewumbal.specs.Answers.{afterCode, flagOf, hostSalvaged, SalvageCallTold}
 use Rattle.xewumbal.specs.Answers.{hostPair, pairIn, hostTerm, comparedBy, hostCompared, compareAnswer, metBy, hostMet, compareNextAnswer}
-use Rattle.xewumbal.specs.Answers.{measureAnswer, shell2Answer, shell4Answer, openAnswer, checkAnswer, nextAnswer, open2Answer, check2Answer, next2Answer, scaleTotalAnswer, rollTotalAnswer, prefactorsAnswer, evaluateAnswer}
+use Rattle.xewumbal.specs.Answers.{measureAnswer, shell2Answer, shell4Answer, openAnswer, checkAnswer, nextAnswer, open2Answer, check2Answer, next2Answer, scaleTotalAnswer, rollTotalAnswer, prefactorsAnswer, evaluateAnswer, nuclearAnswer}
 
 -- ---- the cases in fields
 
@@ -313,23 +314,20 @@ pub compare-next-answered : (p : «xew_pair») (left right : List ℕ) (below : 
 unfolding compareNextAnswer
 compare-next-answered p left right below m x at told is = is ∙ ap hostMet (told ∙ ap (λ (b : Pair). nextOf b left right) at)
 
-module _ (a b c d : «xew_centre») (p q r s : Centre) where
-  pub prefactors-answered : (kind : ℕ) (t : Table) (x : «xew_table») → p ≡ centreIn a → q ≡ centreIn b → r ≡ centreIn c → s ≡ centreIn d → t ≡ prefactorTableOf kind p q r s → x ≡ hostTable t → x ≡ prefactorsAnswer kind a b c d
-  unfolding prefactorsAnswer
-  prefactors-answered kind t x pa qb rc sd told is =
-      let same : t ≡ prefactorTableOf kind (centreIn a) (centreIn b) (centreIn c) (centreIn d) = cc (told, pa, qb, rc, sd) in
-      is ∙ ap hostTable same
+pub prefactors-answered : (kind : ℕ) (a b c d : Centre) (t : Table) (x : «xew_table») → t ≡ prefactorTableOf kind a b c d → x ≡ hostTable t → x ≡ prefactorsAnswer kind a b c d
+unfolding prefactorsAnswer
+prefactors-answered kind a b c d t x told is = is ∙ ap hostTable told
 
-  pub evaluate-answered : (roll : List ℕ) (aux : Float) (boys : List Float) (v : Value) (x : «xew_value») → p ≡ centreIn a → q ≡ centreIn b → r ≡ centreIn c → s ≡ centreIn d → v ≡ evaluateOf roll p q r s aux boys → x ≡ hostValue v → x ≡ evaluateAnswer roll a b c d aux boys
-  unfolding evaluateAnswer
-  evaluate-answered roll aux boys v x pa qb rc sd told is =
-      let same : v ≡ evaluateOf roll (centreIn a) (centreIn b) (centreIn c) (centreIn d) aux boys = cc (told, pa, qb, rc, sd) in
-      is ∙ ap hostValue same
+pub evaluate-answered : (roll : List ℕ) (a b c d : Centre) (aux : Float) (boys : List Float) (v : Value) (x : «xew_value») → v ≡ evaluateOf roll a b c d aux boys → x ≡ hostValue v → x ≡ evaluateAnswer roll a b c d aux boys
+unfolding evaluateAnswer
+evaluate-answered roll a b c d aux boys v x told is = is ∙ ap hostValue told
 
-pub grouped-answered : (a b c d : «xew_centre») (p q r s : Centre) (roll : List ℕ) (aux : Float) (boys : List Float) (before : List ℕ) (v : Value) (x : «xew_value») (after : List ℕ) → p ≡ centreIn a → q ≡ centreIn b → r ≡ centreIn c → s ≡ centreIn d → GroupedTold roll p q r s aux boys before v after → x ≡ hostValue v → GroupedCallTold roll a b c d aux boys before x after
-grouped-answered a b c d p q r s roll aux boys before v x after pa qb rc sd told is =
-    let same : v ≡ groupedOfRoll (rollAt roll) (length before) (centreIn a) (centreIn b) (centreIn c) (centreIn d) aux boys = cc (told .answer, pa, qb, rc, sd) in
-    record { answer = is ∙ ap hostValue same; buffer = told .buffer }
+pub nuclear-answered : (roll : List ℕ) (a b : Centre) (n : Nuclei) (aux : Float) (boys : List Float) (v : Value) (x : «xew_value») → v ≡ nuclearOf roll a b n aux boys → x ≡ hostValue v → x ≡ nuclearAnswer roll a b n aux boys
+unfolding nuclearAnswer
+nuclear-answered roll a b n aux boys v x told is = is ∙ ap hostValue told
+
+pub grouped-answered : (a b c d : Centre) (roll : List ℕ) (aux : Float) (boys : List Float) (before : List ℕ) (v : Value) (x : «xew_value») (after : List ℕ) → GroupedTold roll a b c d aux boys before v after → x ≡ hostValue v → GroupedCallTold roll a b c d aux boys before x after
+grouped-answered a b c d roll aux boys before v x after told is = record { answer = is ∙ ap hostValue (told .answer); buffer = told .buffer }
 
 pub grouped-term-answered : (grouping : List ℕ) (l terms number : ℕ) (r : Restored) (x : «xew_restored») → r ≡ restoredOf grouping l terms number → x ≡ hostRestored r → x ≡ groupedTermAnswer grouping l terms number
 unfolding groupedTermAnswer

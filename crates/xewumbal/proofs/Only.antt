@@ -13,8 +13,9 @@ use Rattle.form2.specs.Moves.{inForm1, inForm2, movedOf, outOf}
 use Rattle.salvaging.specs.Salvage.{salvagedOf, outOf as salvageOut}
 use Rattle.grouping.specs.Evaluation.{ofRoll as groupedOfRoll, bufferOf}
 use Rattle.jk.specs.Outcome.{jkOf, refusalOf as jkRefusal}
+use Rattle.geometry.specs.declared.Centre.{Centre}
+use Rattle.nuclei.specs.declared.Nuclei.{Nuclei}
 use Rattle.laws.proofs.Contract.{Alone, alone, Lent, _then_, _▸_, end}
-use Rattle.xewumbal.specs.declared.xew_centre.{«xew_centre»}
 use Rattle.xewumbal.specs.declared.xew_written.{«xew_written»}
 use Rattle.xewumbal.specs.declared.xew_cursor.{«xew_cursor»}
 use Rattle.xewumbal.specs.declared.xew_cursor2.{«xew_cursor2»}
@@ -23,7 +24,7 @@ use Rattle.xewumbal.specs.declared.xew_salvaged.{«xew_salvaged»}
 use Rattle.xewumbal.specs.declared.xew_pair.{«xew_pair»}
 use Rattle.xewumbal.specs.declared.xew_value.{«xew_value»}
 use Rattle.xewumbal.specs.Answers.{hostExpanded, hostListed, hostMoved, hostSalvaged, compareAnswer, compareNextAnswer, measureAnswer, shell2Answer, shell4Answer, openAnswer, checkAnswer, nextAnswer, open2Answer, check2Answer, next2Answer}
-use Rattle.xewumbal.specs.Answers.{scaleTotalAnswer, rollTotalAnswer, prefactorsAnswer, evaluateAnswer, groupedTermAnswer, hostValue, centreIn}
+use Rattle.xewumbal.specs.Answers.{scaleTotalAnswer, rollTotalAnswer, prefactorsAnswer, evaluateAnswer, nuclearAnswer, groupedTermAnswer, hostValue}
 use Rattle.xewumbal.proofs.xew_expand.Reads.{Post as Expand}
 use Rattle.xewumbal.proofs.xew_measure.Reads.{Post as Measure}
 use Rattle.xewumbal.proofs.xew_expand2.Reads.{Post as Expand2}
@@ -45,6 +46,7 @@ use Rattle.xewumbal.proofs.xew_scale_total.Reads.{Post as ScaleTotal}
 use Rattle.xewumbal.proofs.xew_roll_total.Reads.{Post as RollTotal}
 use Rattle.xewumbal.proofs.xew_prefactors.Reads.{Post as Prefactors}
 use Rattle.xewumbal.proofs.xew_evaluate.Reads.{Post as Evaluate}
+use Rattle.xewumbal.proofs.xew_nuclear.Reads.{Post as Nuclear}
 use Rattle.xewumbal.proofs.xew_evaluate_grouped.Reads.{Post as EvaluateGrouped}
 use Rattle.xewumbal.proofs.xew_grouped_term.Reads.{Post as GroupedTerm}
 use Rattle.xewumbal.proofs.xew_jk.Reads.{Post as Jk}
@@ -121,16 +123,20 @@ scale-total-only κs kind orders = alone (λ r p. p)
 pub roll-total-only : (κs : Lfts 1) (roll : Lent ℕ) → let g = roll ▸ end in Alone (λ r. RollTotal κs g r g) (rollTotalAnswer (roll .now))
 roll-total-only κs roll = alone (λ r p. p)
 
-pub prefactors-only : (kind : ℕ) (a b c d : «xew_centre») → let g = kind ▸ a ▸ b ▸ c ▸ d ▸ end in Alone (λ r. Prefactors tt g r g) (prefactorsAnswer kind a b c d)
+pub prefactors-only : (kind : ℕ) (a b c d : Centre) → let g = kind ▸ a ▸ b ▸ c ▸ d ▸ end in Alone (λ r. Prefactors tt g r g) (prefactorsAnswer kind a b c d)
 prefactors-only kind a b c d = alone (λ r p. p)
 
-pub evaluate-only : (κs : Lfts 2) (roll : Lent ℕ) (a b c d : «xew_centre») (aux : Float) (boys : Lent Float) →
+pub evaluate-only : (κs : Lfts 2) (roll : Lent ℕ) (a b c d : Centre) (aux : Float) (boys : Lent Float) →
     let g = roll ▸ a ▸ b ▸ c ▸ d ▸ aux ▸ boys ▸ end in Alone (λ r. Evaluate κs g r g) (evaluateAnswer (roll .now) a b c d aux (boys .now))
 evaluate-only κs roll a b c d aux boys = alone (λ r p. p)
 
-pub evaluate-grouped-only : (κs : Lfts 3) (roll : Lent ℕ) (a b c d : «xew_centre») (aux : Float) (boys : Lent Float) (buffer : Lent ℕ) →
+pub nuclear-only : (κs : Lfts 2) (roll : Lent ℕ) (a b : Centre) (nuclei : Nuclei) (aux : Float) (boys : Lent Float) →
+    let g = roll ▸ a ▸ b ▸ nuclei ▸ aux ▸ boys ▸ end in Alone (λ r. Nuclear κs g r g) (nuclearAnswer (roll .now) a b nuclei aux (boys .now))
+nuclear-only κs roll a b nuclei aux boys = alone (λ r p. p)
+
+pub evaluate-grouped-only : (κs : Lfts 3) (roll : Lent ℕ) (a b c d : Centre) (aux : Float) (boys : Lent Float) (buffer : Lent ℕ) →
     Alone {A = «xew_value» × List ℕ} (λ x. EvaluateGrouped κs (roll ▸ a ▸ b ▸ c ▸ d ▸ aux ▸ boys ▸ buffer ▸ end) (x .0) (roll ▸ a ▸ b ▸ c ▸ d ▸ aux ▸ boys ▸ buffer then (x .1) ▸ end))
-    (hostValue (groupedOfRoll (rollAt (roll .now)) (length (buffer .now)) (centreIn a) (centreIn b) (centreIn c) (centreIn d) aux (boys .now)), bufferOf (rollAt (roll .now)) (buffer .now))
+    (hostValue (groupedOfRoll (rollAt (roll .now)) (length (buffer .now)) a b c d aux (boys .now)), bufferOf (rollAt (roll .now)) (buffer .now))
 evaluate-grouped-only κs roll a b c d aux boys buffer = alone (λ x p i. (p .answer i, p .buffer i))
 
 pub grouped-term-only : (κs : Lfts 1) (grouping : Lent ℕ) (l terms number : ℕ) → let g = grouping ▸ l ▸ terms ▸ number ▸ end in Alone (λ r. GroupedTerm κs g r g) (groupedTermAnswer (grouping .now) l terms number)

@@ -51,12 +51,13 @@ use Rattle.geometry.specs.declared.Centre.{Centre}
 use Rattle.geometry.specs.declared.Table.{Table}
 use Rattle.geometry.specs.Checks.{prefactorTableOf, refusalOf as tableRefusal}
 use Rattle.integrals.specs.declared.Value.{Value}
+use Rattle.nuclei.specs.declared.Nuclei.{Nuclei}
+use Rattle.nuclei.specs.Nuclei.{nuclearOf}
 use Rattle.integrals.specs.Evaluation.{evaluateOf, floatOf, placeOf, refusalOf as valueRefusal}
 use Rattle.grouping.specs.Evaluation.{ofRoll as groupedOfRoll, bufferOf}
 use Rattle.grouping.specs.Restoring.{restoredOf}
 use Rattle.grouping.specs.declared.restoring.Restored.{Restored}
 use Rattle.jk.specs.Outcome.{jkOf, refusalOf as jkRefusal}
-use Rattle.xewumbal.specs.declared.xew_centre.{«xew_centre»}
 use Rattle.xewumbal.specs.declared.xew_written.{«xew_written»}
 use Rattle.xewumbal.specs.declared.xew_value.{«xew_value»}
 use Rattle.xewumbal.specs.declared.xew_component.{«xew_component»}
@@ -78,9 +79,6 @@ use Rattle.xewumbal.specs.declared.xew_total.{«xew_total»}
 use Rattle.xewumbal.specs.declared.xew_scales.{«xew_scales»}
 
 -- ---- what the host hands in
-
-abbrev pub centreIn : «xew_centre» → Centre
-centreIn c = record { x = c .x; y = c .y; z = c .z; exponent = c .exponent }
 
 abbrev pub cursorIn : «xew_cursor» → Cursor
 cursorIn c = record { place = c .place; left = c .left; kind = c .kind; l = c .l }
@@ -309,21 +307,26 @@ rollTotalAnswer roll = hostScales (rollTotalOf roll)
 abbrev pub hostTable : Table → «xew_table»
 hostTable t = record { entries = t .entries; refusal = tableRefusal (t .found) }
 
-unfoldable pub prefactorsAnswer : ℕ → «xew_centre» → «xew_centre» → «xew_centre» → «xew_centre» → «xew_table»
-prefactorsAnswer kind a b c d = hostTable (prefactorTableOf kind (centreIn a) (centreIn b) (centreIn c) (centreIn d))
+unfoldable pub prefactorsAnswer : ℕ → Centre → Centre → Centre → Centre → «xew_table»
+prefactorsAnswer kind a b c d = hostTable (prefactorTableOf kind a b c d)
 
 -- ---- xew_evaluate: the integral, and a refusal with its place
 
 abbrev pub hostValue : Value → «xew_value»
 hostValue v = record { value = floatOf v; place = placeOf v; refusal = valueRefusal v }
 
-unfoldable pub evaluateAnswer : List ℕ → «xew_centre» → «xew_centre» → «xew_centre» → «xew_centre» → Float → List Float → «xew_value»
-evaluateAnswer roll a b c d aux boys = hostValue (evaluateOf roll (centreIn a) (centreIn b) (centreIn c) (centreIn d) aux boys)
+unfoldable pub evaluateAnswer : List ℕ → Centre → Centre → Centre → Centre → Float → List Float → «xew_value»
+evaluateAnswer roll a b c d aux boys = hostValue (evaluateOf roll a b c d aux boys)
+
+-- ---- xew_nuclear: the same of a list of nuclei
+
+unfoldable pub nuclearAnswer : List ℕ → Centre → Centre → Nuclei → Float → List Float → «xew_value»
+nuclearAnswer roll a b nuclei aux boys = hostValue (nuclearOf roll a b nuclei aux boys)
 
 -- ---- xew_evaluate_grouped: the same of an evaluation that is lent a grouping buffer, and what the buffer then holds
 
-pub record GroupedCallTold (roll : List ℕ) (a b c d : «xew_centre») (aux : Float) (boys : List Float) (before : List ℕ) (r : «xew_value») (after : List ℕ) : Type 0 where
-  pub answer : r ≡ hostValue (groupedOfRoll (rollAt roll) (length before) (centreIn a) (centreIn b) (centreIn c) (centreIn d) aux boys)
+pub record GroupedCallTold (roll : List ℕ) (a b c d : Centre) (aux : Float) (boys : List Float) (before : List ℕ) (r : «xew_value») (after : List ℕ) : Type 0 where
+  pub answer : r ≡ hostValue (groupedOfRoll (rollAt roll) (length before) a b c d aux boys)
   pub buffer : after ≡ bufferOf (rollAt roll) before
 
 -- ---- xew_grouped_term: the term with a number, and a refusal with its place

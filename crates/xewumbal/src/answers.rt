@@ -1,10 +1,9 @@
 // The structs of the exported functions from those of the crates below, and back.
 ghost use mathlib.Core.Path.{_≡_};
 ghost use Rattle.jk.specs.Outcome.{refusalOf};
-ghost use Rattle.xewumbal.specs.Answers.{centreIn, cursorIn, cursor2In, hostExpanded, hostListed, hostComponent, hostCursor, hostOpened, foundStep, hostStep};
+ghost use Rattle.xewumbal.specs.Answers.{cursorIn, cursor2In, hostExpanded, hostListed, hostComponent, hostCursor, hostOpened, foundStep, hostStep};
 ghost use Rattle.xewumbal.specs.Answers.{hostCursor2, hostOpened2, foundStep2, hostStep2, hostMoved, afterCode, hostSalvaged, hostTotal, hostScales, hostTable, hostValue, hostRestored};
 ghost use Rattle.xewumbal.specs.Answers.{pairIn, hostPair, hostTerm, flagOf, comparedBy, hostCompared, metBy, hostMet};
-use crate::xew_centre;
 use crate::xew_compared;
 use crate::xew_component;
 use crate::xew_cursor;
@@ -34,7 +33,6 @@ use form2::Cursor2;
 use form2::Moved;
 use form2::Opened2;
 use form2::Step2;
-use geometry::Centre;
 use geometry::Table;
 use grouping::Restored;
 use integrals::Value;
@@ -51,17 +49,6 @@ use shell::Listed;
 use term::Term;
 use totals::RollTotal;
 use totals::Total;
-
-pub(crate) fn centre(c: xew_centre) -> Centre
-    ensures { λ r. ⌜ r ≡ centreIn c ⌝ }
-{
-    Centre {
-        x: c.x,
-        y: c.y,
-        z: c.z,
-        exponent: c.exponent,
-    }
-}
 
 pub(crate) fn cursor_in(c: xew_cursor) -> Cursor
     ensures { λ r. ⌜ r ≡ cursorIn c ⌝ }

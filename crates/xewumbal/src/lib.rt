@@ -5,19 +5,15 @@ mod answers;
 ghost use mathlib.Core.Path.{_≡_};
 ghost use Rattle.xewumbal.specs.Answers.{ExpandCallTold, Expand2CallTold, ListCallTold, ToForm2CallTold, ToForm1CallTold, SalvageCallTold, GroupedCallTold, JkCallTold};
 ghost use Rattle.xewumbal.specs.Answers.{measureAnswer, shell2Answer, shell4Answer, openAnswer, checkAnswer, nextAnswer, open2Answer, check2Answer, next2Answer, compareAnswer, compareNextAnswer};
-ghost use Rattle.xewumbal.specs.Answers.{scaleTotalAnswer, rollTotalAnswer, prefactorsAnswer, evaluateAnswer, groupedTermAnswer};
+ghost use Rattle.xewumbal.specs.Answers.{scaleTotalAnswer, rollTotalAnswer, prefactorsAnswer, evaluateAnswer, nuclearAnswer, groupedTermAnswer};
 use kind::Kind;
 
 // Raised when a struct, a meaning or an answer changes. The header and the binding have the same (D-85).
-pub const VERSION: u32 = 2;
+pub const VERSION: u32 = 3;
 
-#[repr(C)]
-pub struct xew_centre {
-    pub x: f64,
-    pub y: f64,
-    pub z: f64,
-    pub exponent: f64,
-}
+// Centres and lists of them go in as the crates below have them.
+pub type xew_centre = geometry::Centre;
+pub type xew_nuclei = nuclei::Nuclei;
 
 #[repr(C)]
 pub struct xew_written {
@@ -349,10 +345,10 @@ pub extern "C" fn xew_prefactors(
 {
     answers::table(geometry::prefactors(
         kind,
-        answers::centre(a),
-        answers::centre(b),
-        answers::centre(c),
-        answers::centre(d),
+        a,
+        b,
+        c,
+        d,
     ))
 }
 
@@ -370,13 +366,27 @@ pub extern "C" fn xew_evaluate(
 {
     answers::value(integrals::evaluate(
         roll,
-        answers::centre(a),
-        answers::centre(b),
-        answers::centre(c),
-        answers::centre(d),
+        a,
+        b,
+        c,
+        d,
         aux,
         boys,
     ))
+}
+
+#[no_mangle]
+pub extern "C" fn xew_nuclear(
+    roll: &[u8],
+    a: xew_centre,
+    b: xew_centre,
+    nuclei: xew_nuclei,
+    aux: f64,
+    boys: &[f64],
+) -> xew_value
+    ensures { λ r. ⌜ r ≡ nuclearAnswer (now (roll .entry)) a b nuclei aux (now (boys .entry)) ⌝ }
+{
+    answers::value(nuclei::nuclear(roll, a, b, nuclei, aux, boys))
 }
 
 #[no_mangle]
@@ -392,11 +402,7 @@ pub extern "C" fn xew_evaluate_grouped(
 ) -> xew_value
     ensures { λ r. ⌜ GroupedCallTold (now (roll .entry)) a b c d aux (now (boys .entry)) (now (buffer .entry)) r (now (buffer .exit)) ⌝ }
 {
-    let p = answers::centre(a);
-    let q = answers::centre(b);
-    let r = answers::centre(c);
-    let s = answers::centre(d);
-    answers::value(grouping::evaluate_grouped(roll, p, q, r, s, aux, boys, buffer))
+    answers::value(grouping::evaluate_grouped(roll, a, b, c, d, aux, boys, buffer))
 }
 
 #[no_mangle]

@@ -4,18 +4,6 @@ use borrow.Author.Needs.{needs}
 use Rattle.xewumbal.proofs.xew_prefactors.Statement.{statement}
 use Rattle.xewumbal.proofs.xew_prefactors.Tie as tie
 
-centre-requires : tie.Need-centre-requires
-centre-requires c κs = search needs
-
-centre-requires-2 : tie.Need-centre-requires-2
-centre-requires-2 c κs = search needs
-
-centre-requires-3 : tie.Need-centre-requires-3
-centre-requires-3 c κs = search needs
-
-centre-requires-4 : tie.Need-centre-requires-4
-centre-requires-4 c κs = search needs
-
 prefactors-requires : tie.Need-prefactors-requires
 prefactors-requires c κs = search needs
 
@@ -29,10 +17,6 @@ pub xew-prefactors-spec : {M : Type 1} → statement M
 xew-prefactors-spec =
     tie.close
     (tie.spec
-    centre-requires
-    centre-requires-2
-    centre-requires-3
-    centre-requires-4
     prefactors-requires
     table-requires
     returns)
