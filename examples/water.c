@@ -12,8 +12,7 @@ enum { ATOMS = 3, FUNCTIONS = 7, PRIMITIVES = 3, MOST_L = 4, LEAST_VALUES = 12 }
 static const double expected[] = {
 #include "expected.txt"
 };
-static const double charges[ATOMS] = {8, 1, 1};
-static const xew_centre atoms[ATOMS] = {{0.2, -0.1, 0.3, 0}, {1.6, 1.0, 0.6, 0}, {-1.2, 1.0, -0.1, 0}}; /* in bohr */
+static const xew_nuclei atoms = {{{0.2, -0.1, 0.3, 0, 8}, {1.6, 1.0, 0.6, 0, 1}, {-1.2, 1.0, -0.1, 0, 1}}, ATOMS}; /* in bohr */
 
 #define O1 {130.7093200, 23.8088610, 6.4436083}
 #define O2 {5.0331513, 1.1695961, 0.3803890}
@@ -34,15 +33,21 @@ static const struct {
 static void accept(uint8_t refusal, size_t place)
 {
     static const char *const words[] = {
-        "", "kind above 4", "an order sum the kind uses, or a shell's order, above 6",
-        "one of the twelve orders unused by the kind is not 0", "more than 1,048,575 complete histories",
-        "start place beyond the buffer's end",
-        "the whole output doesn't fit from the start place, or the listing's input is over 65,536 bytes",
-        "roll breaks a rule below; carries the place", "a used input float is not finite",
-        "a used exponent is 0 or less", "Boys numbers are not exactly L+1 (kinds 2, 4) or 0 (others)",
-        "a geometry number, table entry or result is not finite",
-        "matrix size out of range, or a slice length wrong for it", "component number not below the count",
-        "the roll ends before a number does; carries the place",
+        [1] = "kind above 4, or a roll of another kind than the call takes",
+        [2] = "an order sum the kind uses, or a shell's order, above 6",
+        [3] = "one of the twelve orders unused by the kind is not 0",
+        [4] = "more than 1,048,575 complete histories",
+        [5] = "start place beyond the buffer's end",
+        [6] = "the whole output doesn't fit from the start place, or the listing's input is over 65,536 bytes",
+        [7] = "roll breaks a rule below; carries the place",
+        [8] = "a used input float is not finite",
+        [9] = "a used exponent is 0 or less",
+        [10] = "Boys numbers are not exactly L+1 (kinds 2, 4; for each nucleus of a list) or 0 (others)",
+        [11] = "a geometry number, table entry or result is not finite",
+        [12] = "matrix size out of range, or a slice length wrong for it",
+        [13] = "component number not below the count",
+        [14] = "the roll ends before a number does; carries the place",
+        [17] = "a nucleus' charge is above 118, or a list is not of 1 to 32 nuclei",
     };
     if (refusal == 0) return;
     fprintf(stderr, "water: refused %d, place %zu: %s\n", refusal, place, words[refusal]);
@@ -73,27 +78,33 @@ static xew_centre product(xew_centre a, xew_centre b, double *overlap)
 {
     double z = a.exponent + b.exponent, u = a.exponent / z, v = b.exponent / z;
     *overlap = exp(-u * b.exponent * squared_distance(a, b)) * PI / z * sqrt(PI / z);
-    return (xew_centre){u * a.x + v * b.x, u * a.y + v * b.y, u * a.z + v * b.z, z};
+    return (xew_centre){u * a.x + v * b.x, u * a.y + v * b.y, u * a.z + v * b.z, z, 0};
 }
 
-/* One integral over primitives, by the roll of its orders. A Coulomb roll's terms are grouped in the buffer and summed
- * in one pass; for other kinds it is not looked at. */
+/* One integral over primitives, by the roll of its orders; the nuclear one is that of all atoms, with their charges. A Coulomb
+ * roll's terms are grouped in the buffer and summed in one pass; for other kinds it is not looked at. */
 static double primitive(int kind, const uint8_t *roll, size_t length, const xew_centre c[4], int l, uint8_t *buffer,
                         size_t room)
 {
-    double boys[MOST_L + 1], aux, other;
+    double boys[ATOMS * (MOST_L + 1)], aux, other;
     xew_centre p = product(c[0], c[1], &aux);
+    xew_value answer;
     if (kind == NUCLEAR) {
-        boys_numbers(l, p.exponent * squared_distance(p, c[2]), boys);
+        for (int a = 0; a < ATOMS; a++)
+            boys_numbers(l, p.exponent * squared_distance(p, atoms.centres[a]), boys + a * (l + 1));
         aux *= -2 * sqrt(p.exponent / PI);
-    } else if (kind == COULOMB) {
+        answer = xew_nuclear(roll, length, c[0], c[1], atoms, aux, boys, ATOMS * (l + 1));
+        accept(answer.refusal, answer.place);
+        return answer.value;
+    }
+    if (kind == COULOMB) {
         xew_centre q = product(c[2], c[3], &other);
         double rho = p.exponent * q.exponent / (p.exponent + q.exponent);
         boys_numbers(l, rho * squared_distance(p, q), boys);
         aux *= 2 * sqrt(rho / PI) * other;
     }
-    size_t count = kind == NUCLEAR || kind == COULOMB ? l + 1 : 0;
-    xew_value answer = xew_evaluate_grouped(roll, length, c[0], c[1], c[2], c[3], aux, boys, count, buffer, room);
+    size_t count = kind == COULOMB ? l + 1 : 0;
+    answer = xew_evaluate_grouped(roll, length, c[0], c[1], c[2], c[3], aux, boys, count, buffer, room);
     accept(answer.refusal, answer.place);
     return answer.value;
 }
@@ -122,16 +133,12 @@ static double integral(int kind, const int *f, int count)
         xew_centre c[4] = {{0}};
         double factor = 1;
         for (int i = 0, rest = choice; i < count; i++, rest /= PRIMITIVES) {
-            c[i] = atoms[basis[f[i]].atom];
+            c[i] = atoms.centres[basis[f[i]].atom];
             double exponent = c[i].exponent = basis[f[i]].exponents[rest % PRIMITIVES];
             factor *= basis[f[i]].coefficients[rest % PRIMITIVES] * pow(2 * exponent / PI, 0.75);
             if (basis[f[i]].axis >= 0) factor *= 2 * sqrt(exponent);
         }
-        for (int a = 0; a < (kind == NUCLEAR ? ATOMS : 1); a++) {
-            if (kind == NUCLEAR) c[2] = atoms[a];
-            double value = primitive(kind, roll, moved.length, c, l, buffer, room);
-            sum += factor * (kind == NUCLEAR ? charges[a] : 1) * value;
-        }
+        sum += factor * primitive(kind, roll, moved.length, c, l, buffer, room);
     }
     free(roll);
     free(buffer);

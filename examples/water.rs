@@ -9,7 +9,7 @@ const LEAST_VALUES: usize = 12;
 const NAMES: [&str; KINDS as usize] = ["overlap", "kinetic", "nuclear", "moment", "coulomb"];
 
 /// Charge, then the place in bohr.
-const ATOMS: [(f64, [f64; 3]); 3] = [(8.0, [0.2, -0.1, 0.3]), (1.0, [1.6, 1.0, 0.6]), (1.0, [-1.2, 1.0, -0.1])];
+const ATOMS: [(u32, [f64; 3]); 3] = [(8, [0.2, -0.1, 0.3]), (1, [1.6, 1.0, 0.6]), (1, [-1.2, 1.0, -0.1])];
 
 struct Function {
     name: &'static str,
@@ -63,7 +63,7 @@ fn product(a: Centre, b: Centre) -> (Centre, f64) {
     let z = a.exponent + b.exponent;
     let (u, v) = (a.exponent / z, b.exponent / z);
     let overlap = (-u * b.exponent * squared_distance(a, b)).exp() * PI / z * (PI / z).sqrt();
-    (Centre { x: u * a.x + v * b.x, y: u * a.y + v * b.y, z: u * a.z + v * b.z, exponent: z }, overlap)
+    (Centre { x: u * a.x + v * b.x, y: u * a.y + v * b.y, z: u * a.z + v * b.z, exponent: z, charge: 0 }, overlap)
 }
 
 /// One integral over primitives, by the roll of its orders.
@@ -108,7 +108,7 @@ fn integral(kind: u8, functions: &[&Function]) -> Result<f64, Refusal> {
         let (mut c, mut factor, mut rest) = ([Centre::default(); 4], 1.0, choice);
         for (f, centre) in functions.iter().zip(&mut c) {
             let (exponent, [x, y, z]) = (f.exponents[rest % 3], ATOMS[f.atom].1);
-            *centre = Centre { x, y, z, exponent };
+            *centre = Centre { x, y, z, exponent, charge: 0 };
             factor *= f.coefficients[rest % 3] * (2.0 * exponent / PI).powf(0.75);
             factor *= if f.orders == [0, 0, 0] { 1.0 } else { 2.0 * exponent.sqrt() };
             rest /= 3;
@@ -118,8 +118,8 @@ fn integral(kind: u8, functions: &[&Function]) -> Result<f64, Refusal> {
             continue;
         }
         for (charge, [x, y, z]) in ATOMS {
-            c[2] = Centre { x, y, z, exponent: 0.0 };
-            sum += factor * charge * primitive(kind, roll, c, l)?;
+            c[2] = Centre { x, y, z, exponent: 0.0, charge };
+            sum += factor * primitive(kind, roll, c, l)?; // the charge is in the value
         }
     }
     Ok(sum)

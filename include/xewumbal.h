@@ -11,7 +11,7 @@
  * output itself change. Where several refusals apply, the one told is the first in the order that stands at the call; 7
  * and 14 never apply to one roll at once.
  *
- *    1  kind above 4
+ *    1  kind above 4, or a roll of another kind than the call takes
  *    2  an order sum the kind uses, or a shell's order, above 6
  *    3  one of the twelve orders unused by the kind is not 0
  *    4  more than 1,048,575 complete histories
@@ -20,14 +20,15 @@
  *    7  roll breaks a rule below; carries the place
  *    8  a used input float is not finite
  *    9  a used exponent is 0 or less
- *   10  Boys numbers are not exactly L+1 (kinds 2, 4) or 0 (others)
+ *   10  Boys numbers are not exactly L+1 (kinds 2, 4; for each nucleus of a list) or 0 (others)
  *   11  a geometry number, table entry or result is not finite
  *   12  matrix size out of range, or a slice length wrong for it
  *   13  component number not below the count
  *   14  the roll ends before a number does; carries the place
+ *   17  a nucleus' charge is above 118, or a list is not of 1 to 32 nuclei
  *
- * These are the words of docs/01-scope.md, which has the rules of a roll, for 14 of docs/requests/Q-5.md and for 2 and 4
- * of docs/requests/Q-6.md, which has the limits; the listing is not exported.
+ * These are the words of docs/01-scope.md, which has the rules of a roll, for 14 of docs/requests/Q-5.md, for 2 and 4
+ * of docs/requests/Q-6.md, which has the limits, and for 1, 10 and 17 of docs/requests/Q-10.md; the listing is not exported.
  *
  * Kinds: 0 overlap, 1 kinetic, 2 nuclear, 3 moment, 4 Coulomb. Orders stand by centre, x y z each: A, B; for kind 3
  * then the operator; for kind 4 then C, D. L is the sum of all orders. docs/01-scope.md defines terms and rolls.
@@ -49,7 +50,7 @@ extern "C" {
 #endif
 
 /* Raised when a struct, a meaning or an answer changes. */
-#define XEW_VERSION 2
+#define XEW_VERSION 3
 
 #define XEW_KINDS 5               /* kinds are 0 to 4 */
 #define XEW_ORDERS 12             /* orders of a request */
@@ -61,11 +62,21 @@ extern "C" {
 #define XEW_PREFACTORS 24         /* places for a term's prefactors */
 #define XEW_ENTRY 40              /* bytes of a grouping buffer for each term */
 #define XEW_TABLE 23              /* places for a table's entries: 8, 11, 11, 12 or 23 of them by kind */
+#define XEW_MOST_CHARGE 118       /* charge of a nucleus */
+#define XEW_MOST_NUCLEI 32        /* nuclei of a list */
 
-/* A centre. Kinds 0 and 1 use A and B; 2 and 3 also C's coordinates; 4 uses A to D. Unused floats are not looked at. */
+/* A centre. Kinds 0 and 1 use A and B; 2 and 3 also C's coordinates; 4 uses A to D. Unused floats are not looked at. Only a
+ * nucleus' charge is looked at, C's in kind 2; every other charge may hold anything. */
 typedef struct {
     double x, y, z, exponent;
+    uint32_t charge;
 } xew_centre;
+
+/* A list of nuclei: its first count centres. What lies beyond the count, and a nucleus' exponent, is not looked at. */
+typedef struct {
+    xew_centre centres[XEW_MOST_NUCLEI];
+    uint32_t count;
+} xew_nuclei;
 
 /* What was written from the start place on, or measured: its bytes, and the terms of a roll or the triples of a shell
  * list. */
@@ -294,13 +305,22 @@ xew_scales xew_roll_total(const uint8_t *roll, size_t roll_len);
 xew_table xew_prefactors(uint8_t kind, xew_centre a, xew_centre b, xew_centre c, xew_centre d);
 
 /* The integral over a roll, which is judged whole first. aux is the factor of every term (Coulomb: s); boys are F(0) to
- * F(L) for kinds 2 and 4, and none for the others. Refusals: 7 or 14, 8, 9, 10, 11. */
+ * F(L) for kinds 2 and 4, and none for the others. The nuclear value is C's charge times the integral, so charge 0 times an
+ * integral below 0 is -0.0. Refusals: 7 or 14, 17 (kind 2), 8, 9, 10, 11. */
 xew_value xew_evaluate(const uint8_t *roll, size_t roll_len, xew_centre a, xew_centre b, xew_centre c, xew_centre d,
                        double aux, const double *boys, size_t boys_len);
 
-/* The same integral, bit for bit, lent a buffer in which a Coulomb roll's terms are grouped by Boys order and then summed
+/* The nuclear values of a list of nuclei, added up from 0.0 in list order, each its charge times the integral; so the total
+ * of one nucleus is 0.0 plus what xew_evaluate gives with it as C, and a total is that of all but the last nucleus plus the
+ * last one's value. The roll is judged once. One aux serves all nuclei; the Boys numbers follow one another, F(0) to F(L) for
+ * each nucleus. Refusals: 7 or 14; 1 for a roll of another kind than nuclear; 17, 8, 9, 10, 11, each for all nuclei before the
+ * next. */
+xew_value xew_nuclear(const uint8_t *roll, size_t roll_len, xew_centre a, xew_centre b, xew_nuclei nuclei, double aux,
+                      const double *boys, size_t boys_len);
+
+/* The same integral as xew_evaluate's, bit for bit, lent a buffer in which a Coulomb roll's terms are grouped by Boys order and then summed
  * in one pass: for large rolls it is quicker. The buffer needs XEW_ENTRY bytes for each term of a Coulomb roll; for other
- * kinds it is not looked at. Refusals: 7 or 14; for a Coulomb roll 6 when the buffer is shorter; then 8, 9, 10, 11. Once 6
+ * kinds it is not looked at. Refusals: 7 or 14; for a Coulomb roll 6 when the buffer is shorter; then 17 (kind 2), 8, 9, 10, 11. Once 6
  * is passed the grouping stands in the front of the buffer and stays there whatever is answered: the one case in which a
  * refusal changes lent bytes. It takes at most XEW_ENTRY bytes a term; everything behind it is as it was. An entry is the
  * term's number in the roll, counted from 1, as a number of a roll, then the term as the roll has it; the groups stand in

@@ -13,7 +13,7 @@ pub struct Numbers {
 
 impl Numbers {
     pub fn of(request: &Request) -> Numbers {
-        let centre = |x, y, z, exponent| Centre { x, y, z, exponent };
+        let centre = |x, y, z, exponent| Centre { x, y, z, exponent, charge: 1 };
         let centres = [
             centre(0.1, -0.2, 0.3, 1.1),
             centre(0.7, 0.4, -0.5, 0.9),

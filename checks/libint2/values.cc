@@ -99,13 +99,13 @@ struct HostNumbers {
     Values boys;
 };
 
-// What a host gives for these centres. For the nuclear kind the third is the nucleus, and aux holds minus its charge.
-HostNumbers host_numbers(Kind kind, int l, const std::array<xew_centre, 4> &at, double charge) {
+// What a host gives for these centres. For the nuclear kind the third is the nucleus, which has its charge.
+HostNumbers host_numbers(Kind kind, int l, const std::array<xew_centre, 4> &at) {
     const Product p = product(at[0], at[1]);
     const Real s = p.factor * std::pow(pi / p.exponent, 1.5L);
     if (kind == overlap || kind == kinetic) return {static_cast<double>(s), {}};
     if (kind == nuclear) {
-        const Real aux = -charge * 2 * std::sqrt(p.exponent / pi) * s;
+        const Real aux = -2 * std::sqrt(p.exponent / pi) * s;
         return {static_cast<double>(aux), boys(l, p.exponent * squared_distance(p.centre, point(at[2])))};
     }
     const Product q = product(at[2], at[3]);
@@ -223,13 +223,13 @@ void compare(Kind kind, libint2::Engine &engine, const Shells &s, const Atom *nu
         at[i] = s[i]->ours;
     }
     if (nucleus) {
-        at[2] = {nucleus->x, nucleus->y, nucleus->z, 0.0};
+        at[2] = {nucleus->x, nucleus->y, nucleus->z, 0.0, static_cast<uint32_t>(nucleus->charge)};
         engine.set_params(std::vector<std::pair<double, std::array<double, 3>>>{
             {nucleus->charge, {{nucleus->x, nucleus->y, nucleus->z}}}});
     }
     const bool zero = one_centre && l % 2 == 1;
 
-    const HostNumbers host = host_numbers(kind, l, at, nucleus ? nucleus->charge : 0.0);
+    const HostNumbers host = host_numbers(kind, l, at);
     Values theirs = their_values(engine, s);
     const double scale = zero ? schwarz(engine, s) : largest(theirs);
     Row &row = rows[kind][l];

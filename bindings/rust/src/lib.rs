@@ -14,7 +14,7 @@
 //!     Expanded::Roll { length, .. } => length,
 //!     Expanded::Refused(refusal) => panic!("refused {}: {refusal}", refusal.number()),
 //! };
-//! let a = Centre { x: 0.0, y: 0.0, z: 0.0, exponent: 1.0 };
+//! let a = Centre { x: 0.0, y: 0.0, z: 0.0, exponent: 1.0, charge: 0 };
 //! let none = Centre::default();
 //! assert_eq!(evaluate(&room[..length], a, a, none, none, 1.0, &[]), Value::Is(0.25));
 //! ```
@@ -26,11 +26,11 @@ mod raw;
 #[allow(missing_docs)]
 mod refusal;
 
-pub use raw::{Centre, Cursor, Cursor2, Pair};
+pub use raw::{Centre, Cursor, Cursor2, Nuclei, Pair};
 pub use refusal::Refusal;
 
 /// The version of include/xewumbal.h.
-pub const VERSION: u32 = 2;
+pub const VERSION: u32 = 3;
 
 /// Kinds are 0 to 4.
 pub const KINDS: u8 = 5;
@@ -52,6 +52,10 @@ pub const PREFACTORS: usize = 24;
 pub const ENTRY: usize = 40;
 /// The places for a table's entries: 8, 11, 11, 12 or 23 of them by kind.
 pub const TABLE: usize = 23;
+/// The charge of a nucleus.
+pub const MOST_CHARGE: u32 = 118;
+/// The nuclei of a list.
+pub const MOST_NUCLEI: usize = 32;
 
 /// Kind 0.
 pub const OVERLAP: u8 = 0;
@@ -251,12 +255,12 @@ pub enum Table {
     Refused(Refusal),
 }
 
-/// The answer of [`evaluate`] and [`evaluate_grouped`].
+/// The answer of [`evaluate`], [`nuclear`] and [`evaluate_grouped`].
 #[derive(Clone, Copy, Debug, PartialEq)]
 pub enum Value {
     /// The integral.
     Is(f64),
-    /// By 7 or 14, 8, 9, 10 or 11; of [`evaluate_grouped`] after 7 and 14 also by 6.
+    /// By 7 or 14, 17 (kind 2), 8, 9, 10 or 11; of [`evaluate_grouped`] after 7 and 14 also by 6, of [`nuclear`] by 1.
     Refused(Refusal),
 }
 
@@ -494,7 +498,7 @@ pub fn prefactors(kind: u8, a: Centre, b: Centre, c: Centre, d: Centre) -> Table
 }
 
 /// The integral over a roll, which is judged whole first. `aux` is the factor of every term (Coulomb: s); `boys` are
-/// F(0) to F(L) for kinds 2 and 4, and none for the others.
+/// F(0) to F(L) for kinds 2 and 4, and none for the others. The nuclear value is C's charge times the integral.
 pub fn evaluate(roll: &[u8], a: Centre, b: Centre, c: Centre, d: Centre, aux: f64, boys: &[f64]) -> Value {
     let answer = raw::evaluate(roll, a, b, c, d, aux, boys);
     match Refusal::of(answer.refusal, answer.place) {
@@ -503,7 +507,17 @@ pub fn evaluate(roll: &[u8], a: Centre, b: Centre, c: Centre, d: Centre, aux: f6
     }
 }
 
-/// The same integral, bit for bit, lent a buffer in which a Coulomb roll's terms are grouped by Boys order and then summed in
+/// The nuclear values of a list of nuclei, added up from 0.0 in list order, each its charge times the integral. The roll is
+/// judged once, one `aux` serves all nuclei, and their Boys numbers follow one another, F(0) to F(L) for each.
+pub fn nuclear(roll: &[u8], a: Centre, b: Centre, nuclei: Nuclei, aux: f64, boys: &[f64]) -> Value {
+    let answer = raw::nuclear(roll, a, b, nuclei, aux, boys);
+    match Refusal::of(answer.refusal, answer.place) {
+        Some(refusal) => Value::Refused(refusal),
+        None => Value::Is(answer.value),
+    }
+}
+
+/// The same integral as [`evaluate`]'s, bit for bit, lent a buffer in which a Coulomb roll's terms are grouped by Boys order and then summed in
 /// one pass. The buffer needs [`ENTRY`] bytes for each term of a Coulomb roll, else the roll is refused 6 once it has been
 /// read; for other kinds it is not looked at. Once 6 is passed the grouping stays in the front of the buffer, whatever is
 /// answered; everything behind it is as it was.

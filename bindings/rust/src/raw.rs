@@ -1,10 +1,10 @@
 //! The structs and functions of include/xewumbal.h, and every `unsafe` of the crate: each function here lends slices as
 //! a pointer and a length, and the library reads and writes within them, during the call alone.
-use crate::{ORDERS, PREFACTORS, TABLE};
+use crate::{MOST_NUCLEI, ORDERS, PREFACTORS, TABLE};
 use core::mem::size_of;
 
-/// A centre: three coordinates and an exponent. Kinds 0 and 1 use A and B; 2 and 3 also C's coordinates; 4 uses A to D.
-/// Unused floats are not looked at.
+/// A centre: three coordinates, an exponent and a charge. Kinds 0 and 1 use A and B; 2 and 3 also C's coordinates; 4 uses A to
+/// D. Unused floats are not looked at, and only a nucleus' charge is, C's in kind 2.
 #[repr(C)]
 #[derive(Clone, Copy, Debug, Default, PartialEq)]
 pub struct Centre {
@@ -12,6 +12,15 @@ pub struct Centre {
     pub y: f64,
     pub z: f64,
     pub exponent: f64,
+    pub charge: u32,
+}
+
+/// A list of nuclei: its first `count` centres. What lies beyond the count, and a nucleus' exponent, is not looked at.
+#[repr(C)]
+#[derive(Clone, Copy, Debug, Default, PartialEq)]
+pub struct Nuclei {
+    pub centres: [Centre; MOST_NUCLEI],
+    pub count: u32,
 }
 
 /// Where a reader of a roll stands: the place of the next term, the terms left, the roll's kind and its L. `open` and
@@ -190,7 +199,7 @@ pub struct Scales {
 }
 
 // The sizes that a C compiler gives the structs.
-const _: () = assert!(size_of::<Centre>() == 32 && size_of::<Cursor>() == 16);
+const _: () = assert!(size_of::<Centre>() == 40 && size_of::<Nuclei>() == 1288 && size_of::<Cursor>() == 16);
 const _: () = assert!(size_of::<Written>() == 16 && size_of::<Value>() == 24);
 const _: () = assert!(size_of::<Component>() == 13 && size_of::<Table>() == 192);
 const _: () = assert!(size_of::<Opened>() == 40 && size_of::<Step>() == 56);
@@ -225,6 +234,8 @@ extern "C" {
     fn xew_prefactors(kind: u8, a: Centre, b: Centre, c: Centre, d: Centre) -> Table;
     fn xew_evaluate(roll: *const u8, roll_len: usize, a: Centre, b: Centre, c: Centre, d: Centre,
                     aux: f64, boys: *const f64, boys_len: usize) -> Value;
+    fn xew_nuclear(roll: *const u8, roll_len: usize, a: Centre, b: Centre, nuclei: Nuclei,
+                   aux: f64, boys: *const f64, boys_len: usize) -> Value;
     fn xew_evaluate_grouped(roll: *const u8, roll_len: usize, a: Centre, b: Centre, c: Centre, d: Centre,
                             aux: f64, boys: *const f64, boys_len: usize, buffer: *mut u8, buffer_len: usize) -> Value;
     fn xew_grouped_term(grouping: *const u8, grouping_len: usize, l: u8, terms: u32, number: u32) -> Restored;
@@ -314,6 +325,10 @@ pub fn prefactors(kind: u8, a: Centre, b: Centre, c: Centre, d: Centre) -> Table
 
 pub fn evaluate(roll: &[u8], a: Centre, b: Centre, c: Centre, d: Centre, aux: f64, boys: &[f64]) -> Value {
     unsafe { xew_evaluate(roll.as_ptr(), roll.len(), a, b, c, d, aux, boys.as_ptr(), boys.len()) }
+}
+
+pub fn nuclear(roll: &[u8], a: Centre, b: Centre, nuclei: Nuclei, aux: f64, boys: &[f64]) -> Value {
+    unsafe { xew_nuclear(roll.as_ptr(), roll.len(), a, b, nuclei, aux, boys.as_ptr(), boys.len()) }
 }
 
 #[rustfmt::skip]

@@ -24,6 +24,7 @@ pub enum Refusal {
     CutRoll {
         place: usize,
     },
+    Nuclei,
 }
 
 impl Refusal {
@@ -39,7 +40,7 @@ impl Refusal {
 
     const fn both(self) -> (u8, &'static str) {
         match self {
-            Refusal::Kind => (1, "kind above 4"),
+            Refusal::Kind => (1, "kind above 4, or a roll of another kind than the call takes"),
             Refusal::OrderSum => (2, "an order sum the kind uses, or a shell's order, above 6"),
             Refusal::UnusedOrder => (3, "one of the twelve orders unused by the kind is not 0"),
             Refusal::TooManyTerms => (4, "more than 1,048,575 complete histories"),
@@ -50,11 +51,14 @@ impl Refusal {
             Refusal::BadRoll { .. } => (7, "roll breaks a rule below; carries the place"),
             Refusal::InputNotFinite => (8, "a used input float is not finite"),
             Refusal::Exponent => (9, "a used exponent is 0 or less"),
-            Refusal::BoysCount => (10, "Boys numbers are not exactly L+1 (kinds 2, 4) or 0 (others)"),
+            Refusal::BoysCount => {
+                (10, "Boys numbers are not exactly L+1 (kinds 2, 4; for each nucleus of a list) or 0 (others)")
+            }
             Refusal::ResultNotFinite => (11, "a geometry number, table entry or result is not finite"),
             Refusal::MatrixSize => (12, "matrix size out of range, or a slice length wrong for it"),
             Refusal::ComponentNumber => (13, "component number not below the count"),
             Refusal::CutRoll { .. } => (14, "the roll ends before a number does; carries the place"),
+            Refusal::Nuclei => (17, "a nucleus' charge is above 118, or a list is not of 1 to 32 nuclei"),
         }
     }
 
@@ -76,6 +80,7 @@ impl Refusal {
             12 => Refusal::MatrixSize,
             13 => Refusal::ComponentNumber,
             14 => Refusal::CutRoll { place },
+            17 => Refusal::Nuclei,
             _ => panic!("libxewumbal.a is not of this binding's version: refusal {number}"),
         })
     }

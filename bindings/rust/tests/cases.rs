@@ -11,7 +11,7 @@ const ROLL_ORDERS: [u8; ORDERS] = [1, 0, 0, 1, 0, 0, 0, 0, 0, 0, 0, 0];
 const FORM2: [u8; 26] = [16, 3, 0, 0, 0, 0, 0, 3, 1, 0, 0, 3, 0, 0, 0, 1, 0, 1, 1, 6, 2, 0, 0, 2, 6, 0];
 const FORM2_ORDERS: [u8; ORDERS] = [3, 0, 0, 0, 0, 0, 0, 0, 0, 0, 0, 0];
 
-const UNIT: Centre = Centre { x: 0.0, y: 0.0, z: 0.0, exponent: 1.0 };
+const UNIT: Centre = Centre { x: 0.0, y: 0.0, z: 0.0, exponent: 1.0, charge: 1 };
 const UNTOUCHED: u8 = 0xa5;
 
 fn one_at(places: &[usize]) -> [u8; ORDERS] {
@@ -344,10 +344,10 @@ const COULOMB_ORDERS: [u8; ORDERS] = [1, 0, 0, 0, 0, 0, 1, 0, 0, 0, 0, 0];
 const GROUPING: [u8; 29] = [1, 1, 0, 2, 0, 2, 2, 1, 1, 2, 0, 5, 3, 1, 1, 2, 4, 2, 5, 1, 1, 1, 22, 4, 1, 2, 2, 4, 5];
 
 const CENTRES: [Centre; 4] = [
-    Centre { x: 0.1, y: -0.2, z: 0.3, exponent: 1.1 },
-    Centre { x: 0.7, y: 0.4, z: -0.5, exponent: 0.9 },
-    Centre { x: -0.6, y: 0.8, z: 0.2, exponent: 1.7 },
-    Centre { x: 0.5, y: -0.9, z: 1.3, exponent: 0.6 },
+    Centre { x: 0.1, y: -0.2, z: 0.3, exponent: 1.1, charge: 1 },
+    Centre { x: 0.7, y: 0.4, z: -0.5, exponent: 0.9, charge: 1 },
+    Centre { x: -0.6, y: 0.8, z: 0.2, exponent: 1.7, charge: 1 },
+    Centre { x: 0.5, y: -0.9, z: 1.3, exponent: 0.6, charge: 1 },
 ];
 
 fn grouped(roll: &[u8], [a, b, c, d]: [Centre; 4], boys: &[f64], buffer: &mut [u8]) -> Value {

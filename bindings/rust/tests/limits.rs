@@ -90,7 +90,7 @@ fn largest_grouping() {
     let orders = [2, 1, 0, 2, 0, 2, 1, 3, 0, 1, 0, 2];
     let mut roll = vec![0; 14908072];
     assert_eq!(expand(COULOMB, &orders, &mut roll, 0), Expanded::Roll { length: 14908072, terms: 1048572 });
-    let [a, b, c, d] = [1.0, 0.5, -0.25, 0.125].map(|x| Centre { x, y: x * x, z: -x, exponent: 1.0 + x * x });
+    let [a, b, c, d] = [1.0, 0.5, -0.25, 0.125].map(|x| Centre { x, y: x * x, z: -x, exponent: 1.0 + x * x, charge: 1 });
     let boys: Vec<f64> = (0..15).map(|n| 0.8 / f64::from(2 * n + 1)).collect();
     let mut buffer = vec![0xa5; 41942880];
     assert_eq!(buffer.len(), ENTRY * 1048572);
@@ -157,7 +157,7 @@ fn prefactors_of_a_term() {
 
 #[test]
 fn tables() {
-    let [a, b, c, d] = [1.0, 2.0, 4.0, 8.0].map(|x| Centre { x, y: x * x, z: -x, exponent: x + 0.5 });
+    let [a, b, c, d] = [1.0, 2.0, 4.0, 8.0].map(|x| Centre { x, y: x * x, z: -x, exponent: x + 0.5, charge: 1 });
     for (kind, size) in [(0, 8), (1, 11), (2, 11), (3, 12), (KINDS - 1, TABLE)] {
         match prefactors(kind, a, b, c, d) {
             Table::Entries(entries) => {
