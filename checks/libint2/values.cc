@@ -47,7 +47,7 @@ Shell make_shell(size_t atom, int order, bool wrong) {
     const Atom &place = atoms[atom];
     const double exponent = exponents[atom][order];
     const bool spoiled = wrong && atom == 2 && order == most_order;
-    return {atom, order, {place.x, place.y, place.z, spoiled ? exponent * (1 + 1e-10) : exponent},
+    return {atom, order, {place.x, place.y, place.z, spoiled ? exponent * (1 + 1e-10) : exponent, 0},
             // Cartesian (not pure), coefficient 1, and false: no norm is put into the coefficient
             libint2::Shell({exponent}, {{order, false, {1.0}}}, {{place.x, place.y, place.z}}, false)};
 }
