@@ -56,6 +56,7 @@ enum Question {
     Salvage,
     SalvageIn,
     Compare,
+    Nuclei,
     Unknown,
 }
 
@@ -101,6 +102,7 @@ fn of(shape: usize) -> Question {
         29 => Question::Salvage,
         30 => Question::SalvageIn,
         31 => Question::Compare,
+        32 => Question::Nuclei,
         _ => Question::Unknown,
     }
 }
@@ -204,6 +206,7 @@ fn in_numbers(q: Question, n: [u64; NUMBERS], count: usize, roll: &[u8], floats:
         Question::Next => rolls::next(n, roll),
         Question::Eval => values::value(roll, floats),
         Question::Table => values::table(n, floats),
+        Question::Nuclei => values::of_nuclei(n, roll, floats),
         Question::Measure => expands::measured(n),
         Question::Total => sums::total(n),
         Question::Scales => sums::scales(roll),

@@ -55,7 +55,8 @@ fn ended(a: Asked, end: usize) -> Asked {
     b
 }
 
-// B, W and P are numbers below 2^8, 2^32 and 2^64, L the length of a lent buffer, G of a grouping buffer, R a roll, S a second one, * floats, each after a blank,
+// B, W and P are numbers below 2^8, 2^32 and 2^64, L the length of a lent buffer, G of a grouping buffer, R a roll, S a second one; C a centre, N a count and so many
+// centres, F a float, * floats, each after a blank,
 // + a number below 2^8 after a blank or nothing, ^ whatever is left. What is read after a misfit is dropped.
 fn item(mark: u8, line: &[u8], a: Asked, bytes: &mut [u8], floats: &mut [f64]) -> Asked {
     match mark {
@@ -64,6 +65,9 @@ fn item(mark: u8, line: &[u8], a: Asked, bytes: &mut [u8], floats: &mut [f64]) -
         b'+' => words::perhaps(line, a, most(mark)),
         b'R' => words::roll(line, a, bytes),
         b'S' => words::second(line, a, bytes),
+        b'C' => words::centre(line, a, floats),
+        b'N' => words::centres(line, a, floats),
+        b'F' => words::one_float(line, a, floats),
         b'*' => words::floats(line, a, floats),
         b'^' => words::rest(line, a),
         _ => words::letter(line, a, mark),

@@ -11,8 +11,8 @@ use forms::Told;
 use lines::State;
 use words::Asked;
 
-// Shapes: B, W and P are numbers below 2^8, 2^32 and 2^64, L a buffer's length, G a grouping buffer's, R a roll, S a second one, * floats, + one number below 2^8 or
-// none, ^ any bytes; the first is the empty line. `questions::of` has their numbers.
+// Shapes: B, W and P are numbers below 2^8, 2^32 and 2^64, L a buffer's length, G a grouping buffer's, R a roll, S a second one, C a centre, N a count of nuclei
+// and as many centres, F a float, * floats, + one number below 2^8 or none, ^ any bytes; the first is the empty line. `questions::of` has their numbers.
 pub(crate) fn turn(
     input: &[u8],
     s: State,
@@ -36,8 +36,8 @@ list R
 open R
 check R
 next B B W P R
-eval R*
-table B*
+eval RCCCCF*
+table BCCCC
 jk P*
 jkl P P P P P*
 measure B B B B B B B B B B B B B
@@ -52,10 +52,11 @@ form2 R
 form2 R L P
 form1 R
 form1 R L P
-grouped G R*
+grouped G RCCCCF*
 salvage R
 salvage R L P
 compare R S
+nuclei RCCNF*
 ",
         line,
         given,

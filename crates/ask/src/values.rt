@@ -1,7 +1,6 @@
-// `eval ROLL A B C D AUX F0 F1 ..`, `grouped BUFFER` with the same, and `table KIND A B C D`: the integral of a roll, plain and by way of
-// a grouping buffer, and the prefactor table of a kind.
-ghost use Prim.Native.Nat.{_+_, _≤_};
-ghost use lib.ListN.{length};
+// `eval ROLL A B C D AUX F0 F1 ..`, `grouped BUFFER` with the same, `nuclei ROLL A B N centres.. AUX F0 F1 ..` and `table KIND A B C D`:
+// the integral of a roll, plain, by way of a grouping buffer and over a list of nuclei, and the prefactor table of a kind.
+ghost use Prim.Native.Nat.{_≤_};
 use crate::answers;
 use crate::floats;
 use crate::forms;
@@ -13,13 +12,21 @@ use geometry::Table;
 use geometry::Tabled;
 use integrals::Value;
 use kind::Kind;
+use nuclei::MOST_NUCLEI;
+use nuclei::Nuclei;
 use questions::byte;
+use questions::word;
 use roll::Cursor;
 use roll::Opened;
 use words::NUMBERS;
+use words::listed;
 
-// The floats of four centres.
-const CENTRES: usize = 16;
+// The floats of a centre: its charge stands among them by its bits.
+const CENTRE: usize = 5;
+
+const PAIR: usize = 2 * CENTRE;
+
+const CENTRES: usize = 4 * CENTRE;
 // The most Boys numbers that a question can have.
 const MOST_BOYS: usize = 65536;
 
@@ -30,27 +37,71 @@ struct Four {
     d: Centre,
 }
 
-// The centre whose four floats stand from a place on.
-fn centre(floats: &[f64], at: usize) -> Centre
-    requires { ⌜ at + 4 ≤ length (now floats) ⌝ }
+// The float at a place; a question's shape sees to it that there is one.
+fn at(floats: &[f64], i: usize) -> f64 {
+    if i < floats.len() {
+        return floats[i];
+    }
+    0.0
+}
+
+// The centre with this number, from 0 on.
+fn centre(floats: &[f64], number: usize) -> Centre
+    requires { ⌜ number ≤ 34 ⌝ }
 {
+    let i = CENTRE * number;
     Centre {
-        x: floats[at],
-        y: floats[at + 1],
-        z: floats[at + 2],
-        exponent: floats[at + 3],
+        x: at(floats, i),
+        y: at(floats, i + 1),
+        z: at(floats, i + 2),
+        exponent: at(floats, i + 3),
+        charge: word(floats::bits(at(floats, i + 4))),
     }
 }
 
-fn four_of(floats: &[f64]) -> Four
-    requires { ⌜ 16 ≤ length (now floats) ⌝ }
-{
+fn four_of(floats: &[f64]) -> Four {
     Four {
         a: centre(floats, 0),
-        b: centre(floats, 4),
-        c: centre(floats, 8),
-        d: centre(floats, 12),
+        b: centre(floats, 1),
+        c: centre(floats, 2),
+        d: centre(floats, 3),
     }
+}
+
+// The nuclei behind the pair; in the places left stands what does not matter.
+fn nuclei_of(floats: &[f64], count: u64) -> Nuclei {
+    let first = centre(floats, 0);
+    let mut centres = [first; MOST_NUCLEI];
+    let mut i = 0;
+    while i < MOST_NUCLEI {
+        centres[i] = centre(floats, i + 2);
+        i += 1;
+    }
+    Nuclei {
+        centres,
+        count: word(count),
+    }
+}
+
+pub(crate) fn of_nuclei(n: [u64; NUMBERS], roll: &[u8], floats: &[f64]) -> Told {
+    let count = n[0];
+    let before = PAIR + CENTRE * listed(count);
+    if floats.len() <= before {
+        return answers::unknown();
+    }
+    let boys = &floats[before + 1..];
+    if MOST_BOYS < boys.len() {
+        return answers::unknown();
+    }
+    let list = nuclei_of(floats, count);
+    value_told(nuclei::nuclear(
+        roll,
+        centre(floats, 0),
+        centre(floats, 1),
+        list,
+        floats[before],
+        boys,
+    ))
 }
 
 pub(crate) fn value(roll: &[u8], floats: &[f64]) -> Told {
@@ -114,9 +165,6 @@ fn value_told(value: Value) -> Told {
 }
 
 pub(crate) fn table(n: [u64; NUMBERS], floats: &[f64]) -> Told {
-    if floats.len() != CENTRES {
-        return answers::unknown();
-    }
     let four = four_of(floats);
     table_told(geometry::prefactors(byte(n[0]), four.a, four.b, four.c, four.d))
 }

@@ -1,4 +1,5 @@
 // The words of a line. Each reader takes what is read so far, and answers it with one word more.
+ghost use Prim.Native.Nat.{_≤_};
 use crate::floats;
 use crate::questions;
 use kind::Kind;
@@ -9,6 +10,10 @@ use text::Parsed;
 pub(crate) const CURSOR: usize = 4;
 // The most numbers of a question: those of a cursor, and the prefactors of the term before.
 pub(crate) const NUMBERS: usize = CURSOR + Kind::PREFACTORS;
+// The most nuclei of a list, and the most that a question's charge says.
+const MOST_NUCLEI: u64 = nuclei::MOST_NUCLEI as u64;
+
+const MOST_CHARGE: u64 = 4294967295;
 
 // What is read of a line: its question's number, whether that is found, and a number for each word that the shape asks for. A
 // roll's bytes and floats stand at the front of what was lent for them.
@@ -145,12 +150,85 @@ fn read_floats(line: &[u8], at: usize, room: &mut [f64]) -> Run {
     Run { count, end }
 }
 
-// None or more floats, each after a blank.
+// None or more floats, each after a blank, behind those that are read.
 pub(crate) fn floats(line: &[u8], a: Asked, room: &mut [f64]) -> Asked {
-    let run = read_floats(line, a.at, room);
+    let first = a.floats;
+    if room.len() < first {
+        return misfit(a);
+    }
+    let run = read_floats(line, a.at, &mut room[first..]);
     let mut b = a;
     b.at = run.end;
-    b.floats = run.count;
+    b.floats = sum(first, run.count);
+    b
+}
+
+// One float more, which ends at a place.
+fn added(a: Asked, x: f64, end: usize, room: &mut [f64]) -> Asked {
+    let i = a.floats;
+    if room.len() <= i {
+        return misfit(a);
+    }
+    room[i] = x;
+    let mut b = a;
+    b.floats = i + 1;
+    b.at = end;
+    b
+}
+
+// A float after a blank.
+pub(crate) fn one_float(line: &[u8], a: Asked, room: &mut [f64]) -> Asked {
+    match read_float(line, a.at) {
+        Float::Is(x, end) => added(a, x, end, room),
+        Float::Not => misfit(a),
+    }
+}
+
+// A charge after a blank, a whole number below 2^32. Among the floats it stands by its bits.
+fn charge(line: &[u8], a: Asked, room: &mut [f64]) -> Asked {
+    let b = letter(line, a, b' ');
+    match text::read_decimal(line, b.at) {
+        Parsed::Is(n, end) => {
+            if MOST_CHARGE < n {
+                return misfit(b);
+            }
+            added(b, floats::of_bits(n), end, room)
+        }
+        Parsed::Not => misfit(b),
+    }
+}
+
+fn two_floats(line: &[u8], a: Asked, room: &mut [f64]) -> Asked {
+    let b = one_float(line, a, room);
+    one_float(line, b, room)
+}
+
+// A centre: four floats and a charge.
+pub(crate) fn centre(line: &[u8], a: Asked, room: &mut [f64]) -> Asked {
+    let b = two_floats(line, a, room);
+    let c = two_floats(line, b, room);
+    charge(line, c, room)
+}
+
+// How many centres follow a count: so many where it is one of a list of nuclei, else none.
+pub(crate) fn listed(count: u64) -> usize
+    ensures { λ r. ⌜ r ≤ 32 ⌝ }
+{
+    if MOST_NUCLEI < count {
+        return 0;
+    }
+    count as usize
+}
+
+// A count up to 255 after a blank, and the centres that follow it; the count is a number of the question.
+pub(crate) fn centres(line: &[u8], a: Asked, room: &mut [f64]) -> Asked {
+    let mut b = number(line, letter(line, a, b' '), 255);
+    let n = b.numbers;
+    let mut left = listed(n[0]);
+    while 0 < left {
+        b = centre(line, b, room);
+        left -= 1;
+    }
     b
 }
 

@@ -13,6 +13,7 @@ pub const VERSION: u32 = 3;
 
 // Centres and lists of them go in as the crates below have them.
 pub type xew_centre = geometry::Centre;
+
 pub type xew_nuclei = nuclei::Nuclei;
 
 #[repr(C)]
@@ -343,13 +344,7 @@ pub extern "C" fn xew_prefactors(
 ) -> xew_table
     ensures { λ r. ⌜ r ≡ prefactorsAnswer kind a b c d ⌝ }
 {
-    answers::table(geometry::prefactors(
-        kind,
-        a,
-        b,
-        c,
-        d,
-    ))
+    answers::table(geometry::prefactors(kind, a, b, c, d))
 }
 
 #[no_mangle]
@@ -364,15 +359,7 @@ pub extern "C" fn xew_evaluate(
 ) -> xew_value
     ensures { λ r. ⌜ r ≡ evaluateAnswer (now (roll .entry)) a b c d aux (now (boys .entry)) ⌝ }
 {
-    answers::value(integrals::evaluate(
-        roll,
-        a,
-        b,
-        c,
-        d,
-        aux,
-        boys,
-    ))
+    answers::value(integrals::evaluate(roll, a, b, c, d, aux, boys))
 }
 
 #[no_mangle]
