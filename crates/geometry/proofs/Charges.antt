@@ -1,15 +1,26 @@
 -- 02, Q-10: "other kinds ignore the charge", and no table has a charge in it: a centre's other numbers are the same with any charge.
 use Prim.Native.Nat.{ℕ}
 use mathlib.Core.Path.{_≡_, refl}
+use mathlib.Core.Bool.{true, false}
 use Rattle.kind.specs.declared.Kind.{Kind}
 use Rattle.kind.specs.declared.Kind.the-variants.{Overlap, Kinetic, Nuclear, Moment, Coulomb}
 use Rattle.kind.specs.declared.Named.{Named}
 use Rattle.kind.specs.declared.Named.the-variants.{Is, Unknown}
 use Rattle.kind.specs.Kinds.{kindOf}
 use Rattle.geometry.specs.declared.Centre.{Centre}
+use Rattle.geometry.specs.Charges.{chargeKept}
 use Rattle.geometry.specs.Geometry.{geometryNumbers}
 use Rattle.geometry.specs.Tables.{entriesOf, prefac}
 use Rattle.geometry.specs.Checks.{whole, used, usedFinite, exponents, exponentsAboveZero, finiteWith, geometryFinite, checkedTable, namedTableOf, prefactorTableOf}
+
+-- a charge, 0 to 118
+pub most-kept : (c : Centre) → c .charge ≡ 118 → chargeKept Nuclear c ≡ true
+unfolding chargeKept
+most-kept c is = rw is
+
+pub next-refused : (c : Centre) → c .charge ≡ 119 → chargeKept Nuclear c ≡ false
+unfolding chargeKept
+next-refused c is = rw is
 
 -- a centre with another charge
 abbrev pub recharged : Centre → ℕ → Centre

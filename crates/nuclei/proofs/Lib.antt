@@ -1,3 +1,4 @@
 pub mod NucleiLaws
 pub mod Only
 pub mod Promised
+pub mod Worked
