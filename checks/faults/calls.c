@@ -66,7 +66,7 @@ static void try_prefactors(void)
     xew_table first = { 0 };
     for (int again = 0; again < 2; again++) {
         BEGIN(PREFACTORS, "kind", kind);
-        with_floats(&c[0].x, 16);
+        with_centres(c, 4);
         xew_table table = xew_prefactors(kind, c[0], c[1], c[2], c[3]);
         count(PREFACTORS, table.refusal, again);
         hold(table.refusal == expected || (!expected && table.refusal == 11), "xew_prefactors: another refusal");
@@ -76,6 +76,7 @@ static void try_prefactors(void)
         hold(!again || (first.refusal == table.refusal && !memcmp(first.entries, table.entries, sizeof table.entries)),
              "xew_prefactors: two answers");
         first = table;
+        other_charges(c, 4);
     }
 }
 
@@ -137,6 +138,7 @@ static void play_large(uint64_t number)
     if (number < LARGEST) {
         struct slice roll = try_expand(&largest[number], largest[number].length, 0);
         try_evaluate(roll, expected_open(roll.mine, roll.length));
+        try_nuclear(roll, expected_open(roll.mine, roll.length));
         try_grouping(roll, expected_open(roll.mine, roll.length));
         try_to_form2(roll, expected_open(roll.mine, roll.length));
         try_expand2(&largest[number]);
@@ -184,7 +186,7 @@ static void play_forms(void)
 /* Calls on a Coulomb roll that reads, and on its grouping. */
 static void play_grouping(void)
 {
-    struct slice roll = lend_copy(&roll_arena, "roll", bytes, coulomb_roll(bytes, MOST_BYTES), 1);
+    struct slice roll = lend_copy(&roll_arena, "roll", bytes, roll_of(4, bytes, MOST_BYTES), 1);
     xew_opened checked = try_check(roll);
     for (int i = 0; i < 3; i++)
         try_grouping(roll, checked);
@@ -204,6 +206,7 @@ static void play(void)
     try_roll_total(roll, checked);
     try_evaluate(roll, checked);
     try_evaluate(roll, checked);
+    try_nuclear(roll, checked);
     try_evaluate_grouped(roll, checked);
     try_to_form2(roll, checked);
     if (once_in(8))
@@ -246,7 +249,7 @@ int main(int words, char **word)
     make_arena(&roll_arena, MOST_BYTES, false);
     make_arena(&orders_arena, XEW_ORDERS, false);
     make_arena(&out_arena, MOST_BYTES, true);
-    make_arena(&boys_arena, 48 * 8, false);
+    make_arena(&boys_arena, MOST_BOYS * 8, false);
     make_arena(&buffer_arena, MOST_BUFFER, true);
     make_arena(&grouping_arena, MOST_BUFFER, false);
     make_arena(&right_arena, MOST_BYTES, false);
@@ -268,8 +271,10 @@ int main(int words, char **word)
             play_large(large_scene());
         else if (call.scene % 3 == 0)
             play_forms();
-        else if (call.scene % 6 == 4)
+        else if (call.scene % 6 == 4) {
             play_grouping();
+            play_nuclear(bytes);
+        }
         else if (call.scene % 6 == 2)
             for (int i = 0; i < 4; i++) {
                 play_salvage(bytes);

@@ -241,11 +241,36 @@ uint8_t expected_value(xew_opened checked, const xew_centre *centres, double aux
     uint8_t kind = checked.cursor.kind;
     if (checked.refusal)
         return checked.refusal;
+    if (kind == 2 && centres[2].charge > XEW_MOST_CHARGE)
+        return 17;
     if (!centres_finite(kind, centres) || !isfinite(aux) || !all_finite(boys, boys_length))
         return 8;
     if (!exponents_positive(kind, centres))
         return 9;
     return boys_length == (kind == 2 || kind == 4 ? checked.cursor.l + 1u : 0) ? 0 : 10;
+}
+
+/* Each check goes over the whole list before the next. */
+uint8_t expected_nuclear(xew_opened checked, const xew_centre *pair, const xew_nuclei *nuclei, double aux,
+                         const double *boys, size_t boys_length)
+{
+    if (checked.refusal)
+        return checked.refusal;
+    if (checked.cursor.kind != 2)
+        return 1;
+    if (nuclei->count < 1 || nuclei->count > XEW_MOST_NUCLEI)
+        return 17;
+    for (uint32_t i = 0; i < nuclei->count; i++)
+        if (nuclei->centres[i].charge > XEW_MOST_CHARGE)
+            return 17;
+    for (uint32_t i = 0; i < nuclei->count; i++)
+        if (!all_finite((double[]){ nuclei->centres[i].x, nuclei->centres[i].y, nuclei->centres[i].z }, 3))
+            return 8;
+    if (!centres_finite(0, pair) || !isfinite(aux) || !all_finite(boys, boys_length))
+        return 8;
+    if (!exponents_positive(0, pair))
+        return 9;
+    return boys_length == (checked.cursor.l + 1u) * nuclei->count ? 0 : 10;
 }
 
 /* A sum of J or K: I from a place on, so many further for each lambda, times D; lambda outer, from 0.0. */

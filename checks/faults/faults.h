@@ -34,8 +34,10 @@ struct call {
     const char *name, *labels;
     uint64_t number, scene, words[8];
     struct slice slices[4];
-    double floats[17];
-    size_t slice_count, float_count;
+    xew_centre centres[2 + XEW_MOST_NUCLEI];
+    double aux;
+    size_t slice_count, centre_count;
+    bool has_aux;
 };
 extern struct call call;
 extern const char *repeat; /* the words of a run, but for the scene */
@@ -57,6 +59,7 @@ struct request {
 #define MOST_BYTES 16777216
 #define MOST_LIST (3 * (XEW_MOST_ORDER + 1) * (XEW_MOST_ORDER + 2) / 2)
 #define MOST_BUFFER (XEW_ENTRY * XEW_MOST_TERMS + 1000) /* for a grouping, and some more */
+#define MOST_BOYS 480 /* beyond what a list of nuclei needs */
 #define LARGEST 6
 #define OVER 4
 extern const struct request largest[LARGEST], over[OVER];
@@ -66,7 +69,7 @@ void any_request(struct request *request);
 size_t any_roll(uint8_t *out); /* at most MOST_BYTES */
 size_t good_roll(uint8_t *out, size_t most); /* one that reads, of at most so many bytes */
 size_t most_terms_roll(uint8_t *out, uint8_t kind, uint32_t terms); /* so many terms in as few bytes as can be */
-size_t coulomb_roll(uint8_t *out, size_t most); /* one that reads */
+size_t roll_of(uint8_t kind, uint8_t *out, size_t most); /* one that reads */
 size_t any_roll2(uint8_t *out); /* the same in form 2 */
 size_t good_roll2(uint8_t *out, size_t most);
 size_t any_start(size_t length, size_t need);
@@ -80,10 +83,14 @@ struct asked {
  * then. */
 size_t any_grouping(uint8_t *grouping, size_t length, struct asked *asked);
 
-/* inputs.c: floats. */
+/* inputs.c: floats, and centres, whose padding may hold anything too. */
 double any_float(void);
 void any_floats(double *out, size_t count);
 void any_centres(xew_centre centres[4]);
+void any_nuclei(xew_nuclei *nuclei);
+/* Other charges in all centres but the nucleus that is looked at, of a number; 4 for none. */
+void other_charges(xew_centre centres[4], int nucleus);
+void other_unused(xew_nuclei *nuclei); /* other nuclei beyond the count, and other exponents */
 
 /* expected.c: what a call must answer, by docs/01-scope.md and docs/02-change-requests.md alone. */
 extern const uint8_t orders_used[XEW_KINDS], table_size[XEW_KINDS];
@@ -105,6 +112,8 @@ uint64_t expected_scales(xew_opened checked, const uint8_t *roll, size_t length)
 uint8_t expected_table(uint8_t kind, const xew_centre *centres);                  /* 0: or 11 */
 uint8_t expected_value(xew_opened checked, const xew_centre *centres, double aux, /* 0: or 11 */
                        const double *boys, size_t boys_length);
+uint8_t expected_nuclear(xew_opened checked, const xew_centre *pair, const xew_nuclei *nuclei, double aux, /* 0: or 11 */
+                         const double *boys, size_t boys_length);
 /* 0: j and k, of 256 each, have the sums */
 uint8_t expected_jk(size_t n, const double *i, const double *d, const size_t lengths[4], double *j, double *k);
 bool all_finite(const double *floats, size_t count);

@@ -15,11 +15,6 @@ static size_t any_buffer(xew_opened checked)
     return (size_t[]){ least, least, least, least, least + 1 + below(500), less, below(least), 0 }[below(8)];
 }
 
-static bool same_value(xew_value a, xew_value b)
-{
-    return memcmp(&a.value, &b.value, sizeof(double)) == 0 && a.place == b.place && a.refusal == b.refusal;
-}
-
 /* The evaluation without a buffer. */
 static xew_value plain_value(struct slice roll, const struct numbers *with, struct slice boys)
 {
@@ -27,7 +22,8 @@ static xew_value plain_value(struct slice roll, const struct numbers *with, stru
     BEGIN(EVALUATE, "roll_len boys_len", roll.length, boys.length);
     with_slice(&roll);
     with_slice(&boys);
-    with_floats(&with->centres[0].x, 17);
+    with_centres(c, 4);
+    with_aux(with->aux);
     further_calls++;
     return xew_evaluate(roll.lent, roll.length, c[0], c[1], c[2], c[3], with->aux, boys.lent, boys.length);
 }
@@ -36,7 +32,7 @@ size_t try_evaluate_grouped(struct slice roll, xew_opened checked)
 {
     struct numbers with;
     any_numbers(checked, &with);
-    const xew_centre *c = with.centres;
+    xew_centre *c = with.centres;
     struct slice boys = lend_copy(&boys_arena, "boys", with.boys, with.length, sizeof(double));
     struct slice buffer = lend(&buffer_arena, "buffer", any_buffer(checked), 1);
     bool is_grouped = !checked.refusal && checked.cursor.kind == 4;
@@ -55,7 +51,8 @@ size_t try_evaluate_grouped(struct slice roll, xew_opened checked)
         with_slice(&roll);
         with_slice(&boys);
         with_slice(&buffer);
-        with_floats(&with.centres[0].x, 17);
+        with_centres(c, 4);
+        with_aux(with.aux);
         xew_value value = xew_evaluate_grouped(roll.lent, roll.length, c[0], c[1], c[2], c[3], with.aux, boys.lent,
                                                boys.length, buffer.lent, buffer.length);
         count(EVALUATE_GROUPED, value.refusal, again);
@@ -66,6 +63,7 @@ size_t try_evaluate_grouped(struct slice roll, xew_opened checked)
             hold(same_value(value, plain), "xew_evaluate_grouped: another answer than xew_evaluate's");
         hold(untouched(&buffer, byte, 0, size), "xew_evaluate_grouped: a byte changed behind the grouping");
         hold(!memcmp(buffer.mine, expected_bytes, size), "xew_evaluate_grouped: another grouping than document 02's");
+        other_charges(c, checked.cursor.kind == 2 ? 2 : 4);
     }
     if (size > 0)
         count_left(plain.refusal);

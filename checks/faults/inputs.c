@@ -272,11 +272,11 @@ size_t good_roll(uint8_t *out, size_t most)
     }
 }
 
-size_t coulomb_roll(uint8_t *out, size_t most)
+size_t roll_of(uint8_t kind, uint8_t *out, size_t most)
 {
     for (;;) {
         size_t length = good_roll(out, most);
-        if (out[0] == 4)
+        if (out[0] == kind)
             return length;
     }
 }
@@ -464,13 +464,80 @@ void any_floats(double *out, size_t count)
             out[i] = DBL_MAX;
 }
 
+/* A charge within the limit; or, now and then, at it, beyond it or any. */
+static uint32_t any_charge(void)
+{
+    static const uint32_t odd[] = { 0, 0, 1, XEW_MOST_CHARGE, XEW_MOST_CHARGE + 1, 300, UINT32_MAX };
+    if (!once_in(3))
+        return (uint32_t)below(XEW_MOST_CHARGE + 1);
+    return once_in(8) ? (uint32_t)bits() : ONE_OF(odd);
+}
+
+static uint32_t good_charge(void)
+{
+    static const uint32_t few[] = { 0, 1, XEW_MOST_CHARGE };
+    return once_in(2) ? ONE_OF(few) : (uint32_t)below(XEW_MOST_CHARGE + 1);
+}
+
+/* The padding keeps what stood there. */
+static void put_centre(xew_centre *centre, const double *floats, double exponent, uint32_t charge)
+{
+    centre->x = floats[0];
+    centre->y = floats[1];
+    centre->z = floats[2];
+    centre->exponent = exponent;
+    centre->charge = charge;
+}
+
 void any_centres(xew_centre centres[4])
 {
     double floats[16];
     any_floats(floats, 16);
     bool positive = !once_in(8);
+    memset(centres, (int)below(256), 4 * sizeof *centres);
     for (int i = 0; i < 4; i++) {
         const double *f = floats + 4 * i;
-        centres[i] = (xew_centre){ f[0], f[1], f[2], positive ? fabs(f[3]) : f[3] };
+        put_centre(&centres[i], f, positive ? fabs(f[3]) : f[3], any_charge());
     }
+}
+
+void other_charges(xew_centre centres[4], int nucleus)
+{
+    for (int i = 0; i < 4; i++)
+        if (i != nucleus)
+            centres[i].charge = any_charge();
+}
+
+void other_unused(xew_nuclei *nuclei)
+{
+    for (uint32_t i = 0; i < XEW_MOST_NUCLEI; i++) {
+        xew_centre *c = &nuclei->centres[i];
+        if (i < nuclei->count)
+            c->exponent = any_float();
+        else
+            put_centre(c, (double[]){ any_float(), any_float(), any_float() }, any_float(), any_charge());
+    }
+}
+
+void any_nuclei(xew_nuclei *nuclei)
+{
+    static const uint32_t wrong[] = { 0, 33, 34, 256, 257, 256 + 32, (uint32_t)1 << 31, UINT32_MAX - 31, UINT32_MAX };
+    const uint32_t right[] = { 1, 2, XEW_MOST_NUCLEI - 1, XEW_MOST_NUCLEI, 1 + (uint32_t)below(XEW_MOST_NUCLEI) };
+    double floats[3 * XEW_MOST_NUCLEI];
+    uint32_t held = ONE_OF(right); /* nuclei that stand there; in a list that is too long as many as there are places */
+    memset(nuclei, (int)below(256), sizeof *nuclei);
+    nuclei->count = held;
+    if (once_in(8)) {
+        nuclei->count = ONE_OF(wrong);
+        held = XEW_MOST_NUCLEI;
+    }
+    any_floats(floats, 3 * held);
+    for (uint32_t i = 0; i < held; i++)
+        put_centre(&nuclei->centres[i], floats + 3 * i, 0, good_charge());
+    if (once_in(8))
+        nuclei->centres[below(held)].charge = any_charge();
+    if (once_in(16)) /* every value is 0.0 or -0.0 */
+        for (uint32_t i = 0; i < held; i++)
+            nuclei->centres[i].charge = 0;
+    other_unused(nuclei);
 }

@@ -79,6 +79,13 @@ bool untouched(const struct slice *slice, uint8_t byte, size_t from, size_t to)
         && all(bytes + to * slice->width, rest, byte);
 }
 
+static uint64_t float_bits(double value)
+{
+    uint64_t its;
+    memcpy(&its, &value, sizeof its);
+    return its;
+}
+
 static void tell(const char *what)
 {
     fprintf(stderr, "%s\ncall %" PRIu64 ", scene %" PRIu64 ": %s\n", what, call.number, call.scene,
@@ -101,11 +108,13 @@ static void tell(const char *what)
             fprintf(stderr, "%s%02x", at % s->width ? "" : " ", bytes[at]);
         fprintf(stderr, count > SHOWN ? " ..\n" : "\n");
     }
-    for (size_t i = 0; i < call.float_count; i++) {
-        uint64_t float_bits;
-        memcpy(&float_bits, &call.floats[i], sizeof float_bits);
-        fprintf(stderr, "%s%" PRIx64 "%s", i ? " " : "  floats ", float_bits, i + 1 < call.float_count ? "" : "\n");
+    for (size_t i = 0; i < call.centre_count; i++) {
+        const xew_centre *c = &call.centres[i];
+        fprintf(stderr, "  centre %" PRIx64 " %" PRIx64 " %" PRIx64 " %" PRIx64 " %" PRIu32 "\n", float_bits(c->x),
+                float_bits(c->y), float_bits(c->z), float_bits(c->exponent), c->charge);
     }
+    if (call.has_aux)
+        fprintf(stderr, "  aux %" PRIx64 "\n", float_bits(call.aux));
 }
 
 void fail(const char *what)

@@ -115,11 +115,27 @@ void any_numbers(xew_opened checked, struct numbers *numbers)
     any_floats(numbers->boys, numbers->length);
 }
 
+/* A nuclear value is the charge times the one of charge 1, which is the integral itself. */
+static void hold_charged(struct slice roll, const struct numbers *with, struct slice boys, xew_value value)
+{
+    const xew_centre *c = with->centres;
+    xew_centre one = c[2];
+    one.charge = 1;
+    further_calls++;
+    xew_value integral = xew_evaluate(roll.lent, roll.length, c[0], c[1], one, c[3], with->aux, boys.lent, boys.length);
+    double product = (double)c[2].charge * integral.value;
+    bool is_finite = !integral.refusal && isfinite(product);
+    xew_value expected = { is_finite ? product : 0, 0, is_finite ? 0 : 11 };
+    hold(integral.refusal == 0 || integral.refusal == 11, "xew_evaluate: another refusal with another charge");
+    hold(same_value(value, expected), "xew_evaluate: not the charge times the integral");
+}
+
 void try_evaluate(struct slice roll, xew_opened checked)
 {
     struct numbers with;
     any_numbers(checked, &with);
-    const xew_centre *c = with.centres;
+    xew_centre *c = with.centres;
+    bool is_nuclear = checked.cursor.kind == 2;
     struct slice boys = lend_copy(&boys_arena, "boys", with.boys, with.length, sizeof(double));
     uint8_t expected = expected_value(checked, c, with.aux, with.boys, with.length);
     xew_value first = { 0 };
@@ -129,19 +145,22 @@ void try_evaluate(struct slice roll, xew_opened checked)
         BEGIN(EVALUATE, "roll_len boys_len", roll.length, boys.length);
         with_slice(&roll);
         with_slice(&boys);
-        with_floats(&with.centres[0].x, 17);
+        with_centres(c, 4);
+        with_aux(with.aux);
         xew_value value =
             xew_evaluate(roll.lent, roll.length, c[0], c[1], c[2], c[3], with.aux, boys.lent, boys.length);
         count(EVALUATE, value.refusal, again);
         hold(value.refusal == expected || (!expected && value.refusal == 11), "xew_evaluate: another refusal");
         hold(value.place == checked.place, "xew_evaluate: a place that is not check's");
         hold(value.refusal ? value.value == 0 : isfinite(value.value), "xew_evaluate: its value");
-        hold(value.value != 0 || !signbit(value.value), "xew_evaluate: -0.0, which no sum from +0.0 is");
-        if (again)
-            hold(!memcmp(&first.value, &value.value, sizeof(double)) && first.refusal == value.refusal,
-                 "xew_evaluate: two answers");
+        hold(value.value != 0 || !signbit(value.value) || (is_nuclear && !value.refusal && c[2].charge == 0),
+             "xew_evaluate: -0.0, which no sum from +0.0 is");
+        hold(!again || same_value(first, value), "xew_evaluate: two answers");
         first = value;
+        other_charges(c, is_nuclear ? 2 : 4);
     }
+    if (is_nuclear && !expected)
+        hold_charged(roll, &with, boys, first);
 }
 
 /* A roll that reads, cut at every place: 14 within the cut by every call that reads as far. It is lent from pages that
@@ -164,6 +183,7 @@ void try_cuts(const uint8_t *bytes, size_t length)
         if (!opened.refusal)
             hold(step.refusal == 14 && step.place == checked.place, "a cut term that is not 14 where check says");
         try_evaluate(roll, checked);
+        try_nuclear(roll, checked);
         try_evaluate_grouped(roll, checked);
         try_roll_total(roll, checked);
     }

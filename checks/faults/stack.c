@@ -26,7 +26,8 @@ static xew_opened opened[XEW_KINDS];
 static size_t lengths[XEW_KINDS], lengths2[XEW_KINDS];
 static uint8_t triples[TRIPLES][3];
 static double floats[65536], matrices[3][256];
-static const xew_centre a = { 0, 0, 0, 1 }, b = { 1, 0, 0, 2 }, c = { 0, 1, 0, 3 }, d = { 0, 0, 1, 4 };
+static const xew_centre a = { 0, 0, 0, 1, 1 }, b = { 1, 0, 0, 2, 6 }, c = { 0, 1, 0, 3, 118 }, d = { 0, 0, 1, 4, 0 };
+static xew_nuclei nuclei; /* as many as a list may have */
 
 static _Alignas(64) uint8_t stack[SIZE];
 static uint8_t *top, kind;
@@ -285,6 +286,13 @@ CALLER void evaluate(void)
     }
 }
 
+CALLER void nuclear(void)
+{
+    FROM_HERE;
+    size_t boys = (opened[2].cursor.l + 1u) * nuclei.count;
+    note(xew_nuclear(rolls[2], lengths[2], a, b, nuclei, 1, floats, boys).refusal);
+}
+
 CALLER void evaluate_grouped(void)
 {
     FROM_HERE;
@@ -350,6 +358,8 @@ int main(int words, char **word)
             abort();
         memcpy(rolls2[k], out, lengths2[k]);
     }
+    while (nuclei.count < XEW_MOST_NUCLEI)
+        nuclei.centres[nuclei.count++] = c;
     printf("bytes of stack below the caller's frame\n");
     for (uint8_t k = 0; k < XEW_KINDS; k++)
         row_of_kind("xew_expand", k, expand);
@@ -382,6 +392,7 @@ int main(int words, char **word)
     row("xew_evaluate, the most terms of each kind", evaluate);
     row("xew_evaluate_grouped, the same", evaluate_grouped);
     row("xew_grouped_term, the last of the most", grouped_term);
+    row("xew_nuclear, the most terms, 32 nuclei", nuclear);
     row("xew_jk, size 16", jk);
     printf("  %-44s %6zu\n", "the deepest", most);
     return 0;

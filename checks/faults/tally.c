@@ -7,7 +7,7 @@
 /* The refusals of each function, as the header lists them. */
 static const struct {
     const char *name;
-    uint8_t refusals[8];
+    uint8_t refusals[9];
 } functions[FUNCTIONS] = {
     [EXPAND] = { "xew_expand", { 1, 2, 3, 5, 4, 6 } },
     [MEASURE] = { "xew_measure", { 1, 2, 3, 4 } },
@@ -29,8 +29,9 @@ static const struct {
     [SCALE_TOTAL] = { "xew_scale_total", { 1, 2, 3 } },
     [ROLL_TOTAL] = { "xew_roll_total", { 7, 14 } },
     [PREFACTORS] = { "xew_prefactors", { 1, 8, 9, 11 } },
-    [EVALUATE] = { "xew_evaluate", { 7, 14, 8, 9, 10, 11 } },
-    [EVALUATE_GROUPED] = { "xew_evaluate_grouped", { 7, 14, 6, 8, 9, 10, 11 } },
+    [EVALUATE] = { "xew_evaluate", { 7, 14, 17, 8, 9, 10, 11 } },
+    [NUCLEAR] = { "xew_nuclear", { 7, 14, 1, 17, 8, 9, 10, 11 } },
+    [EVALUATE_GROUPED] = { "xew_evaluate_grouped", { 7, 14, 6, 17, 8, 9, 10, 11 } },
     [GROUPED_TERM] = { "xew_grouped_term", { 7, 13, 14 } },
     [JK] = { "xew_jk", { 12, 8, 11 } },
 };
@@ -61,6 +62,8 @@ static const struct {
     [TOTAL_ROLL] = { ROLL_TOTAL, "roll" },
     [EVALUATE_ROLL] = { EVALUATE, "roll" },
     [EVALUATE_BOYS] = { EVALUATE, "boys" },
+    [NUCLEAR_ROLL] = { NUCLEAR, "roll" },
+    [NUCLEAR_BOYS] = { NUCLEAR, "boys" },
     [GROUPED_ROLL] = { EVALUATE_GROUPED, "roll" },
     [GROUPED_BOYS] = { EVALUATE_GROUPED, "boys" },
     [GROUPED_BUFFER] = { EVALUATE_GROUPED, "buffer" },
@@ -79,7 +82,7 @@ static const struct {
     { "895 terms", 10458 },       { "10,265 terms", 127541 },      { "380,480 terms", 4665226 },
     { "185,377 terms", 2971075 }, { "1,048,572 terms", 14908072 }, { "15,001,920 bytes", 15001920 },
 };
-enum { REFUSALS = 15, LARGE = sizeof large / sizeof *large }; /* no refusal, and 1 to 14 */
+enum { REFUSALS = 18, LARGE = sizeof large / sizeof *large }; /* no refusal, and 1 to 17 */
 
 static const char *const fault_names[FAULTS] = { "", "shares beyond", "too many", "not the longest" };
 static const char *const disorder_names[DISORDERS] = { "", "L beyond", "another number", "Boys order falls",
@@ -89,15 +92,20 @@ static const char *const disorder_names[DISORDERS] = { "", "L beyond", "another 
 enum { NONE_KEPT, SOME_KEPT, ALL_KEPT, BYTES_AFTER, OTHER_COUNT, TOLD };
 static const char *const told_names[TOLD] = { "none kept", "some kept", "all kept", "bytes after", "another count" };
 
+/* What a total is of. */
+enum { ONE_NUCLEUS, MOST_NUCLEI, ONLY_NEGATIVE, LISTS };
+static const char *const list_names[LISTS] = { "one nucleus", "32 nuclei", "only of -0.0" };
+
 static const char *const met_names[5] = { "refused", "both", "left", "right", "end" };
 
 uint64_t further_calls;
 static uint64_t answers[FUNCTIONS][REFUSALS], found[FUNCTIONS][3], faults[FAULTS], rolls[LARGE], empties[EMPTIES];
-static uint64_t disorders[DISORDERS], tolds[TOLD], mets[5], left[REFUSALS], just_over, most_histories;
+static uint64_t disorders[DISORDERS], tolds[TOLD], lists[LISTS], mets[5], left[REFUSALS], just_over, most_histories;
 
 void begin(enum function f, const char *labels, size_t words_count, const uint64_t *words)
 {
-    call.slice_count = call.float_count = 0;
+    call.slice_count = call.centre_count = 0;
+    call.has_aux = false;
     call.labels = labels;
     memcpy(call.words, words, words_count * sizeof *words);
     call.name = functions[f].name;
@@ -108,10 +116,16 @@ void with_slice(const struct slice *slice)
     call.slices[call.slice_count++] = *slice;
 }
 
-void with_floats(const double *floats, size_t count)
+void with_centres(const xew_centre *centres, size_t count)
 {
-    memcpy(call.floats, floats, count * sizeof *floats);
-    call.float_count = count;
+    memcpy(call.centres + call.centre_count, centres, count * sizeof *centres);
+    call.centre_count += count;
+}
+
+void with_aux(double aux)
+{
+    call.aux = aux;
+    call.has_aux = true;
 }
 
 void hold(bool good, const char *what)
@@ -157,6 +171,13 @@ void count_salvaged(xew_salvaged told)
 void count_met(uint8_t found)
 {
     mets[found]++;
+}
+
+void count_list(uint32_t nuclei, bool only_negative)
+{
+    lists[ONE_NUCLEUS] += nuclei == 1;
+    lists[MOST_NUCLEI] += nuclei == XEW_MOST_NUCLEI;
+    lists[ONLY_NEGATIVE] += only_negative;
 }
 
 void count_left(uint8_t refusal)
@@ -228,6 +249,8 @@ bool report(void)
             show(name, told_names[i], tolds[i]);
         for (int i = 0; f == COMPARE_NEXT && i < 5; i++)
             show(name, met_names[i], mets[i]);
+        for (int i = 0; f == NUCLEAR && i < LISTS; i++)
+            show(name, list_names[i], lists[i]);
         if (f == EVALUATE_GROUPED)
             show(name, "grouped", left[0]);
         for (const uint8_t *refusal = functions[f].refusals; *refusal; refusal++) {

@@ -6,14 +6,15 @@
 
 enum function {
     EXPAND, MEASURE, EXPAND2, SHELL_LIST, SHELL2, SHELL4, OPEN, CHECK, NEXT, OPEN2, CHECK2, NEXT2, TO_FORM2, TO_FORM1,
-    SALVAGE, COMPARE, COMPARE_NEXT, SCALE_TOTAL, ROLL_TOTAL, PREFACTORS, EVALUATE, EVALUATE_GROUPED, GROUPED_TERM, JK, FUNCTIONS
+    SALVAGE, COMPARE, COMPARE_NEXT, SCALE_TOTAL, ROLL_TOTAL, PREFACTORS, EVALUATE, NUCLEAR, EVALUATE_GROUPED, GROUPED_TERM, JK,
+    FUNCTIONS
 };
 
 /* Slices that may be of length 0 and null. */
 enum empty {
     EXPAND_OUT, EXPAND2_OUT, LIST_OUT, OPEN_ROLL, CHECK_ROLL, NEXT_ROLL, OPEN2_ROLL, CHECK2_ROLL, NEXT2_ROLL,
     TO_FORM2_ROLL, TO_FORM2_OUT, TO_FORM1_ROLL, TO_FORM1_OUT, SALVAGE_ROLL, SALVAGE_OUT, COMPARE_LEFT, COMPARE_RIGHT,
-    COMPARE_NEXT_LEFT, COMPARE_NEXT_RIGHT, TOTAL_ROLL, EVALUATE_ROLL, EVALUATE_BOYS,
+    COMPARE_NEXT_LEFT, COMPARE_NEXT_RIGHT, TOTAL_ROLL, EVALUATE_ROLL, EVALUATE_BOYS, NUCLEAR_ROLL, NUCLEAR_BOYS,
     GROUPED_ROLL, GROUPED_BOYS, GROUPED_BUFFER, GROUPING, JK_I, JK_D, JK_J, JK_K, EMPTIES
 };
 
@@ -26,7 +27,8 @@ void begin(enum function f, const char *labels, size_t count, const uint64_t *wo
 #define BEGIN(f, labels, ...) \
     begin(f, labels, sizeof((uint64_t[]){ __VA_ARGS__ }) / sizeof(uint64_t), (uint64_t[]){ __VA_ARGS__ })
 void with_slice(const struct slice *slice);
-void with_floats(const double *floats, size_t count);
+void with_centres(const xew_centre *centres, size_t count); /* after those that are told already */
+void with_aux(double aux);
 void hold(bool good, const char *what);
 void count(enum function f, uint8_t refusal, int again); /* again: 1 for the second call with the same arguments */
 void count_found(enum function f, uint8_t found); /* of xew_next or xew_next2 */
@@ -34,6 +36,7 @@ void count_fault(enum fault met); /* of a form 2 roll */
 void count_disorder(enum disorder met); /* of a grouping */
 void count_salvaged(xew_salvaged told); /* what was told of a damaged roll */
 void count_met(uint8_t found); /* of xew_compare_next */
+void count_list(uint32_t nuclei, bool only_negative); /* nuclei of a total, and whether each value of theirs is -0.0 */
 void count_left(uint8_t refusal); /* a grouping left in its buffer beside a value, or beside a refusal */
 void count_roll(xew_written written);
 void count_histories(uint64_t histories); /* of a request over the cap */
@@ -80,6 +83,11 @@ void play_salvage(uint8_t *bytes); /* an expansion, damaged or not */
 /* grouping.c: calls that lay terms out by Boys order, and that ask for them, each made twice */
 size_t try_evaluate_grouped(struct slice roll, xew_opened checked); /* the grouping's bytes; 0 where there is none */
 void try_grouping(struct slice roll, xew_opened checked); /* a grouping asked for its terms, then forged */
+
+/* nuclei.c: calls on a list of nuclei, each made twice */
+bool same_value(xew_value a, xew_value b);
+void try_nuclear(struct slice roll, xew_opened checked);
+void play_nuclear(uint8_t *bytes);
 
 /* compare.c: calls on two rolls, each made twice */
 void play_compare(uint8_t *bytes);

@@ -102,6 +102,10 @@ xew_value __wrap_xew_evaluate(const uint8_t *roll, size_t roll_len, xew_centre a
     static int calls;
     if (is("reads-a-float-too-many") && boys)
         seen = boys[boys_len] > 0;
+    if (is("ignores-the-charge") && c.charge <= XEW_MOST_CHARGE)
+        c.charge = 1;
+    if (is("judges-the-charge-first") && c.charge > XEW_MOST_CHARGE && roll_len > 0 && *roll == 2)
+        return (xew_value){ 0, 0, 17 };
     xew_value value = __real_xew_evaluate(roll, roll_len, a, b, c, d, aux, boys, boys_len);
     if (is("remembers") && ++calls % 100 == 0 && !value.refusal)
         value.value += 1;
@@ -109,7 +113,73 @@ xew_value __wrap_xew_evaluate(const uint8_t *roll, size_t roll_len, xew_centre a
         value.place++;
     if (is("forgets-the-boys-count") && value.refusal == 10)
         value.refusal = 0;
+    if (is("looks-at-the-charge-of-a") && value.refusal == 0 && a.charge > XEW_MOST_CHARGE)
+        value = (xew_value){ 0, 0, 17 };
+    if (is("never-says-minus-zero") && value.value == 0)
+        value.value = 0;
     return value;
+}
+
+/* Which nucleus is summed in which turn, and where its Boys numbers begin. */
+static xew_value summed(const uint8_t *roll, size_t roll_len, xew_centre a, xew_centre b, const xew_nuclei *nuclei,
+                        double aux, const double *boys)
+{
+    size_t each = __real_xew_check(roll, roll_len).cursor.l + 1u, apart = is("overlaps-the-boys-lists") ? each - 1 : each;
+    xew_value total = { 0 };
+    for (uint32_t turn = 0; turn < nuclei->count; turn++) {
+        uint32_t i = is("sums-from-the-last-nucleus") ? nuclei->count - 1 - turn : turn;
+        xew_value value = __real_xew_evaluate(roll, roll_len, a, b, nuclei->centres[i], b, aux, boys + i * apart, each);
+        if (is("begins-at-the-first-value") && turn == 0)
+            total.value = -0.0;
+        total.value += value.value;
+        if (value.refusal || !isfinite(total.value))
+            return (xew_value){ 0, 0, 11 };
+    }
+    return total;
+}
+
+/* The nuclei one after the other, each with all its checks. */
+static uint8_t first_refusal(const xew_nuclei *nuclei)
+{
+    for (uint32_t i = 0; i < nuclei->count && i < XEW_MOST_NUCLEI; i++) {
+        const xew_centre *c = &nuclei->centres[i];
+        if (c->charge > XEW_MOST_CHARGE)
+            return 17;
+        if (!isfinite(c->x) || !isfinite(c->y) || !isfinite(c->z))
+            return 8;
+    }
+    return 0;
+}
+
+xew_value __real_xew_nuclear(const uint8_t *roll, size_t roll_len, xew_centre a, xew_centre b, xew_nuclei nuclei,
+                             double aux, const double *boys, size_t boys_len);
+xew_value __wrap_xew_nuclear(const uint8_t *roll, size_t roll_len, xew_centre a, xew_centre b, xew_nuclei nuclei,
+                             double aux, const double *boys, size_t boys_len)
+{
+    uint32_t held = nuclei.count < XEW_MOST_NUCLEI ? nuclei.count : XEW_MOST_NUCLEI;
+    if (is("reads-a-boys-number-too-many") && boys)
+        seen = boys[boys_len] > 0;
+    if (is("lets-119-through"))
+        for (uint32_t i = 0; i < held; i++)
+            nuclei.centres[i].charge -= nuclei.centres[i].charge == XEW_MOST_CHARGE + 1;
+    if (is("counts-nuclei-in-a-byte"))
+        nuclei.count = (uint8_t)nuclei.count;
+    if (is("takes-33-nuclei-as-32") && nuclei.count == XEW_MOST_NUCLEI + 1)
+        nuclei.count--;
+    xew_value value = __real_xew_nuclear(roll, roll_len, a, b, nuclei, aux, boys, boys_len);
+    if (value.refusal == 7 || value.refusal == 14)
+        return value;
+    if (is("judges-the-list-before-the-kind") && value.refusal == 1 && nuclei.count == 0)
+        value.refusal = 17;
+    if (is("judges-nucleus-by-nucleus") && value.refusal == 17 && first_refusal(&nuclei) == 8)
+        value.refusal = 8;
+    if (is("looks-beyond-the-count") && !value.refusal && held < XEW_MOST_NUCLEI
+        && nuclei.centres[held].charge > XEW_MOST_CHARGE)
+        value = (xew_value){ 0, 0, 17 };
+    if (is("looks-at-the-exponent-of-a-nucleus") && !value.refusal && !isfinite(nuclei.centres[0].exponent))
+        value = (xew_value){ 0, 0, 8 };
+    bool sums = is("begins-at-the-first-value") || is("overlaps-the-boys-lists") || is("sums-from-the-last-nucleus");
+    return sums && !value.refusal ? summed(roll, roll_len, a, b, &nuclei, aux, boys) : value;
 }
 
 /* The bytes of a Coulomb roll's grouping: its terms, and a number for each. */
