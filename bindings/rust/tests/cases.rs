@@ -336,6 +336,124 @@ fn values() {
     assert_eq!((j, k), ([1.5], [1.5]));
 }
 
+/// The roll of nuclear s,s: its one term has no prefactor, so the integral is aux times F(0).
+const NUCLEAR_S: [u8; 11] = [2, 0, 0, 0, 0, 0, 0, 1, 1, 0, 0];
+
+/// Nothing of it may be looked at.
+const ODD: Centre = Centre { x: f64::NAN, y: f64::INFINITY, z: f64::NAN, exponent: -1.0, charge: u32::MAX };
+
+/// A list at UNIT's place: the nuclei have an exponent that is not finite, and beyond them stand others.
+fn nuclei(charges: &[u32]) -> Nuclei {
+    let mut list = Nuclei { centres: [ODD; MOST_NUCLEI], count: charges.len() as u32 };
+    for (centre, &charge) in list.centres.iter_mut().zip(charges) {
+        *centre = Centre { exponent: f64::NAN, charge, ..UNIT };
+    }
+    list
+}
+
+/// The bits of a value.
+fn bits(value: Value) -> u64 {
+    match value {
+        Value::Is(value) => value.to_bits(),
+        refused => panic!("{refused:?}"),
+    }
+}
+
+#[test]
+fn lists_of_nuclei() {
+    let total = |charges: &[u32], boys: &[f64]| nuclear(&NUCLEAR_S, UNIT, UNIT, nuclei(charges), 1.5, boys);
+    assert_eq!(total(&[8], &[0.5]), Value::Is(6.0));
+    assert_eq!(total(&[8, 1], &[0.5, 0.25]), Value::Is(6.375));
+    assert_eq!(total(&[MOST_CHARGE; MOST_NUCLEI], &[0.5; MOST_NUCLEI]), Value::Is(2832.0));
+    // From 0.0 in list order: 0.75 is lost beside 1.5e17 and stays beside 0.0.
+    assert_eq!(total(&[1; 3], &[0.5, 1e17, -1e17]), Value::Is(0.0));
+    assert_eq!(total(&[1; 3], &[1e17, -1e17, 0.5]), Value::Is(0.75));
+}
+
+/// A total is that of all but the last nucleus plus the last one's value, and that of one nucleus 0.0 plus its value.
+#[test]
+fn a_list_beside_its_nuclei_one_by_one() {
+    let (roll, [a, b, mut c, d]) = (expanded(NUCLEAR, one_at(&[0, 3])), CENTRES);
+    let mut list = Nuclei { centres: [ODD; MOST_NUCLEI], count: 0 };
+    let boys: Vec<f64> = (0..96).map(|n| 0.8 / f64::from(2 * n + 1)).collect();
+    let mut sum = 0.0;
+    for charge in [8, 1, 0, 118, 92] {
+        (c.x, c.charge) = (c.x + 0.3, charge);
+        let from = 3 * list.count as usize;
+        list.centres[list.count as usize] = Centre { exponent: f64::NAN, ..c };
+        list.count += 1;
+        sum += f64::from_bits(bits(evaluate(&roll, a, b, c, d, 1.5, &boys[from..from + 3])));
+        assert_eq!(bits(nuclear(&roll, a, b, list, 1.5, &boys[..from + 3])), sum.to_bits());
+    }
+}
+
+/// Charge 0 times an integral below 0 is -0.0, and 0.0 plus that is 0.0.
+#[test]
+fn charge_0() {
+    let single = evaluate(&NUCLEAR_S, UNIT, UNIT, Centre { charge: 0, ..UNIT }, ODD, -1.5, &[0.5]);
+    assert_eq!(bits(single), (-0.0_f64).to_bits());
+    assert_eq!(bits(nuclear(&NUCLEAR_S, UNIT, UNIT, nuclei(&[0]), -1.5, &[0.5])), 0.0_f64.to_bits());
+    assert_eq!(bits(nuclear(&NUCLEAR_S, UNIT, UNIT, nuclei(&[0; 2]), -1.5, &[0.5; 2])), 0.0_f64.to_bits());
+    // An infinity times 0 is no number.
+    let infinite = evaluate(&NUCLEAR_S, UNIT, UNIT, Centre { charge: 0, ..UNIT }, ODD, f64::MAX, &[f64::MAX]);
+    assert_eq!(infinite, Value::Refused(Refusal::ResultNotFinite));
+}
+
+#[test]
+fn the_charge_of_a_nucleus_alone_is_looked_at() {
+    let [a, b, c, d] = CENTRES;
+    let any = |centre| Centre { charge: u32::MAX, ..centre };
+    let (boys, mut buffer) = ([0.8, 0.4, 0.2], [UNTOUCHED; 200]);
+    for kind in 0..KINDS {
+        let (nucleus, boys) = match kind {
+            NUCLEAR => (c, &boys[..]),
+            COULOMB => (any(c), &boys[..]),
+            _ => (any(c), &[][..]),
+        };
+        let roll = expanded(kind, one_at(&[0, if kind == COULOMB { 6 } else { 3 }]));
+        let value = evaluate(&roll, a, b, c, d, 1.5, boys);
+        assert!(matches!(value, Value::Is(_)), "{value:?}");
+        assert_eq!(evaluate(&roll, any(a), any(b), nucleus, any(d), 1.5, boys), value);
+        assert_eq!(grouped(&roll, [any(a), any(b), nucleus, any(d)], boys, &mut buffer), value);
+        assert_eq!(prefactors(kind, any(a), any(b), any(c), any(d)), prefactors(kind, a, b, c, d));
+    }
+    let list = nuclei(&[7]);
+    assert_eq!(nuclear(&NUCLEAR_S, any(a), any(b), list, 1.5, &[0.8]), nuclear(&NUCLEAR_S, a, b, list, 1.5, &[0.8]));
+}
+
+/// Each refusal of a list, with every later one beside it: 7, 1, 17, 8, 9, 10, 11.
+#[test]
+fn refusals_of_a_list() {
+    let refused = |roll: &[u8], a: Centre, list: Nuclei, boys: &[f64]| match nuclear(roll, a, UNIT, list, 1.5, boys) {
+        Value::Refused(refusal) => refusal,
+        other => panic!("{other:?}"),
+    };
+    let below = Centre { exponent: -1.0, ..UNIT };
+    let (mut two, mut none) = (nuclei(&[8, 119]), nuclei(&[]));
+    two.centres[0].x = f64::NAN;
+    none.centres[0].charge = 119;
+    assert_eq!(refused(&[5], below, none, &[]), Refusal::BadRoll { place: 0 });
+    assert_eq!(refused(&NUCLEAR_S[..10], below, none, &[]), Refusal::CutRoll { place: 10 });
+    assert_eq!(refused(&ROLL, below, none, &[]), Refusal::Kind);
+    assert_eq!(refused(&expanded(COULOMB, [0; ORDERS]), UNIT, nuclei(&[1]), &[1.0]), Refusal::Kind);
+    for count in [0, 33, 257, u32::MAX] {
+        assert_eq!(refused(&NUCLEAR_S, below, Nuclei { count, ..nuclei(&[1; 32]) }, &[]), Refusal::Nuclei);
+    }
+    // The second nucleus is refused 17 before the first one 8.
+    assert_eq!(refused(&NUCLEAR_S, below, two, &[]), Refusal::Nuclei);
+    two.centres[1].charge = 118;
+    assert_eq!(refused(&NUCLEAR_S, below, two, &[]), Refusal::InputNotFinite);
+    assert_eq!(refused(&NUCLEAR_S, below, nuclei(&[8, 1]), &[f64::NAN]), Refusal::InputNotFinite);
+    assert_eq!(refused(&NUCLEAR_S, below, nuclei(&[8, 1]), &[]), Refusal::Exponent);
+    // Ten reads against the total.
+    for boys in [&[][..], &[f64::MAX; 1], &[f64::MAX; 3], &[f64::MAX; 4]] {
+        assert_eq!(refused(&NUCLEAR_S, UNIT, nuclei(&[8, 1]), boys), Refusal::BoysCount);
+    }
+    assert_eq!(refused(&NUCLEAR_S, UNIT, nuclei(&[8, 1]), &[f64::MAX; 2]), Refusal::ResultNotFinite);
+    // Each value is finite, and their sum is not.
+    assert_eq!(refused(&NUCLEAR_S, UNIT, nuclei(&[1, 1]), &[f64::MAX / 2.0; 2]), Refusal::ResultNotFinite);
+}
+
 /// Document 01's roll of Coulomb Ax1 Cx1: [0,2] [0,5]o1 [4,2]o1 [4,5]o2 [22]o1.
 const COULOMB_ORDERS: [u8; ORDERS] = [1, 0, 0, 0, 0, 0, 1, 0, 0, 0, 0, 0];
 
@@ -485,7 +603,7 @@ macro_rules! refusal {
 }
 
 /// A call for each refusal.
-fn refusals() -> [(u8, Refusal); 14] {
+fn refusals() -> [(u8, Refusal); 15] {
     let mut room = [UNTOUCHED; 10];
     let mut request = |kind, orders, start| refusal!(Expanded, expand(kind, &orders, &mut room, start));
     let sum = |roll, a, boys| refusal!(Value, evaluate(roll, a, UNIT, UNIT, UNIT, 1.0, boys));
@@ -504,6 +622,7 @@ fn refusals() -> [(u8, Refusal); 14] {
         (12, refusal!(Matrices, jk(0, &[], &[], &mut [], &mut []))),
         (13, refusal!(Component, shell2(0, 0, 1))),
         (14, sum(&ROLL[..16], UNIT, &[])),
+        (17, refusal!(Value, nuclear(&NUCLEAR_S, UNIT, UNIT, nuclei(&[119]), 1.0, &[1.0]))),
     ];
     assert_eq!(room, [UNTOUCHED; 10]);
     found

@@ -90,7 +90,8 @@ fn largest_grouping() {
     let orders = [2, 1, 0, 2, 0, 2, 1, 3, 0, 1, 0, 2];
     let mut roll = vec![0; 14908072];
     assert_eq!(expand(COULOMB, &orders, &mut roll, 0), Expanded::Roll { length: 14908072, terms: 1048572 });
-    let [a, b, c, d] = [1.0, 0.5, -0.25, 0.125].map(|x| Centre { x, y: x * x, z: -x, exponent: 1.0 + x * x, charge: 1 });
+    let [a, b, c, d] =
+        [1.0, 0.5, -0.25, 0.125].map(|x| Centre { x, y: x * x, z: -x, exponent: 1.0 + x * x, charge: 1 });
     let boys: Vec<f64> = (0..15).map(|n| 0.8 / f64::from(2 * n + 1)).collect();
     let mut buffer = vec![0xa5; 41942880];
     assert_eq!(buffer.len(), ENTRY * 1048572);
@@ -153,6 +154,24 @@ fn prefactors_of_a_term() {
             }
         }
     }
+}
+
+/// Nuclear s,s, whose integral is aux times F(0).
+#[test]
+fn most_charge_and_most_nuclei() {
+    let roll = [NUCLEAR, 0, 0, 0, 0, 0, 0, 1, 1, 0, 0];
+    let unit = Centre { exponent: 1.0, ..Centre::default() };
+    let single = |charge| evaluate(&roll, unit, unit, Centre { charge, ..unit }, unit, 0.5, &[1.0]);
+    let total = |charge, count: u32, boys: &[f64]| {
+        let nuclei = Nuclei { centres: [Centre { charge, ..unit }; MOST_NUCLEI], count };
+        nuclear(&roll, unit, unit, nuclei, 0.5, boys)
+    };
+    let (most, boys) = (MOST_NUCLEI as u32, [1.0; MOST_NUCLEI + 1]);
+    assert_eq!((single(MOST_CHARGE), single(MOST_CHARGE + 1)), (Value::Is(59.0), Value::Refused(Refusal::Nuclei)));
+    assert_eq!(total(MOST_CHARGE, most, &boys[1..]), Value::Is(1888.0));
+    assert_eq!(total(MOST_CHARGE + 1, most, &boys[1..]), Value::Refused(Refusal::Nuclei));
+    assert_eq!(total(MOST_CHARGE, most + 1, &boys), Value::Refused(Refusal::Nuclei));
+    assert_eq!(total(MOST_CHARGE, 0, &[]), Value::Refused(Refusal::Nuclei));
 }
 
 #[test]
