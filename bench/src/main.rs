@@ -7,6 +7,7 @@ mod forms;
 mod grouped;
 mod matrices;
 mod measure;
+mod nuclei;
 mod numbers;
 mod one;
 mod ours;
@@ -33,6 +34,7 @@ use std::process::exit;
 const ORDERS: usize = 12;
 const PREFACTORS: usize = 24;
 const TABLE: usize = 23;
+const MOST_NUCLEI: usize = 32;
 
 /// Each request once for each run.
 fn list(requests: Vec<Request>, runs: fn(&Request) -> usize) {
@@ -73,6 +75,7 @@ fn run(words: &[&str]) -> Result<(), String> {
             let request = Request::of_line(&request.join(" ")).ok_or("no request")?;
             return measure::print(&request, time);
         }
+        ["nuclei"] => return table::print_lists(),
         ["native"] => return table::print(&rows()?, true),
         ["emulated"] => return table::print(&rows()?, false),
         ["picture"] => picture::print(&rows()?),

@@ -7,6 +7,7 @@ use crate::salvage;
 use crate::grouped;
 use crate::matrices::{self, SIZES};
 use crate::measure::Row;
+use crate::nuclei::{self, LIST};
 use crate::totals;
 use std::fmt::Display;
 use std::time::Duration;
@@ -134,6 +135,28 @@ impl Table {
             let cells = format!("{} | {:.1} | {:.2}", number, took, took / first);
             self.row(&cells, COMPONENT, took / first <= COMPONENT);
         }
+    }
+
+    fn print_nuclei(&self) -> Result<(), String> {
+        self.head("32 nuclei | terms | xew_nuclear, ns a call | xew_evaluate of one | xew_check | 33 of (evaluate - check), one check | xew_nuclear, times that | 32 of get_nuclear | get_nuclear through xew_nuclear");
+        for request in nuclei::requests() {
+            let took = nuclei::times(&request, Duration::from_millis(100))?;
+            let ratio = took.list / took.apart();
+            let cells = format!(
+                "{} | {} | {:.0} | {:.1} | {:.1} | {:.0} | {:.2} | {:.0} | {:.1}",
+                request.title(),
+                took.terms,
+                took.list,
+                took.one,
+                took.check,
+                took.apart(),
+                ratio,
+                took.rust,
+                took.rust / took.list
+            );
+            self.row(&cells, format!("{:.1}", LIST), ratio <= LIST);
+        }
+        Ok(())
     }
 }
 
@@ -285,5 +308,11 @@ pub fn print(rows: &[Row], has_goals: bool) -> Result<(), String> {
     print_forms(&accepted)?;
     print_salvage(&accepted)?;
     print_compare(&accepted)?;
+    table.print_nuclei()?;
     print_totals()
+}
+
+/// The table of lists of nuclei alone.
+pub fn print_lists() -> Result<(), String> {
+    Table { has_goals: true }.print_nuclei()
 }
