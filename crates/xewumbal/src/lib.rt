@@ -11,7 +11,7 @@ use kind::Kind;
 // Raised when a struct, a meaning or an answer changes. The header and the binding have the same (D-85).
 pub const VERSION: u32 = 3;
 
-// Centres and lists of them go in as the crates below have them.
+// Centres and lists of them go in as the crates below have them (D-109).
 pub type xew_centre = geometry::Centre;
 
 pub type xew_nuclei = nuclei::Nuclei;
