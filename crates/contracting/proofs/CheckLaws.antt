@@ -7,11 +7,13 @@ use native.Mathlib.Numerals.{add-one}
 use native.Mathlib.Omega.{arith}
 use borrow.Author.Tests.{le-leb, lt-leb}
 use lib.Dec.{leb}
+use lib.Ieee.{Float}
 use lib.ListN.{length, getD, take, drop, drop-of-length-le}
 use lib.Seq.{drop-cons, getD-take, length-take-le}
+use Rattle.geometry.specs.Floats.{allFinite}
 use Rattle.contracting.specs.declared.Primitive.{Primitive}
 use Rattle.contracting.specs.Pairs.{mostPrimitives, counted, every}
-use Rattle.contracting.specs.inner.Summed.{finitePrimitive, abovePrimitive}
+use Rattle.contracting.specs.inner.Summed.{finitePrimitive, abovePrimitive, allFiniteOf, allAboveOf}
 
 pub counted-both : (n : ℕ) → 1 ≤ n → leb n mostPrimitives ≡ counted n
 unfolding counted
@@ -45,3 +47,29 @@ module _ (P : Primitive → Bool) (xs : List Primitive) (n i : ℕ) (d : Primiti
 pub every-done : (P : Primitive → Bool) (xs : List Primitive) (n i : ℕ) (b : Bool) → n ≤ mostPrimitives → length xs ≡ mostPrimitives → n ≤ i → every P (drop i (take n xs)) ≡ b → true ≡ b
 unfolding every
 every-done P xs n i b fits all h rest = rw (none-left xs n i fits all h) at rest
+
+-- ---- both functions
+
+module _ (lefts rights : List Primitive) (s : Bool) where
+  module _ (e : s ≡ every finitePrimitive lefts) (host : List Float) where
+    pub finite-left : s ≡ false → false ≡ allFiniteOf lefts rights host
+    unfolding allFiniteOf
+    finite-left p = rw (← e, p)
+
+    module _ (t : Bool) (p : s ≡ true) (f : t ≡ every finitePrimitive rights) where
+      pub finite-right : t ≡ false → false ≡ allFiniteOf lefts rights host
+      unfolding allFiniteOf
+      finite-right q = rw (← e, p, ← f, q)
+
+      pub finite-host : (u : Bool) → t ≡ true → u ≡ allFinite host → u ≡ allFiniteOf lefts rights host
+      unfolding allFiniteOf
+      finite-host u q g = rw (← e, p, ← f, q) g
+
+  module _ (e : s ≡ every abovePrimitive lefts) where
+    pub above-left : s ≡ false → false ≡ allAboveOf lefts rights
+    unfolding allAboveOf
+    above-left p = rw (← e, p)
+
+    pub above-right : (t : Bool) → s ≡ true → t ≡ every abovePrimitive rights → t ≡ allAboveOf lefts rights
+    unfolding allAboveOf
+    above-right t p f = rw (← e, p) f

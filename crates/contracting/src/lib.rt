@@ -1,10 +1,10 @@
 // Contracted overlap and kinetic elements: two functions of one to ten primitives each, over one roll.
-ghost use Prim.Native.Nat.{_≤_, _*_};
+ghost use Prim.Native.Nat.{_≤_};
 ghost use mathlib.Core.Path.{_≡_};
-ghost use mathlib.Core.Bool.{true};
+ghost use mathlib.Core.Bool.{true, _&&_};
 ghost use lib.ListN.{take};
 ghost use Rattle.kind.specs.Kinds.{kindOf};
-ghost use Rattle.contracting.specs.Pairs.{mostPrimitives, counted, primitivesOf, rowsOf, every};
+ghost use Rattle.contracting.specs.Pairs.{mostPrimitives, counted, rowsFrom, every};
 ghost use Rattle.contracting.specs.Elements.{contracts, checkedOf, ofRoll, contractedOf};
 ghost use Rattle.contracting.specs.inner.Summed.{finitePrimitive, abovePrimitive, allFiniteOf, allAboveOf, PairsMay, ofKind, ofCursor};
 ghost use Rattle.integrals.specs.inner.Stored.{againFrom};
@@ -16,6 +16,7 @@ use kind::Kind;
 use kind::Named;
 use roll::Cursor;
 use roll::Opening;
+use sums::outer;
 
 mod sums;
 
@@ -37,12 +38,22 @@ pub struct Contracted {
     pub count: u32,
 }
 
-// Check 15 of one function.
-fn counted(count: u32) -> bool
+// One to ten primitives.
+fn counted(count: usize) -> bool
     ensures { λ r. ⌜ r ≡ counted count ⌝ }
 {
     if 1 <= count {
-        return count as usize <= MOST_PRIMITIVES;
+        return count <= MOST_PRIMITIVES;
+    }
+    false
+}
+
+// Check 15, of m left and n right primitives.
+fn both_counted(m: usize, n: usize) -> bool
+    ensures { λ r. ⌜ r ≡ counted m && counted n ⌝ }
+{
+    if counted(m) {
+        return counted(n);
     }
     false
 }
@@ -94,14 +105,18 @@ fn primitives_above_zero(primitives: [Primitive; MOST_PRIMITIVES], count: usize)
 }
 
 // Check 8 over all pairs: each primitive and each host number stands in one.
-fn all_finite(left: Contracted, right: Contracted, host: &[f64]) -> bool
-    requires { ⌜ (left .count ≤ mostPrimitives) × (right .count ≤ mostPrimitives) ⌝ }
-    ensures { λ r. ⌜ r ≡ allFiniteOf (primitivesOf left) (primitivesOf right) (now (host .entry)) ⌝ }
+fn all_finite(
+    lefts: [Primitive; MOST_PRIMITIVES],
+    m: usize,
+    rights: [Primitive; MOST_PRIMITIVES],
+    n: usize,
+    host: &[f64],
+) -> bool
+    requires { ⌜ (m ≤ mostPrimitives) × (n ≤ mostPrimitives) ⌝ }
+    ensures { λ r. ⌜ r ≡ allFiniteOf (take m lefts) (take n rights) (now (host .entry)) ⌝ }
 {
-    let lefts = left.primitives;
-    if primitives_finite(lefts, left.count as usize) {
-        let rights = right.primitives;
-        if primitives_finite(rights, right.count as usize) {
+    if primitives_finite(lefts, m) {
+        if primitives_finite(rights, n) {
             return geometry::all_finite(host);
         }
     }
@@ -109,41 +124,41 @@ fn all_finite(left: Contracted, right: Contracted, host: &[f64]) -> bool
 }
 
 // Check 9 over all pairs.
-fn all_above_zero(left: Contracted, right: Contracted) -> bool
-    requires { ⌜ (left .count ≤ mostPrimitives) × (right .count ≤ mostPrimitives) ⌝ }
-    ensures { λ r. ⌜ r ≡ allAboveOf (primitivesOf left) (primitivesOf right) ⌝ }
+fn all_above_zero(
+    lefts: [Primitive; MOST_PRIMITIVES],
+    m: usize,
+    rights: [Primitive; MOST_PRIMITIVES],
+    n: usize,
+) -> bool
+    requires { ⌜ (m ≤ mostPrimitives) × (n ≤ mostPrimitives) ⌝ }
+    ensures { λ r. ⌜ r ≡ allAboveOf (take m lefts) (take n rights) ⌝ }
 {
-    let lefts = left.primitives;
-    if primitives_above_zero(lefts, left.count as usize) {
-        let rights = right.primitives;
-        return primitives_above_zero(rights, right.count as usize);
+    if primitives_above_zero(lefts, m) {
+        return primitives_above_zero(rights, n);
     }
     false
 }
 
 // Checks 8, 9 and 11 over all pairs, and the element. What is not finite stays so in every sum, so one look at the element serves for all of 11.
-fn checked(terms: Terms, left: Contracted, right: Contracted, host: &[f64], roll: &[u8]) -> Value
-    requires { ⌜ PairsMay left right (now host) × (contracts (terms .kind) ≡ true) ⌝ }
-    ensures { λ r. ⌜ r ≡ checkedOf (terms .kind) (terms .cursor .l) (againFrom (now (roll .entry)) (terms .cursor)) (rowsOf left right (now (host .entry))) ⌝ }
+fn checked(
+    terms: Terms,
+    lefts: [Primitive; MOST_PRIMITIVES],
+    m: usize,
+    rights: [Primitive; MOST_PRIMITIVES],
+    n: usize,
+    host: &[f64],
+    roll: &[u8],
+) -> Value
+    requires { ⌜ PairsMay m n (now host) × (contracts (terms .kind) ≡ true) ⌝ }
+    ensures { λ r. ⌜ r ≡ checkedOf (terms .kind) (terms .cursor .l) (againFrom (now (roll .entry)) (terms .cursor)) (rowsFrom (now (host .entry)) (take m lefts) 0 (take n rights)) ⌝ }
 {
-    if !all_finite(left, right, host) {
+    if !all_finite(lefts, m, rights, n, host) {
         return Value::Refused(8, 0);
     }
-    if !all_above_zero(left, right) {
+    if !all_above_zero(lefts, m, rights, n) {
         return Value::Refused(9, 0);
     }
-    let lefts = left.primitives;
-    let rights = right.primitives;
-    let sum = sums::outer(
-        terms,
-        lefts,
-        left.count as usize,
-        rights,
-        right.count as usize,
-        host,
-        roll,
-    );
-    integrals::result(sum)
+    integrals::result(outer(terms, lefts, m, rights, n, host, roll))
 }
 
 // Whether elements are made over rolls of this kind.
@@ -160,13 +175,21 @@ fn contracts(kind: Kind) -> bool
 }
 
 // Check 1, right after 7.
-fn of_kind(terms: Terms, left: Contracted, right: Contracted, host: &[f64], roll: &[u8]) -> Value
-    requires { ⌜ PairsMay left right (now host) ⌝ }
-    ensures { λ r. ⌜ r ≡ ofKind (terms .kind) (terms .cursor) (now (roll .entry)) (rowsOf left right (now (host .entry))) ⌝ }
+fn of_kind(
+    terms: Terms,
+    lefts: [Primitive; MOST_PRIMITIVES],
+    m: usize,
+    rights: [Primitive; MOST_PRIMITIVES],
+    n: usize,
+    host: &[f64],
+    roll: &[u8],
+) -> Value
+    requires { ⌜ PairsMay m n (now host) ⌝ }
+    ensures { λ r. ⌜ r ≡ ofKind (terms .kind) (terms .cursor) (now (roll .entry)) (rowsFrom (now (host .entry)) (take m lefts) 0 (take n rights)) ⌝ }
 {
     let kind = terms.kind;
     if contracts(kind) {
-        return checked(terms, left, right, host, roll);
+        return checked(terms, lefts, m, rights, n, host, roll);
     }
     Value::Refused(1, 0)
 }
@@ -174,30 +197,39 @@ fn of_kind(terms: Terms, left: Contracted, right: Contracted, host: &[f64], roll
 // The element over a judged roll, from its cursor on.
 fn from_cursor(
     cursor: Cursor,
-    left: Contracted,
-    right: Contracted,
+    lefts: [Primitive; MOST_PRIMITIVES],
+    m: usize,
+    rights: [Primitive; MOST_PRIMITIVES],
+    n: usize,
     host: &[f64],
     roll: &[u8],
 ) -> Value
-    requires { ⌜ PairsMay left right (now host) ⌝ }
-    ensures { λ r. ⌜ r ≡ ofCursor (kindOf (cursor .kind)) cursor (now (roll .entry)) (rowsOf left right (now (host .entry))) ⌝ }
+    requires { ⌜ PairsMay m n (now host) ⌝ }
+    ensures { λ r. ⌜ r ≡ ofCursor (kindOf (cursor .kind)) cursor (now (roll .entry)) (rowsFrom (now (host .entry)) (take m lefts) 0 (take n rights)) ⌝ }
 {
     match Kind::of(cursor.kind) {
-        Named::Is(kind) => of_kind(Terms { kind, cursor }, left, right, host, roll),
+        Named::Is(kind) => of_kind(Terms { kind, cursor }, lefts, m, rights, n, host, roll),
         Named::Unknown => Value::Refused(7, 0),
     }
 }
 
 // The roll is judged once.
-fn over_roll(roll: &[u8], left: Contracted, right: Contracted, host: &[f64]) -> Value
-    requires { ⌜ PairsMay left right (now host) ⌝ }
-    ensures { λ r. ⌜ r ≡ ofRoll (rollAt (now (roll .entry))) (rowsOf left right (now (host .entry))) ⌝ }
+fn over_roll(
+    roll: &[u8],
+    lefts: [Primitive; MOST_PRIMITIVES],
+    m: usize,
+    rights: [Primitive; MOST_PRIMITIVES],
+    n: usize,
+    host: &[f64],
+) -> Value
+    requires { ⌜ PairsMay m n (now host) ⌝ }
+    ensures { λ r. ⌜ r ≡ ofRoll (rollAt (now (roll .entry))) (rowsFrom (now (host .entry)) (take m lefts) 0 (take n rights)) ⌝ }
 {
     let opened = roll::check(roll);
     let found = opened.found;
     let cursor = opened.cursor;
     match found {
-        Opening::Roll => from_cursor(cursor, left, right, host, roll),
+        Opening::Roll => from_cursor(cursor, lefts, m, rights, n, host, roll),
         Opening::Refused(number, place) => Value::Refused(number, place),
     }
 }
@@ -207,14 +239,15 @@ fn over_roll(roll: &[u8], left: Contracted, right: Contracted, host: &[f64]) -> 
 pub fn element(roll: &[u8], left: Contracted, right: Contracted, host: &[f64]) -> Value
     ensures { λ r. ⌜ r ≡ contractedOf (now (roll .entry)) left right (now (host .entry)) ⌝ }
 {
-    if !counted(left.count) {
+    let m = left.count as usize;
+    let n = right.count as usize;
+    if !both_counted(m, n) {
         return Value::Refused(15, 0);
     }
-    if !counted(right.count) {
-        return Value::Refused(15, 0);
-    }
-    if host.len() != left.count as usize * right.count as usize {
+    if host.len() != m * n {
         return Value::Refused(16, 0);
     }
-    over_roll(roll, left, right, host)
+    let lefts = left.primitives;
+    let rights = right.primitives;
+    over_roll(roll, lefts, m, rights, n, host)
 }

@@ -17,7 +17,6 @@ use Rattle.integrals.specs.declared.Value.the-variants.{Refused}
 use Rattle.integrals.specs.Values.{refusedUnless}
 use Rattle.integrals.specs.inner.Stored.{againFrom}
 use Rattle.contracting.specs.declared.Primitive.{Primitive}
-use Rattle.contracting.specs.declared.Contracted.{Contracted}
 use Rattle.contracting.specs.Pairs.{mostPrimitives, counted, Pair, Row, every}
 use Rattle.contracting.specs.Elements.{contracts, pairGeometry, pairValue, checkedOf}
 
@@ -50,10 +49,10 @@ abbrev pub mostPairs : ℕ
 mostPairs = mostPrimitives * mostPrimitives
 
 -- what stands before the roll is judged: both counts, and the host list's length
-pub record PairsMay (left right : Contracted) (host : List Float) : Type 0 where
-  pub lefts : counted (left .count) ≡ true
-  pub rights : counted (right .count) ≡ true
-  pub hosts : length host ≡ left .count * right .count
+pub record PairsMay (m n : ℕ) (host : List Float) : Type 0 where
+  pub lefts : counted m ≡ true
+  pub rights : counted n ≡ true
+  pub hosts : length host ≡ m * n
 
 -- the answer from a cursor on; a cursor that the judge gives has a kind (D-63)
 unfoldable pub ofKind : Kind → Cursor → List ℕ → List Row → Value
