@@ -48,9 +48,9 @@ module _ (F : Float → Bool) where
 -- ---- rows
 
 module _ (P : Pair → Bool) (L : Primitive → Bool) (F : Float → Bool) (nought : F 0·0 ≡ true)
-  (apart : (p : Pair) → P p ≡ true → (L (p .left) ≡ true) × (L (p .right) ≡ true) × (F (p .aux) ≡ true))
-  (joined : (p : Pair) → L (p .left) ≡ true → L (p .right) ≡ true → F (p .aux) ≡ true → P p ≡ true)
-  (host : List Float) where
+    (apart : (p : Pair) → P p ≡ true → (L (p .left) ≡ true) × (L (p .right) ≡ true) × (F (p .aux) ≡ true))
+    (joined : (p : Pair) → L (p .left) ≡ true → L (p .right) ≡ true → F (p .aux) ≡ true → P p ≡ true)
+    (host : List Float) where
   abbrev pairAt : ℕ → Primitive → Primitive → Pair
   pairAt at a b = record { left = a; right = b; aux = getD host at 0·0 }
 

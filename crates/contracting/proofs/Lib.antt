@@ -1,6 +1,9 @@
 pub mod Answers
 pub mod Carried
+pub mod Charges
 pub mod CheckLaws
 pub mod EachPair
+pub mod Only
+pub mod OtherWords
 pub mod PairChecks
 pub mod SumLaws
