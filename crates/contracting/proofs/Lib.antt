@@ -3,6 +3,8 @@ pub mod Carried
 pub mod Charges
 pub mod CheckLaws
 pub mod EachPair
+pub mod OnePrimitive
+pub mod OneTimes
 pub mod Only
 pub mod OtherWords
 pub mod PairChecks

@@ -83,14 +83,14 @@ pub(crate) fn outer(
     requires { ⌜ (m ≤ mostPrimitives) × (n ≤ mostPrimitives) ⌝ }
     ensures { λ r. ⌜ r ≡ elementOf (keptValue (terms .kind) (terms .cursor .l) (againFrom (now (roll .entry)) (terms .cursor))) (rowsFrom (now (host .entry)) (take m lefts) 0 (take n rights)) ⌝ }
 {
-    let mut sum = 0.0;
+    let mut element = 0.0;
     let mut from = 0;
     let mut j = 0;
     while j < n {
         let b = rights[j];
-        sum = sum + b.coefficient * inner(terms, lefts, m, b, host, from, roll);
+        element = element + b.coefficient * inner(terms, lefts, m, b, host, from, roll);
         from += m;
         j += 1;
     }
-    sum
+    element
 }

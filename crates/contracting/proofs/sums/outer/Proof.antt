@@ -15,10 +15,10 @@ use Rattle.contracting.proofs.sums.outer.Tie as tie
 use Rattle.contracting.proofs.sums.inner.Reads as inner-reads
 
 abbrev Inv-loop : tie.InvT-loop
-Inv-loop terms lefts m n host roll rights sum₀ from₀ j₀ sum from j = let v = keptValue (terms .kind) (terms .cursor .l) (againFrom roll (terms .cursor)) in (j ≤ n) × (from ≤ mostPrimitives * j) × (from ≡ j * m) × (outerFrom v (rowsFrom host (take m lefts) j (drop j (take n rights))) sum ≡ elementOf v (rowsFrom host (take m lefts) 0 (take n rights)))
+Inv-loop terms lefts m n host roll rights element₀ from₀ j₀ element from j = let v = keptValue (terms .kind) (terms .cursor .l) (againFrom roll (terms .cursor)) in (j ≤ n) × (from ≤ mostPrimitives * j) × (from ≡ j * m) × (outerFrom v (rowsFrom host (take m lefts) j (drop j (take n rights))) element ≡ elementOf v (rowsFrom host (take m lefts) 0 (take n rights)))
 
 abbrev μ-loop : tie.MeasureT-loop
-μ-loop terms lefts m n host roll rights sum₀ from₀ j₀ sum from j = n - j
+μ-loop terms lefts m n host roll rights element₀ from₀ j₀ element from j = n - j
 
 loop-holds : tie.Need-loop-holds Inv-loop μ-loop
 unfolding elementOf

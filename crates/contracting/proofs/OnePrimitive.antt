@@ -1,0 +1,182 @@
+-- One primitive on each side, with norms and coefficients 1.0: the plain evaluation of its two centres, its value v under the two sums as 0.0 + (0.0 + v).
+use Prim.Native.Nat.{ℕ, zero, suc}
+use mathlib.Core.Path.{_≡_, refl, sym, ap, _∙_}
+use mathlib.Core.Bool.{Bool, true, false, _&&_, and-true, false≢true}
+use mathlib.Core.List.{List, [], _∷_}
+use lib.Dec.{T}
+use lib.Ieee.{Float, binary64, fits, ofBits}
+use lib.Ieee.Bits.{ofBits-fits}
+use lib.Ieee.Fits.{add-fits, mul-fits}
+use lib.Ieee.Scale.{finite}
+use Rattle.laws.specs.Total.{total}
+use Rattle.laws.proofs.Cases.{tested}
+use Rattle.kind.specs.declared.Kind.{Kind}
+use Rattle.kind.specs.declared.Kind.the-variants.{Overlap, Kinetic, Nuclear, Moment, Coulomb}
+use Rattle.term.specs.Terms.{Term}
+use Rattle.roll.specs.Reading.{Reading, got, refused, Roll, rollAt}
+use Rattle.geometry.specs.declared.Centre.{Centre}
+use Rattle.geometry.specs.Floats.{_⊕_, _⊗_, zero as 0·0, one, allFinite}
+use Rattle.geometry.specs.Geometry.{geometryNumbers}
+use Rattle.geometry.specs.Tables.{entriesOf, prefac}
+use Rattle.geometry.specs.Charges.{chargeKept, charged}
+use Rattle.geometry.specs.Checks.{used, usedFinite, exponents, exponentsAboveZero, finiteWith, geometryFinite}
+use Rattle.integrals.specs.declared.Value.{Value}
+use Rattle.integrals.specs.declared.Value.the-variants.{Is, Refused}
+use Rattle.integrals.specs.Sums.{sumFrom, totalOf, integralOf}
+use Rattle.integrals.specs.Values.{inputsFinite, boysCounted, refusedUnless, resultOf, valueOf}
+use Rattle.integrals.specs.Evaluation.{ofRoll as evaluatedOf, evaluateOf}
+use Rattle.contracting.specs.declared.Primitive.{Primitive}
+use Rattle.contracting.specs.declared.Contracted.{Contracted}
+use Rattle.contracting.specs.Pairs.{counted, primitivesOf, Pair, Row, pairsWith, rowsFrom, rowsOf, allPairs, every}
+use Rattle.contracting.specs.Elements.{contracts, pairFinite, pairAboveZero, pairGeometry, pairValue, shareOf, innerFrom, innerOf, outerFrom, elementOf, checkedOf, ofRoll, contractedOf}
+use Rattle.contracting.proofs.Carried.{sum-finite}
+use Rattle.contracting.proofs.OneTimes.{one-times}
+
+-- a function of one primitive; anything may lie beyond it
+abbrev pub plain : Centre → Primitive
+plain c = record { centre = c; norm = one; coefficient = one }
+
+abbrev pub lone : Centre → List Primitive → Contracted
+lone c rest = record { primitives = plain c ∷ rest; count = 1 }
+
+-- an evaluation's value under both sums
+abbrev pub summedTwice : Value → Value
+summedTwice (Is v) = resultOf (0·0 ⊕ (0·0 ⊕ v))
+summedTwice (Refused number place) = Refused number place
+
+-- 1 for a roll of another kind, once it has been read
+abbrev pub ofTheseKinds : Reading Roll → Value → Value
+ofTheseKinds (got roll end) v = refusedUnless (contracts (roll .kind)) 1 v
+ofTheseKinds (refused number place) v = v
+
+-- ---- sums
+
+sum-fits : (adds : Term → Float) (ts : List Term) (sum : Float) → T (fits binary64 sum) → T (fits binary64 (sumFrom adds ts sum))
+unfolding sumFrom
+sum-fits adds [] sum t = t
+sum-fits adds (x ∷ xs) sum t = sum-fits adds xs (sum ⊕ adds x) (add-fits binary64 sum (adds x))
+
+both-results : (v : Float) → refusedUnless (finite v) 11 (refusedUnless (finite (0·0 ⊕ v)) 11 (resultOf (0·0 ⊕ (0·0 ⊕ v)))) ≡ summedTwice (resultOf v)
+unfolding refusedUnless resultOf
+both-results v =
+    tested (finite v)
+    (λ e. tested (finite (0·0 ⊕ v)) (λ f. rw (e, f)) (λ f. rw (e, f, not-after f)))
+    (λ e. rw (e))
+  where
+    not-after : finite (0·0 ⊕ v) ≡ false → finite (0·0 ⊕ (0·0 ⊕ v)) ≡ false
+    not-after f = tested (finite (0·0 ⊕ (0·0 ⊕ v))) (λ e. absurd (false≢true (sym f ∙ sum-finite 0·0 (0·0 ⊕ v) e .1))) (λ e. e)
+
+in-order : (i e g : Bool) (v : Float) → refusedUnless i 8 (refusedUnless e 9 (refusedUnless g 11 (refusedUnless (finite v) 11 (refusedUnless (finite (0·0 ⊕ v)) 11 (resultOf (0·0 ⊕ (0·0 ⊕ v))))))) ≡ summedTwice (refusedUnless i 8 (refusedUnless e 9 (refusedUnless g 11 (resultOf v))))
+unfolding refusedUnless
+in-order true true true v = both-results v
+in-order true true false v = refl
+in-order true false g v = refl
+in-order false e g v = refl
+
+-- ---- one pair
+
+module _ (a b c d : Centre) (aux : Float) where
+  abbrev pair : Pair
+  pair = record { left = plain a; right = plain b; aux = aux }
+
+  abbrev rows : List Row
+  rows = record { right = plain b; pairs = pair ∷ [] } ∷ []
+
+  finite-plain : (k : Kind) → contracts k ≡ true → every (pairFinite k) (pair ∷ []) ≡ inputsFinite k a b c d aux []
+  unfolding contracts every pairFinite inputsFinite usedFinite used allFinite ofBits
+  finite-plain Overlap e = and-true _ ∙ and-true _
+  finite-plain Kinetic e = and-true _ ∙ and-true _
+  finite-plain Nuclear e = absurd (false≢true e)
+  finite-plain Moment e = absurd (false≢true e)
+  finite-plain Coulomb e = absurd (false≢true e)
+
+  above-plain : (k : Kind) → contracts k ≡ true → every (pairAboveZero k) (pair ∷ []) ≡ exponentsAboveZero k a b c d
+  unfolding contracts every pairAboveZero exponentsAboveZero exponents
+  above-plain Overlap e = and-true _
+  above-plain Kinetic e = and-true _
+  above-plain Nuclear e = absurd (false≢true e)
+  above-plain Moment e = absurd (false≢true e)
+  above-plain Coulomb e = absurd (false≢true e)
+
+  geometry-plain : (k : Kind) → contracts k ≡ true → every (pairGeometry k) (pair ∷ []) ≡ geometryFinite k a b c d
+  unfolding contracts every pairGeometry geometryFinite finiteWith geometryNumbers prefac entriesOf
+  geometry-plain Overlap e = and-true _
+  geometry-plain Kinetic e = and-true _
+  geometry-plain Nuclear e = absurd (false≢true e)
+  geometry-plain Moment e = absurd (false≢true e)
+  geometry-plain Coulomb e = absurd (false≢true e)
+
+  module _ (l : ℕ) (ts : List Term) where
+    value-plain : (k : Kind) → contracts k ≡ true → pairValue k l ts pair ≡ integralOf k l a b c d aux [] ts
+    unfolding contracts pairValue integralOf prefac entriesOf
+    value-plain Overlap e = refl
+    value-plain Kinetic e = refl
+    value-plain Nuclear e = absurd (false≢true e)
+    value-plain Moment e = absurd (false≢true e)
+    value-plain Coulomb e = absurd (false≢true e)
+
+    value-fits : (k : Kind) → contracts k ≡ true → T (fits binary64 (integralOf k l a b c d aux [] ts))
+    unfolding contracts integralOf totalOf
+    value-fits Overlap e = sum-fits _ ts 0·0 (ofBits-fits binary64 0)
+    value-fits Kinetic e = sum-fits _ ts 0·0 (ofBits-fits binary64 0)
+    value-fits Nuclear e = absurd (false≢true e)
+    value-fits Moment e = absurd (false≢true e)
+    value-fits Coulomb e = absurd (false≢true e)
+
+    evaluated : (k : Kind) → contracts k ≡ true → valueOf k l a b c d aux [] ts ≡ refusedUnless (inputsFinite k a b c d aux []) 8 (refusedUnless (exponentsAboveZero k a b c d) 9 (refusedUnless (geometryFinite k a b c d) 11 (resultOf (integralOf k l a b c d aux [] ts))))
+    unfolding contracts valueOf chargeKept charged boysCounted refusedUnless
+    evaluated Overlap e = refl
+    evaluated Kinetic e = refl
+    evaluated Nuclear e = absurd (false≢true e)
+    evaluated Moment e = absurd (false≢true e)
+    evaluated Coulomb e = absurd (false≢true e)
+
+    module _ (k : Kind) (kept : contracts k ≡ true) where
+      abbrev v : Float
+      v = integralOf k l a b c d aux [] ts
+
+      share-plain : shareOf (pairValue k l ts) pair ≡ v
+      unfolding shareOf
+      share-plain =
+          let norms : one ⊗ one ≡ one = one-times one (ofBits-fits binary64 0x3ff0_0000_0000_0000) in
+          let value : one ⊗ one ⊗ pairValue k l ts pair ≡ v = rw (norms, value-plain k kept) (one-times v (value-fits k kept)) in
+          rw (value) (one-times v (value-fits k kept))
+
+      inner-plain : innerFrom (pairValue k l ts) (pair ∷ []) 0·0 ≡ 0·0 ⊕ v
+      unfolding innerFrom
+      inner-plain = rw (share-plain)
+
+      outer-plain : outerFrom (pairValue k l ts) rows 0·0 ≡ 0·0 ⊕ (0·0 ⊕ v)
+      unfolding outerFrom innerOf
+      outer-plain = rw (inner-plain) (ap (λ (x : Float). 0·0 ⊕ x) (one-times (0·0 ⊕ v) (add-fits binary64 0·0 v)))
+
+      values-plain : every (λ (p : Pair). finite (pairValue k l ts p)) (pair ∷ []) ≡ finite v
+      unfolding every
+      values-plain = rw (value-plain k kept) (and-true (finite v))
+
+      inners-plain : every (λ (row : Row). finite (innerOf (pairValue k l ts) row)) rows ≡ finite (0·0 ⊕ v)
+      unfolding every innerOf
+      inners-plain = rw (inner-plain) (and-true (finite (0·0 ⊕ v)))
+
+      pairs-plain : allPairs rows ≡ pair ∷ []
+      unfolding allPairs
+      pairs-plain = refl
+
+      checked-plain : checkedOf k l ts rows ≡ summedTwice (valueOf k l a b c d aux [] ts)
+      unfolding checkedOf elementOf
+      checked-plain =
+          rw (pairs-plain, finite-plain k kept, above-plain k kept, geometry-plain k kept, values-plain, inners-plain, outer-plain)
+          (in-order (inputsFinite k a b c d aux []) (exponentsAboveZero k a b c d) (geometryFinite k a b c d) v ∙ ap summedTwice (sym (evaluated k kept)))
+
+  by-reading : (x : Reading Roll) → ofRoll x rows ≡ ofTheseKinds x (summedTwice (evaluatedOf x a b c d aux []))
+  unfolding ofRoll evaluatedOf refusedUnless
+  by-reading (got r end) =
+      tested (contracts (r .kind))
+      (λ kept. rw (kept) (checked-plain (total (r .orders)) (r .terms) (r .kind) kept))
+      (λ not. rw (not))
+  by-reading (refused n place) = refl
+
+  -- every answer, for every roll, whatever C and D
+  pub one-primitive : (s : List ℕ) (beyond beyond′ : List Primitive) → contractedOf s (lone a beyond) (lone b beyond′) (aux ∷ []) ≡ ofTheseKinds (rollAt s) (summedTwice (evaluateOf s a b c d aux []))
+  unfolding contractedOf counted refusedUnless rowsOf primitivesOf rowsFrom pairsWith evaluateOf
+  one-primitive s beyond beyond′ = by-reading (rollAt s)
