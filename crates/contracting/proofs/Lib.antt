@@ -8,4 +8,5 @@ pub mod OneTimes
 pub mod Only
 pub mod OtherWords
 pub mod PairChecks
+pub mod PlainPairs
 pub mod SumLaws

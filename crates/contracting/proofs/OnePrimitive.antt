@@ -16,14 +16,11 @@ use Rattle.term.specs.Terms.{Term}
 use Rattle.roll.specs.Reading.{Reading, got, refused, Roll, rollAt}
 use Rattle.geometry.specs.declared.Centre.{Centre}
 use Rattle.geometry.specs.Floats.{_⊕_, _⊗_, zero as 0·0, one, allFinite}
-use Rattle.geometry.specs.Geometry.{geometryNumbers}
-use Rattle.geometry.specs.Tables.{entriesOf, prefac}
-use Rattle.geometry.specs.Charges.{chargeKept, charged}
-use Rattle.geometry.specs.Checks.{used, usedFinite, exponents, exponentsAboveZero, finiteWith, geometryFinite}
+use Rattle.geometry.specs.Checks.{exponentsAboveZero, geometryFinite}
 use Rattle.integrals.specs.declared.Value.{Value}
 use Rattle.integrals.specs.declared.Value.the-variants.{Is, Refused}
 use Rattle.integrals.specs.Sums.{sumFrom, totalOf, integralOf}
-use Rattle.integrals.specs.Values.{inputsFinite, boysCounted, refusedUnless, resultOf, valueOf}
+use Rattle.integrals.specs.Values.{inputsFinite, refusedUnless, resultOf, valueOf}
 use Rattle.integrals.specs.Evaluation.{ofRoll as evaluatedOf, evaluateOf}
 use Rattle.contracting.specs.declared.Primitive.{Primitive}
 use Rattle.contracting.specs.declared.Contracted.{Contracted}
@@ -31,6 +28,7 @@ use Rattle.contracting.specs.Pairs.{counted, primitivesOf, Pair, Row, pa
 use Rattle.contracting.specs.Elements.{contracts, pairFinite, pairAboveZero, pairGeometry, pairValue, shareOf, innerFrom, innerOf, outerFrom, elementOf, checkedOf, ofRoll, contractedOf}
 use Rattle.contracting.proofs.Carried.{sum-finite}
 use Rattle.contracting.proofs.OneTimes.{one-times}
+use Rattle.contracting.proofs.PlainPairs.{finite-any, above-any, geometry-any, integral-any, evaluated}
 
 -- a function of one primitive; anything may lie beyond it
 abbrev pub plain : Centre → Primitive
@@ -82,39 +80,20 @@ module _ (a b c d : Centre) (aux : Float) where
   abbrev rows : List Row
   rows = record { right = plain b; pairs = pair ∷ [] } ∷ []
 
-  finite-plain : (k : Kind) → contracts k ≡ true → every (pairFinite k) (pair ∷ []) ≡ inputsFinite k a b c d aux []
-  unfolding contracts every pairFinite inputsFinite usedFinite used allFinite ofBits
-  finite-plain Overlap e = and-true _ ∙ and-true _
-  finite-plain Kinetic e = and-true _ ∙ and-true _
-  finite-plain Nuclear e = absurd (false≢true e)
-  finite-plain Moment e = absurd (false≢true e)
-  finite-plain Coulomb e = absurd (false≢true e)
+  module _ (k : Kind) (kept : contracts k ≡ true) where
+    finite-plain : every (pairFinite k) (pair ∷ []) ≡ inputsFinite k a b c d aux []
+    unfolding every pairFinite allFinite ofBits
+    finite-plain = and-true _ ∙ and-true _ ∙ finite-any a b c d aux k kept
 
-  above-plain : (k : Kind) → contracts k ≡ true → every (pairAboveZero k) (pair ∷ []) ≡ exponentsAboveZero k a b c d
-  unfolding contracts every pairAboveZero exponentsAboveZero exponents
-  above-plain Overlap e = and-true _
-  above-plain Kinetic e = and-true _
-  above-plain Nuclear e = absurd (false≢true e)
-  above-plain Moment e = absurd (false≢true e)
-  above-plain Coulomb e = absurd (false≢true e)
+    above-plain : every (pairAboveZero k) (pair ∷ []) ≡ exponentsAboveZero k a b c d
+    unfolding every pairAboveZero
+    above-plain = and-true _ ∙ above-any a b c d k kept
 
-  geometry-plain : (k : Kind) → contracts k ≡ true → every (pairGeometry k) (pair ∷ []) ≡ geometryFinite k a b c d
-  unfolding contracts every pairGeometry geometryFinite finiteWith geometryNumbers prefac entriesOf
-  geometry-plain Overlap e = and-true _
-  geometry-plain Kinetic e = and-true _
-  geometry-plain Nuclear e = absurd (false≢true e)
-  geometry-plain Moment e = absurd (false≢true e)
-  geometry-plain Coulomb e = absurd (false≢true e)
+    geometry-plain : every (pairGeometry k) (pair ∷ []) ≡ geometryFinite k a b c d
+    unfolding every pairGeometry
+    geometry-plain = and-true _ ∙ geometry-any a b c d k kept
 
   module _ (l : ℕ) (ts : List Term) where
-    value-plain : (k : Kind) → contracts k ≡ true → pairValue k l ts pair ≡ integralOf k l a b c d aux [] ts
-    unfolding contracts pairValue integralOf prefac entriesOf
-    value-plain Overlap e = refl
-    value-plain Kinetic e = refl
-    value-plain Nuclear e = absurd (false≢true e)
-    value-plain Moment e = absurd (false≢true e)
-    value-plain Coulomb e = absurd (false≢true e)
-
     value-fits : (k : Kind) → contracts k ≡ true → T (fits binary64 (integralOf k l a b c d aux [] ts))
     unfolding contracts integralOf totalOf
     value-fits Overlap e = sum-fits _ ts 0·0 (ofBits-fits binary64 0)
@@ -123,23 +102,19 @@ module _ (a b c d : Centre) (aux : Float) where
     value-fits Moment e = absurd (false≢true e)
     value-fits Coulomb e = absurd (false≢true e)
 
-    evaluated : (k : Kind) → contracts k ≡ true → valueOf k l a b c d aux [] ts ≡ refusedUnless (inputsFinite k a b c d aux []) 8 (refusedUnless (exponentsAboveZero k a b c d) 9 (refusedUnless (geometryFinite k a b c d) 11 (resultOf (integralOf k l a b c d aux [] ts))))
-    unfolding contracts valueOf chargeKept charged boysCounted refusedUnless
-    evaluated Overlap e = refl
-    evaluated Kinetic e = refl
-    evaluated Nuclear e = absurd (false≢true e)
-    evaluated Moment e = absurd (false≢true e)
-    evaluated Coulomb e = absurd (false≢true e)
-
     module _ (k : Kind) (kept : contracts k ≡ true) where
       abbrev v : Float
       v = integralOf k l a b c d aux [] ts
+
+      value-plain : pairValue k l ts pair ≡ v
+      unfolding pairValue
+      value-plain = integral-any a b c d aux l ts k kept
 
       share-plain : shareOf (pairValue k l ts) pair ≡ v
       unfolding shareOf
       share-plain =
           let norms : one ⊗ one ≡ one = one-times one (ofBits-fits binary64 0x3ff0_0000_0000_0000) in
-          let value : one ⊗ one ⊗ pairValue k l ts pair ≡ v = rw (norms, value-plain k kept) (one-times v (value-fits k kept)) in
+          let value : one ⊗ one ⊗ pairValue k l ts pair ≡ v = rw (norms, value-plain) (one-times v (value-fits k kept)) in
           rw (value) (one-times v (value-fits k kept))
 
       inner-plain : innerFrom (pairValue k l ts) (pair ∷ []) 0·0 ≡ 0·0 ⊕ v
@@ -152,7 +127,7 @@ module _ (a b c d : Centre) (aux : Float) where
 
       values-plain : every (λ (p : Pair). finite (pairValue k l ts p)) (pair ∷ []) ≡ finite v
       unfolding every
-      values-plain = rw (value-plain k kept) (and-true (finite v))
+      values-plain = rw (value-plain) (and-true (finite v))
 
       inners-plain : every (λ (row : Row). finite (innerOf (pairValue k l ts) row)) rows ≡ finite (0·0 ⊕ v)
       unfolding every innerOf
@@ -166,7 +141,7 @@ module _ (a b c d : Centre) (aux : Float) where
       unfolding checkedOf elementOf
       checked-plain =
           rw (pairs-plain, finite-plain k kept, above-plain k kept, geometry-plain k kept, values-plain, inners-plain, outer-plain)
-          (in-order (inputsFinite k a b c d aux []) (exponentsAboveZero k a b c d) (geometryFinite k a b c d) v ∙ ap summedTwice (sym (evaluated k kept)))
+          (in-order (inputsFinite k a b c d aux []) (exponentsAboveZero k a b c d) (geometryFinite k a b c d) v ∙ ap summedTwice (sym (evaluated a b c d aux l ts k kept)))
 
   by-reading : (x : Reading Roll) → ofRoll x rows ≡ ofTheseKinds x (summedTwice (evaluatedOf x a b c d aux []))
   unfolding ofRoll evaluatedOf refusedUnless

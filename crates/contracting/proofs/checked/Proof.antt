@@ -9,19 +9,19 @@ use Rattle.contracting.proofs.sums.outer.Reads as outer-reads
 use Rattle.integrals.proofs.result.Reads as result-reads
 
 all-finite-requires : tie.Need-all-finite-requires
-all-finite-requires c κs = (search lefts-small, search rights-small)
+all-finite-requires c κs = (search (needs, lefts-small, rights-small), search (needs, lefts-small, rights-small))
 
 returns : tie.Need-returns
 returns c = search refused-float
 
 all-above-zero-requires : tie.Need-all-above-zero-requires
-all-above-zero-requires c κs = (search lefts-small, search rights-small)
+all-above-zero-requires c κs = (search (needs, lefts-small, rights-small), search (needs, lefts-small, rights-small))
 
 returns-2 : tie.Need-returns-2
 returns-2 c = search refused-exponent
 
 outer-requires : tie.Need-outer-requires
-outer-requires c κs = (search lefts-small, search rights-small)
+outer-requires c κs = (search (needs, lefts-small, rights-small), search (needs, lefts-small, rights-small))
 
 result-requires : tie.Need-result-requires
 result-requires c κs = search needs
