@@ -1,9 +1,9 @@
 -- What is not finite stays so in every product and sum after it: where the element is finite, so is every inner sum and every primitive value. So one look at an
 -- element serves for all of 11, in which a pair with a geometry number or an entry of its table that is not finite has an infinity for its value.
 use Prim.Native.Nat.{ℕ}
-use mathlib.Core.Path.{_≡_, refl, sym, ap, _∙_}
-use mathlib.Core.Bool.{Bool, true, false, cond, _&&_, Bool·beq, false≢true}
-use mathlib.Core.List.{List, [], _∷_, _++_}
+use mathlib.Core.Path.{_≡_, refl, sym, _∙_}
+use mathlib.Core.Bool.{Bool, true, false, cond, Bool·beq, false≢true}
+use mathlib.Core.List.{List, [], _∷_}
 use lib.Dec.{eqb}
 use lib.Ieee.{Float, nan, inf, fin, unlike, add, mul, ofBits}
 use lib.Ieee.Scale.{finite}
@@ -12,7 +12,7 @@ use Rattle.kind.specs.declared.Kind.{Kind}
 use Rattle.term.specs.Terms.{Term}
 use Rattle.geometry.specs.Floats.{_⊕_, _⊗_, zero as 0·0}
 use Rattle.integrals.specs.declared.Value.{Value}
-use Rattle.integrals.specs.declared.Value.the-variants.{Is, Refused}
+use Rattle.integrals.specs.declared.Value.the-variants.{Refused}
 use Rattle.integrals.specs.Values.{refusedUnless, resultOf}
 use Rattle.contracting.specs.Pairs.{Pair, Row, allPairs, every}
 use Rattle.contracting.specs.Elements.{pairGeometry, pairValue, shareOf, innerFrom, innerOf, outerFrom, elementOf}

@@ -1,7 +1,7 @@
 -- 02, Q-10: "Contracted calls from Q-1 take the new record too", and "other kinds ignore the charge": no charge of a primitive is looked at.
 use Prim.Native.Nat.{ℕ, zero, suc, _*_}
 use mathlib.Core.Path.{_≡_, refl, sym, ap, _∙_}
-use mathlib.Core.Bool.{Bool, _&&_}
+use mathlib.Core.Bool.{Bool}
 use mathlib.Core.List.{List, [], _∷_}
 use lib.Ieee.{Float}
 use lib.Ieee.Scale.{finite}

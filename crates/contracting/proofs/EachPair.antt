@@ -1,18 +1,17 @@
 -- A check of a pair that is a check of its two primitives and of its host number holds over all pairs exactly where it holds of every primitive and of
 -- every host number: there is a primitive on each side, and a host number for each pair.
 use Prim.Native.Nat.{ℕ, zero, suc, _+_, _*_, _≤_, _<_}
-use mathlib.Core.Path.{_≡_, refl, sym, ap, _∙_}
+use mathlib.Core.Path.{_≡_, refl, sym, _∙_}
 use mathlib.Core.Bool.{Bool, true, false, _&&_, and-assoc, false≢true}
 use mathlib.Core.List.{List, [], _∷_, _++_}
 use native.Mathlib.Nat.{suc-mul, zero-mul, zero-add, add-zero, not-suc-le-zero}
 use native.Mathlib.Omega.{arith}
 use lib.Ieee.{Float}
-use lib.Ieee.Scale.{finite}
 use lib.ListN.{length, getD, drop, drop-of-length-le}
 use Rattle.laws.proofs.Cases.{and-true-both}
-use Rattle.geometry.specs.Floats.{zero as 0·0, allFinite}
+use Rattle.geometry.specs.Floats.{zero as 0·0}
 use Rattle.contracting.specs.declared.Primitive.{Primitive}
-use Rattle.contracting.specs.Pairs.{Pair, Row, pairsWith, rowsFrom, allPairs, every}
+use Rattle.contracting.specs.Pairs.{Pair, pairsWith, rowsFrom, allPairs, every}
 
 -- ---- lists
 

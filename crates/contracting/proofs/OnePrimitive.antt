@@ -1,12 +1,12 @@
 -- One primitive on each side, with norms and coefficients 1.0: the plain evaluation of its two centres, its value v under the two sums as 0.0 + (0.0 + v).
-use Prim.Native.Nat.{ℕ, zero, suc}
+use Prim.Native.Nat.{ℕ}
 use mathlib.Core.Path.{_≡_, refl, sym, ap, _∙_}
-use mathlib.Core.Bool.{Bool, true, false, _&&_, and-true, false≢true}
+use mathlib.Core.Bool.{Bool, true, false, and-true, false≢true}
 use mathlib.Core.List.{List, [], _∷_}
 use lib.Dec.{T}
 use lib.Ieee.{Float, binary64, fits, ofBits}
 use lib.Ieee.Bits.{ofBits-fits}
-use lib.Ieee.Fits.{add-fits, mul-fits}
+use lib.Ieee.Fits.{add-fits}
 use lib.Ieee.Scale.{finite}
 use Rattle.laws.specs.Total.{total}
 use Rattle.laws.proofs.Cases.{tested}

@@ -1,13 +1,12 @@
 -- The definition in other words: what it looks at, in which order, and how a host goes through an element step by step.
 use Prim.Native.Nat.{ℕ, zero, suc, _+_, _*_, _<_}
-use mathlib.Core.Path.{_≡_, refl, sym, ap, _∙_}
-use mathlib.Core.Bool.{Bool, true, false, _&&_}
+use mathlib.Core.Path.{_≡_, refl, _∙_}
+use mathlib.Core.Bool.{_&&_}
 use mathlib.Core.List.{List, [], _∷_, _++_}
 use native.Mathlib.Nat.{not-suc-le-zero, le-of-suc-le-suc, zero-add, add-zero}
 use native.Mathlib.Omega.{arith}
 use lib.Dec.{eqb}
 use lib.Ieee.{Float}
-use lib.Ieee.Scale.{finite}
 use lib.ListN.{length, getD}
 use Rattle.geometry.specs.Floats.{_⊕_, _⊗_, zero as 0·0}
 use Rattle.integrals.specs.Values.{refusedUnless}

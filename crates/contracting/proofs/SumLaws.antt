@@ -1,12 +1,12 @@
 -- The functions of src/sums.rt: the value of a pair, and the inner and the outer sum, which go on from where they stand.
-use Prim.Native.Nat.{ℕ, suc, _+_, _*_, _<_, _≤_}
-use mathlib.Core.Path.{_≡_, refl, sym, ap, _∙_}
+use Prim.Native.Nat.{ℕ, _+_, _*_, _<_, _≤_}
+use mathlib.Core.Path.{_≡_, sym}
 use mathlib.Core.Bool.{Bool, true, false}
-use mathlib.Core.List.{List, [], _∷_}
+use mathlib.Core.List.{List, []}
 use native.Mathlib.Nat.{suc-mul}
 use native.Mathlib.Numerals.{add-one}
 use native.Mathlib.Omega.{arith}
-use lib.Ieee.{Float, nan}
+use lib.Ieee.{Float}
 use lib.ListN.{length, getD, take, drop}
 use lib.Seq.{length-take-le}
 use Rattle.kind.specs.declared.Kind.{Kind}
@@ -17,10 +17,9 @@ use Rattle.geometry.specs.Tables.{prefac}
 use Rattle.geometry.specs.Checks.{finiteWith}
 use Rattle.geometry.proofs.Checks.{finite-table}
 use Rattle.integrals.specs.Sums.{kineticStart, totalOf, integralOf}
-use Rattle.integrals.proofs.SumsLaws.{read-inside, read-outside}
 use Rattle.contracting.specs.declared.Primitive.{Primitive}
 use Rattle.contracting.specs.Pairs.{mostPrimitives, Pair, pairsWith, rowsFrom}
-use Rattle.contracting.specs.Elements.{pairGeometry, pairValue, shareOf, innerFrom, innerOf, outerFrom, elementOf}
+use Rattle.contracting.specs.Elements.{pairGeometry, pairValue, shareOf, innerFrom, innerOf, outerFrom}
 use Rattle.contracting.specs.inner.Summed.{infinity, keptValue}
 use Rattle.contracting.proofs.CheckLaws.{some-left, none-left}
 

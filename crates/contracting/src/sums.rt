@@ -1,12 +1,11 @@
 // The inner sum over the left function and the outer sum over the right one, as overlap_cgto_left and S of basis.rs have them.
 ghost use Prim.Native.Nat.{_≤_};
 ghost use mathlib.Core.Path.{_≡_};
-ghost use mathlib.Core.Bool.{true};
 ghost use lib.ListN.{take, getD};
 ghost use Rattle.geometry.specs.Floats.{zero};
 ghost use Rattle.integrals.specs.inner.Stored.{againFrom};
 ghost use Rattle.contracting.specs.Pairs.{mostPrimitives, pairsWith, rowsFrom};
-ghost use Rattle.contracting.specs.Elements.{contracts, shareOf, innerFrom, elementOf};
+ghost use Rattle.contracting.specs.Elements.{shareOf, innerFrom, elementOf};
 ghost use Rattle.contracting.specs.inner.Summed.{keptValue, mostPairs};
 use super::MOST_PRIMITIVES;
 use super::Primitive;

@@ -3,7 +3,6 @@ use Rattle.contracting.proofs.CheckLaws.{above-left, above-right}
 use borrow.Author.Needs.{needs}
 use Rattle.contracting.proofs.all_above_zero.Statement.{statement}
 use Rattle.contracting.proofs.all_above_zero.Tie as tie
-use Rattle.contracting.proofs.primitives_above_zero.Reads as primitives-above-zero-reads
 
 primitives-above-zero-requires : tie.Need-primitives-above-zero-requires
 primitives-above-zero-requires c κs = search needs

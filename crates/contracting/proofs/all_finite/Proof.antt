@@ -3,8 +3,6 @@ use Rattle.contracting.proofs.CheckLaws.{finite-left, finite-right, fin
 use borrow.Author.Needs.{needs}
 use Rattle.contracting.proofs.all_finite.Statement.{statement}
 use Rattle.contracting.proofs.all_finite.Tie as tie
-use Rattle.contracting.proofs.primitives_finite.Reads as primitives-finite-reads
-use Rattle.geometry.proofs.all_finite.Reads as all-finite-reads
 
 primitives-finite-requires : tie.Need-primitives-finite-requires
 primitives-finite-requires c κs = search needs

@@ -3,7 +3,6 @@ use Rattle.laws.proofs.Cases.{and-first, and-then}
 use borrow.Author.Needs.{needs}
 use Rattle.contracting.proofs.both_counted.Statement.{statement}
 use Rattle.contracting.proofs.both_counted.Tie as tie
-use Rattle.contracting.proofs.counted.Reads as counted-reads
 
 counted-requires : tie.Need-counted-requires
 counted-requires c κs = search needs

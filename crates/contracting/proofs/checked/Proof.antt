@@ -3,10 +3,6 @@ use Rattle.contracting.proofs.Answers.{lefts-small, rights-small, refus
 use borrow.Author.Needs.{needs}
 use Rattle.contracting.proofs.checked.Statement.{statement}
 use Rattle.contracting.proofs.checked.Tie as tie
-use Rattle.contracting.proofs.all_above_zero.Reads as all-above-zero-reads
-use Rattle.contracting.proofs.all_finite.Reads as all-finite-reads
-use Rattle.contracting.proofs.sums.outer.Reads as outer-reads
-use Rattle.integrals.proofs.result.Reads as result-reads
 
 all-finite-requires : tie.Need-all-finite-requires
 all-finite-requires c κs = (search (needs, lefts-small, rights-small), search (needs, lefts-small, rights-small))

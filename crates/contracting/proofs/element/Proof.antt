@@ -3,8 +3,6 @@ use Rattle.contracting.proofs.Answers.{pairs-may, pairs-fit, refused-co
 use borrow.Author.Needs.{needs}
 use Rattle.contracting.proofs.element.Statement.{statement}
 use Rattle.contracting.proofs.element.Tie as tie
-use Rattle.contracting.proofs.both_counted.Reads as both-counted-reads
-use Rattle.contracting.proofs.over_roll.Reads as over-roll-reads
 
 cast-m : tie.Need-cast-m
 cast-m c = search needs

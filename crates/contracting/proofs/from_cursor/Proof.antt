@@ -3,8 +3,6 @@ use Rattle.contracting.proofs.Answers.{cursor-named, cursor-unnamed}
 use borrow.Author.Needs.{needs}
 use Rattle.contracting.proofs.from_cursor.Statement.{statement}
 use Rattle.contracting.proofs.from_cursor.Tie as tie
-use Rattle.contracting.proofs.of_kind.Reads as of-kind-reads
-use Rattle.kind.proofs.Kind.of.Reads as of-reads
 
 of-requires : tie.Need-of-requires
 of-requires c κs = search needs

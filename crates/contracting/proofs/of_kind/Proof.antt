@@ -3,8 +3,6 @@ use Rattle.contracting.proofs.Answers.{kind-is, kind-kept, kind-not}
 use borrow.Author.Needs.{needs}
 use Rattle.contracting.proofs.of_kind.Statement.{statement}
 use Rattle.contracting.proofs.of_kind.Tie as tie
-use Rattle.contracting.proofs.checked.Reads as checked-reads
-use Rattle.contracting.proofs.contracts.Reads as contracts-reads
 
 contracts-requires : tie.Need-contracts-requires
 contracts-requires c κs = search needs

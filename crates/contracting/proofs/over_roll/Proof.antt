@@ -5,8 +5,6 @@ use Rattle.contracting.proofs.Answers.{roll-reads, roll-refused}
 use borrow.Author.Needs.{needs}
 use Rattle.contracting.proofs.over_roll.Statement.{statement}
 use Rattle.contracting.proofs.over_roll.Tie as tie
-use Rattle.contracting.proofs.from_cursor.Reads as from-cursor-reads
-use Rattle.roll.proofs.check.Reads as check-reads
 
 check-requires : tie.Need-check-requires
 check-requires c κs = search needs

@@ -4,7 +4,6 @@ use Rattle.contracting.specs.inner.Summed.{finitePrimitive}
 use borrow.Author.Needs.{needs}
 use Rattle.contracting.proofs.primitive_finite.Statement.{statement}
 use Rattle.contracting.proofs.primitive_finite.Tie as tie
-use Rattle.geometry.proofs.all_finite.Reads as all-finite-reads
 
 slice-aggregate-all-finite : tie.Need-slice-aggregate-all-finite
 slice-aggregate-all-finite c = search needs

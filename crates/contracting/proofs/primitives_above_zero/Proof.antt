@@ -9,7 +9,6 @@ use Rattle.contracting.specs.inner.Summed.{abovePrimitive}
 use Rattle.contracting.proofs.CheckLaws.{every-more, every-not, every-done}
 use Rattle.contracting.proofs.primitives_above_zero.Statement.{statement}
 use Rattle.contracting.proofs.primitives_above_zero.Tie as tie
-use Rattle.contracting.proofs.primitive_above_zero.Reads as primitive-above-zero-reads
 
 abbrev Inv-loop : tie.InvT-loop
 Inv-loop count primitives i₀ i = (i ≤ count) × (every abovePrimitive (drop i (take count primitives)) ≡ every abovePrimitive (take count primitives))

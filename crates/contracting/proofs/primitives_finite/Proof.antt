@@ -9,7 +9,6 @@ use Rattle.contracting.specs.inner.Summed.{finitePrimitive}
 use Rattle.contracting.proofs.CheckLaws.{every-more, every-not, every-done}
 use Rattle.contracting.proofs.primitives_finite.Statement.{statement}
 use Rattle.contracting.proofs.primitives_finite.Tie as tie
-use Rattle.contracting.proofs.primitive_finite.Reads as primitive-finite-reads
 
 abbrev Inv-loop : tie.InvT-loop
 Inv-loop count primitives i₀ i = (i ≤ count) × (every finitePrimitive (drop i (take count primitives)) ≡ every finitePrimitive (take count primitives))

@@ -12,8 +12,6 @@ use Rattle.contracting.specs.inner.Summed.{keptValue}
 use Rattle.contracting.proofs.SumLaws.{inner-more, inner-done}
 use Rattle.contracting.proofs.sums.inner.Statement.{statement}
 use Rattle.contracting.proofs.sums.inner.Tie as tie
-use Rattle.contracting.proofs.sums.host_at.Reads as host-at-reads
-use Rattle.contracting.proofs.sums.share.Reads as share-reads
 
 abbrev Inv-loop : tie.InvT-loop
 Inv-loop terms count b host from roll lefts sum₀ at₀ i₀ sum at i = let v = keptValue (terms .kind) (terms .cursor .l) (againFrom roll (terms .cursor)) in (i ≤ count) × (at ≡ from + i) × (innerFrom v (pairsWith host at b (drop i (take count lefts))) sum ≡ innerFrom v (pairsWith host from b (take count lefts)) zero)

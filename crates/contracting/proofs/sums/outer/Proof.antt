@@ -1,8 +1,7 @@
 -- `outer` meets its contract: what is left of the right function from `j` on gives the whole sum. Assumes nothing.
-use Prim.Native.Nat.{_≤_, _-_, _+_, _*_}
+use Prim.Native.Nat.{_≤_, _-_, _*_}
 use mathlib.Core.Path.{_≡_, refl}
 use native.Mathlib.Omega.{arith}
-use native.Mathlib.Nat.{zero-mul}
 use borrow.Author.Needs.{needs}
 use lib.ListN.{take, drop}
 use Rattle.integrals.specs.inner.Stored.{againFrom}
@@ -12,7 +11,6 @@ use Rattle.contracting.specs.inner.Summed.{keptValue}
 use Rattle.contracting.proofs.SumLaws.{outer-more, outer-done, next-row}
 use Rattle.contracting.proofs.sums.outer.Statement.{statement}
 use Rattle.contracting.proofs.sums.outer.Tie as tie
-use Rattle.contracting.proofs.sums.inner.Reads as inner-reads
 
 abbrev Inv-loop : tie.InvT-loop
 Inv-loop terms lefts m n host roll rights element₀ from₀ j₀ element from j = let v = keptValue (terms .kind) (terms .cursor .l) (againFrom roll (terms .cursor)) in (j ≤ n) × (from ≤ mostPrimitives * j) × (from ≡ j * m) × (outerFrom v (rowsFrom host (take m lefts) j (drop j (take n rights))) element ≡ elementOf v (rowsFrom host (take m lefts) 0 (take n rights)))

@@ -3,7 +3,6 @@ use Rattle.contracting.proofs.SumLaws.{shared}
 use borrow.Author.Needs.{needs}
 use Rattle.contracting.proofs.sums.share.Statement.{statement}
 use Rattle.contracting.proofs.sums.share.Tie as tie
-use Rattle.contracting.proofs.sums.value.Reads as value-reads
 
 value-requires : tie.Need-value-requires
 value-requires c κs = search needs

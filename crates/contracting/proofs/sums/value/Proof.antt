@@ -4,9 +4,6 @@ use Rattle.contracting.proofs.SumLaws.{value-kept, value-not}
 use borrow.Author.Needs.{needs}
 use Rattle.contracting.proofs.sums.value.Statement.{statement}
 use Rattle.contracting.proofs.sums.value.Tie as tie
-use Rattle.geometry.proofs.geometry_finite.Reads as geometry-finite-reads
-use Rattle.geometry.proofs.prefac.Reads as prefac-reads
-use Rattle.integrals.proofs.integral.Reads as integral-reads
 
 prefac-requires : tie.Need-prefac-requires
 prefac-requires c κs = search needs
