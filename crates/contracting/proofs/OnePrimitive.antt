@@ -1,8 +1,9 @@
 -- One primitive on each side, with norms and coefficients 1.0: the plain evaluation of its two centres, its value v under the two sums as 0.0 + (0.0 + v).
-use Prim.Native.Nat.{ℕ}
+use Prim.Native.Nat.{ℕ, suc}
 use mathlib.Core.Path.{_≡_, refl, sym, ap, _∙_}
 use mathlib.Core.Bool.{Bool, true, false, and-true, false≢true}
 use mathlib.Core.List.{List, [], _∷_}
+use native.Mathlib.Omega.{arith}
 use lib.Dec.{T}
 use lib.Ieee.{Float, binary64, fits, ofBits}
 use lib.Ieee.Bits.{ofBits-fits}
@@ -21,13 +22,13 @@ use Rattle.integrals.specs.declared.Value.{Value}
 use Rattle.integrals.specs.declared.Value.the-variants.{Is, Refused}
 use Rattle.integrals.specs.Sums.{sumFrom, totalOf, integralOf}
 use Rattle.integrals.specs.Values.{inputsFinite, refusedUnless, resultOf, valueOf}
-use Rattle.integrals.specs.Evaluation.{ofRoll as evaluatedOf, evaluateOf}
+use Rattle.integrals.specs.Evaluation.{ofRoll as evaluatedOf, evaluateOf, refusalOf, floatOf}
 use Rattle.contracting.specs.declared.Primitive.{Primitive}
 use Rattle.contracting.specs.declared.Contracted.{Contracted}
 use Rattle.contracting.specs.Pairs.{counted, primitivesOf, Pair, Row, pairsWith, rowsFrom, rowsOf, allPairs, every}
 use Rattle.contracting.specs.Elements.{contracts, pairFinite, pairAboveZero, pairGeometry, pairValue, shareOf, innerFrom, innerOf, outerFrom, elementOf, checkedOf, ofRoll, contractedOf}
 use Rattle.contracting.proofs.Carried.{sum-finite}
-use Rattle.contracting.proofs.OneTimes.{one-times}
+use Rattle.contracting.proofs.OneTimes.{one-times, minusZero, zero-plus}
 use Rattle.contracting.proofs.PlainPairs.{finite-any, above-any, geometry-any, integral-any, evaluated}
 
 -- a function of one primitive; anything may lie beyond it
@@ -70,6 +71,24 @@ in-order true true true v = both-results v
 in-order true true false v = refl
 in-order true false g v = refl
 in-order false e g v = refl
+
+-- an evaluation's value that is not −0.0 comes back from both sums as it is
+not-nought : (n : ℕ) → suc n ≡ 0 → ⊥
+not-nought n e = omega (arith, e)
+
+given-value : (i e g : Bool) (v x : Float) → refusedUnless i 8 (refusedUnless e 9 (refusedUnless g 11 (resultOf v))) ≡ Is x → (x ≡ v) × (finite v ≡ true)
+unfolding refusedUnless resultOf
+given-value false e g v x is = absurd (not-nought 7 (ap refusalOf is))
+given-value true false g v x is = absurd (not-nought 8 (ap refusalOf is))
+given-value true true false v x is = absurd (not-nought 10 (ap refusalOf is))
+given-value true true true v x is =
+    tested (finite v)
+    (λ f. (ap floatOf (sym (rw (f) at is)), f))
+    (λ f. absurd (not-nought 10 (ap refusalOf (rw (f) at is))))
+
+same-result : (v : Float) → T (fits binary64 v) → minusZero v ≡ false → finite v ≡ true → resultOf (0·0 ⊕ (0·0 ⊕ v)) ≡ Is v
+unfolding refusedUnless resultOf
+same-result v t e f = rw (zero-plus v t e, zero-plus v t e, f)
 
 -- ---- one pair
 
@@ -143,6 +162,12 @@ module _ (a b c d : Centre) (aux : Float) where
           rw (pairs-plain, finite-plain k kept, above-plain k kept, geometry-plain k kept, values-plain, inners-plain, outer-plain)
           (in-order (inputsFinite k a b c d aux []) (exponentsAboveZero k a b c d) (geometryFinite k a b c d) v ∙ ap summedTwice (sym (evaluated a b c d aux l ts k kept)))
 
+    value-back : (k : Kind) → contracts k ≡ true → (x : Float) → valueOf k l a b c d aux [] ts ≡ Is x → minusZero x ≡ false → summedTwice (valueOf k l a b c d aux [] ts) ≡ Is x
+    value-back k kept x is not =
+        let given = given-value (inputsFinite k a b c d aux []) (exponentsAboveZero k a b c d) (geometryFinite k a b c d) (integralOf k l a b c d aux [] ts) x (sym (evaluated a b c d aux l ts k kept) ∙ is) in
+        let fit : T (fits binary64 x) = rw (given .0) (value-fits k kept) in
+        ap summedTwice is ∙ same-result x fit not (rw (given .0) (given .1))
+
   by-reading : (x : Reading Roll) → ofRoll x rows ≡ ofTheseKinds x (summedTwice (evaluatedOf x a b c d aux []))
   unfolding ofRoll evaluatedOf refusedUnless
   by-reading (got r end) =
@@ -155,3 +180,9 @@ module _ (a b c d : Centre) (aux : Float) where
   pub one-primitive : (s : List ℕ) (beyond beyond′ : List Primitive) → contractedOf s (lone a beyond) (lone b beyond′) (aux ∷ []) ≡ ofTheseKinds (rollAt s) (summedTwice (evaluateOf s a b c d aux []))
   unfolding contractedOf counted refusedUnless rowsOf primitivesOf rowsFrom pairsWith evaluateOf
   one-primitive s beyond beyond′ = by-reading (rollAt s)
+
+  -- so a value that is not −0.0 is the plain evaluation's, bit for bit
+  pub one-primitive-value : (s : List ℕ) (beyond beyond′ : List Primitive) (r : Roll) (end : ℕ) (x : Float) → rollAt s ≡ got r end → contracts (r .kind) ≡ true → evaluateOf s a b c d aux [] ≡ Is x → minusZero x ≡ false → contractedOf s (lone a beyond) (lone b beyond′) (aux ∷ []) ≡ Is x
+  unfolding evaluateOf evaluatedOf refusedUnless
+  one-primitive-value s beyond beyond′ r end x reads kept is not =
+      one-primitive s beyond beyond′ ∙ rw (reads, kept) (value-back (total (r .orders)) (r .terms) (r .kind) kept x (rw (reads) at is) not)

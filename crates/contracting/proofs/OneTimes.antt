@@ -1,18 +1,18 @@
--- 1.0 times a float is that float, bit for bit: a float's own value is exact, and two floats of the format with one value and one sign are the same.
+-- 1.0 times a float is that float, bit for bit, and so is 0.0 plus a float other than −0.0: a float's own value is exact, and two floats of the format with one value and one sign are the same.
 use Prim.Native.Nat.{ℕ, zero, suc, _+_, _-_, _*_, _%_, _^_, _<_, _≤_}
 use mathlib.Core.Path.{_≡_, refl, sym, ap, _∙_, subst}
-use mathlib.Core.Bool.{Bool, true, false, _&&_}
-use native.Mathlib.Nat.{add-comm, mul-one, one-mul, mul-assoc, mul-left-comm, mul-right-comm, zero-mul, mul-pos, zero-lt-suc, pow-suc, pow-succ', eq-of-mul-eq-mul-right, lt-irrefl, not-le-of-lt}
+use mathlib.Core.Bool.{Bool, true, false, _&&_, cond, true≢false}
+use native.Mathlib.Nat.{sub-zero, zero-add, add-comm, mul-one, one-mul, mul-assoc, mul-left-comm, mul-right-comm, zero-mul, mul-pos, zero-lt-suc, pow-suc, pow-succ', eq-of-mul-eq-mul-right, lt-irrefl, not-le-of-lt}
 use native.Mathlib.Omega.{arith}
-use borrow.Author.Tests.{leb-true, leb-false}
+use borrow.Author.Tests.{leb-true, leb-false, lt-ltb}
 use lib.Dec.{T, leb, ltb, eqb, eqb→eq, leb→le, ltb→lt}
 use lib.IntN.{ℤ, pos, negsuc}
-use lib.Ieee.{Float, nan, inf, fin, Format, binary64, prec, emax, low, up, down, fits, round, mul, unlike, ofBits}
+use lib.Ieee.{Float, nan, inf, fin, Format, binary64, prec, emax, low, up, down, fits, round, sum, add, mul, unlike, ofBits}
 use lib.Ieee.Fits.{and-l, and-r, up-pos, down-pos, round-fits}
 use lib.Ieee.Exact.{HasValue, round-exact}
 use lib.Pow.{pow-add, pow-pos, pow-lt, shl-lt}
 use Rattle.laws.proofs.Cases.{tested}
-use Rattle.geometry.specs.Floats.{_⊗_, one}
+use Rattle.geometry.specs.Floats.{_⊕_, _⊗_, zero as 0·0, one}
 
 -- ---- an odd number and a power of two
 
@@ -145,3 +145,32 @@ one-times nan t = refl
 one-times (inf s) t = ap inf (unlike-false s)
 one-times (fin s m e) t =
     (λ i. round binary64 (unlike-false s i) (one-mul (m * up e) i) (one-mul (down e) i)) ∙ exact binary64 s m e t
+
+-- ---- 0.0
+
+abbrev pub minusZero : Float → Bool
+minusZero nan = false
+minusZero (inf s) = false
+minusZero (fin false m e) = false
+minusZero (fin true zero e) = true
+minusZero (fin true (suc m) e) = false
+
+nothing-more : (d x : ℕ) → 0 * 1 * d + x * 1 ≡ x
+nothing-more d x = ap (λ (y : ℕ). y * d + x * 1) (zero-mul 1) ∙ ap (λ (y : ℕ). y + x * 1) (zero-mul d) ∙ zero-add (x * 1) ∙ mul-one x
+
+nothing-less : (d x : ℕ) → x * 1 - 0 * 1 * d ≡ x
+nothing-less d x = ap (λ (y : ℕ). x * 1 - y * d) (zero-mul 1) ∙ ap (λ (y : ℕ). x * 1 - y) (zero-mul d) ∙ sub-zero (x * 1) ∙ mul-one x
+
+some-above : (d x : ℕ) → 0 < x → ltb (0 * 1 * d) (x * 1) ≡ true
+some-above d x h = ap (λ (y : ℕ). ltb (y * d) (x * 1)) (zero-mul 1) ∙ ap (λ (y : ℕ). ltb y (x * 1)) (zero-mul d) ∙ ap (λ (y : ℕ). ltb 0 y) (mul-one x) ∙ lt-ltb 0 x h
+
+pub zero-plus : (x : Float) → T (fits binary64 x) → minusZero x ≡ false → 0·0 ⊕ x ≡ x
+unfolding add sum ofBits
+zero-plus nan t e = refl
+zero-plus (inf s) t e = refl
+zero-plus (fin false m d) t e = (λ i. round binary64 false (nothing-more (down d) (m * up d) i) (one-mul (down d) i)) ∙ exact binary64 false m d t
+zero-plus (fin true zero d) t e = absurd (true≢false e)
+zero-plus (fin true (suc m) d) t e =
+    ap (λ (b : Bool). cond b (round binary64 true (suc m * up d * 1 - 0 * 1 * down d) (1 * down d)) (round binary64 (false && ltb (suc m * up d * 1) (0 * 1 * down d)) (0 * 1 * down d - suc m * up d * 1) (1 * down d))) (some-above (down d) (suc m * up d) (mul-pos (zero-lt-suc m) (up-pos d)))
+    ∙ (λ i. round binary64 true (nothing-less (down d) (suc m * up d) i) (one-mul (down d) i))
+    ∙ exact binary64 true (suc m) d t
