@@ -1,6 +1,7 @@
 //! One answer line for each question line.
 
-use crate::parse::{self, Centre, Cursor, Evaluation, Lengths, Line, Nuclei, Question};
+use crate::parse::{self, Centre, Contracted, Cursor, Evaluation, Lengths, Line};
+use crate::parse::{Nuclei, Question};
 use crate::rust_side;
 use crate::second::{self, Form, Header, Refusal, Side, Step, Term};
 use std::io::{self, BufRead, BufReader, Read, Write};
@@ -94,6 +95,7 @@ fn answer(question: Question, out: &mut Vec<u8>) -> Result<(), Refusal> {
         Question::Eval(evaluation) => eval(out, &evaluation),
         Question::Grouped { buffer, evaluation } => grouped(out, buffer, &evaluation),
         Question::Nuclei(asked) => nuclei(out, &asked),
+        Question::Contracted(asked) => contracted(out, &asked),
         Question::Table(kind, centres) => table(out, kind, &centres),
         Question::JK { n, lengths, i, d } => jk(out, n, &lengths, &i, &d),
     }
@@ -391,6 +393,44 @@ fn nuclei(out: &mut Vec<u8>, asked: &Nuclei) -> Result<(), Refusal> {
         asked
     );
     write_value(out, sum)
+}
+
+/// The way of a contracted element, and the element of S or T as it comes: a zero may have the other
+/// sign, since the Rust's sums of iterators begin at -0.0 from some release on.
+pub fn rust_element(header: &Header, terms: &[Term], asked: &Contracted) -> (Way, f64) {
+    let own = |(centres, &aux): ([Centre; 4], &f64)| {
+        rust_side::aux(header.kind, &centres).to_bits() == aux.to_bits()
+    };
+    let all_own = asked.centres().zip(&asked.host).all(own);
+    if all_own && rust_side::is_own_list(header, terms) {
+        return (Way::Unchanged, rust_side::element(header, asked));
+    }
+    let value = |(centres, &aux): ([Centre; 4], &f64)| {
+        rust_side::value_of_terms(header, terms, &centres, aux, &[])
+    };
+    let values: Vec<f64> = asked.centres().zip(&asked.host).map(value).collect();
+    let element = rust_side::element_of_values(header, asked, &values);
+    (Way::SumLoops, element)
+}
+
+/// The element of S or T, with 0.0 added, which makes 0.0 of -0.0 and leaves any other as it is. The
+/// second reading, whose sums begin at 0.0, must come to the same.
+fn contracted(out: &mut Vec<u8>, asked: &Contracted) -> Result<(), Refusal> {
+    second::check_counts(asked)?;
+    let (header, terms) = second::NOW.check(&asked.roll)?;
+    second::check_contracted(header.kind, asked)?;
+    for centres in asked.centres() {
+        table_of(header.kind, &centres)?;
+    }
+    let (_, element) = rust_element(&header, &terms, asked);
+    let sums = second::element(header.kind, &terms, asked);
+    assert!(
+        same(&[element + 0.0], &[sums.element]),
+        "the Rust and the second reading differ: the element of {:?}",
+        asked
+    );
+    second::check_results(&[&sums.values, &sums.inner])?;
+    write_value(out, sums.element)
 }
 
 fn write_value(out: &mut Vec<u8>, value: f64) -> Result<(), Refusal> {

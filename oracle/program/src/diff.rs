@@ -40,6 +40,8 @@ struct Tally {
     unchanged: u64,
     sum_loops: u64,
     refused: u64,
+    /// Elements that are -0.0 in the Rust.
+    minus_zero: u64,
 }
 
 /// Compares; true where there is no difference and the count is reached.
@@ -91,15 +93,30 @@ fn note(tally: &mut Tally, kind: &str, question: &[u8], answer: &[u8]) {
     if answer.starts_with(b"refused") {
         tally.refused += 1;
     } else if answer.starts_with(b"value") {
-        match way(question) {
+        let (way, element) = match element(question) {
+            Some((way, element)) => (Some(way), element),
+            None => (way(question), 0.0),
+        };
+        match way {
             Some(Way::Unchanged) => tally.unchanged += 1,
             _ => tally.sum_loops += 1,
         }
+        tally.minus_zero += u64::from(element.to_bits() == (-0.0_f64).to_bits());
     }
 }
 
+/// The way of a contracted element, and what S or T says itself.
+fn element(question: &[u8]) -> Option<(Way, f64)> {
+    let asked = match parse::line(question) {
+        Line::Asks(Question::Contracted(asked)) => asked,
+        _ => return None,
+    };
+    let (header, terms) = second::NOW.check(&asked.roll).ok()?;
+    Some(answer::rust_element(&header, &terms, &asked))
+}
+
 fn is_evaluation(kind: &str) -> bool {
-    ["eval", "grouped", "nuclei"].contains(&kind)
+    ["eval", "grouped", "nuclei", "contracted"].contains(&kind)
 }
 
 fn way(question: &[u8]) -> Option<Way> {
@@ -160,6 +177,12 @@ fn report(kind: &str, tally: &Tally, count: u64) {
         println!(
             "  values: (a) the unchanged get_ functions {}, (b) the sum loops with given terms {}; (c) refusals {}",
             tally.unchanged, tally.sum_loops, tally.refused
+        );
+    }
+    if kind == "contracted" {
+        println!(
+            "  values that are -0.0 in the Rust and 0.0 here: {}",
+            tally.minus_zero
         );
     }
 }

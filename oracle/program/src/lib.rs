@@ -3,6 +3,7 @@
 
 pub mod answer;
 pub mod compare_rolls;
+pub mod contracted;
 pub mod cursors;
 pub mod diff;
 pub mod floats;

@@ -1,7 +1,7 @@
 //! Lines at the edges of the question language: malformed ones and the longest.
 
 use crate::lines::with_roll;
-use crate::parse::{self, LONGEST_LINE};
+use crate::parse::{self, LONGEST_LINE, MOST_LISTED, MOST_PRIMITIVES};
 use crate::random::Random;
 use crate::second::{BYTES_OF_AN_ENTRY, NOW};
 use crate::{rolls, rust_side};
@@ -77,13 +77,16 @@ pub fn malformed(random: &mut Random, mut line: Vec<u8>) -> Vec<u8> {
     line
 }
 
-/// Spoils a charge of a question of this kind, or its number of nuclei.
+/// Spoils a charge of a question of this kind, or one of its counts.
 pub fn wrong_charge(random: &mut Random, kind: &str, line: Vec<u8>) -> Vec<u8> {
     let mut words: Vec<Vec<u8>> = line.split(|&b| b == b' ').map(<[u8]>::to_vec).collect();
-    let place = match kind {
-        "nuclei" if random.once_in(3) => NUMBER_OF_NUCLEI,
-        _ => random.one_of(&charges(kind, &words)),
+    let (charges, counts) = charges_and_counts(kind, &words);
+    let places = if counts.is_empty() || !charges.is_empty() && !random.once_in(3) {
+        charges
+    } else {
+        counts
     };
+    let place = random.one_of(&places);
     let wrong = [
         "256",
         "4294967296",
@@ -108,23 +111,38 @@ pub fn wrong_charge(random: &mut Random, kind: &str, line: Vec<u8>) -> Vec<u8> {
     words.join(&b' ')
 }
 
-/// The place of N among the words of a question about nuclei, after its roll and two centres.
-const NUMBER_OF_NUCLEI: usize = 12;
-
-/// The places of the charges among the words of a question, each the fifth of a centre.
-fn charges(kind: &str, words: &[Vec<u8>]) -> Vec<usize> {
-    let charges = |before: usize, centres: usize| (0..centres).map(move |at| before + 5 * at + 4);
-    match kind {
+/// The places among the words of a question of its charges, each the fifth word of a centre, and of
+/// its counts.
+fn charges_and_counts(kind: &str, words: &[Vec<u8>]) -> (Vec<usize>, Vec<usize>) {
+    // What a list takes has so many words each.
+    let charges =
+        |before: usize, each: usize, count: usize| (0..count).map(move |at| before + each * at + 4);
+    let listed = |place: usize, most: u8| -> usize {
+        let count = words.get(place).map(|word| String::from_utf8_lossy(word));
+        let count = count.and_then(|word| word.parse().ok());
+        count
+            .filter(|&count| count <= usize::from(most))
+            .unwrap_or(0)
+    };
+    let (places, counts): (Vec<usize>, Vec<usize>) = match kind {
         "nuclei" => {
-            let number = String::from_utf8_lossy(&words[NUMBER_OF_NUCLEI]);
-            let number: usize = number.parse().unwrap_or(0);
-            let listed = charges(NUMBER_OF_NUCLEI + 1, number);
-            let places = charges(2, 2).chain(listed);
-            places.filter(|&place| place < words.len()).collect()
+            let all = charges(2, 5, 2).chain(charges(13, 5, listed(12, MOST_LISTED)));
+            (all.collect(), vec![12])
         }
-        "grouped" => charges(3, 4).collect(),
-        _ => charges(2, 4).collect(),
-    }
+        "contracted" => {
+            let (left, of_left) = (2, listed(2, MOST_PRIMITIVES));
+            let right = left + 1 + 7 * of_left;
+            let of_right = listed(right, MOST_PRIMITIVES);
+            let host = right + 1 + 7 * of_right;
+            let all = charges(left + 1, 7, of_left).chain(charges(right + 1, 7, of_right));
+            (all.collect(), vec![left, right, host])
+        }
+        "grouped" => (charges(3, 5, 4).collect(), Vec::new()),
+        _ => (charges(2, 5, 4).collect(), Vec::new()),
+    };
+    // A count may say more than there is.
+    let there = |places: Vec<usize>| places.into_iter().filter(|&p| p < words.len()).collect();
+    (there(places), there(counts))
 }
 
 fn random_line(random: &mut Random) -> Vec<u8> {
@@ -174,6 +192,19 @@ pub fn nuclei_with_boys(count: usize) -> Vec<u8> {
     line.extend(CENTRE.repeat(2));
     line.extend(b" 3ff0000000000000");
     line.extend(b" 0".repeat(count));
+    line
+}
+
+/// A question about functions of one primitive with this many host numbers, where one belongs.
+pub fn contracted_with_host(count: u64) -> Vec<u8> {
+    let mut line = with_roll("contracted", &rust_side::roll(0, &[0; 12]));
+    for _ in 0..2 {
+        line.extend(b" 1");
+        line.extend(CENTRE);
+        line.extend(b" 3ff0000000000000 3ff0000000000000");
+    }
+    line.extend(format!(" {}", count).into_bytes());
+    line.extend(b" 0".repeat(count as usize));
     line
 }
 

@@ -12,6 +12,10 @@ pub const LARGEST_GROUPING: usize = 67_108_864;
 pub const MOST_BOYS: usize = 65_536;
 /// The most nuclei that follow their count; where it is larger, or 0, none follows.
 pub const MOST_LISTED: u8 = 32;
+/// The most primitives that follow their count; where it is larger, or 0, none follows.
+pub const MOST_PRIMITIVES: u8 = 10;
+/// The most host numbers of a question.
+pub const MOST_HOST: u64 = 128;
 /// The most prefactors of the term before that a question's cursor holds.
 pub const MOST_BEFORE: usize = 24;
 
@@ -56,6 +60,46 @@ impl Nuclei {
     pub fn centres(&self, nucleus: &Centre) -> [Centre; 4] {
         let [a, b] = self.pair;
         [a, b, *nucleus, Centre::default()]
+    }
+}
+
+/// A centre with a norm and a coefficient: part of a contracted function.
+#[derive(Clone, Copy, Debug, Default, PartialEq)]
+pub struct Primitive {
+    pub centre: Centre,
+    pub norm: f64,
+    pub coefficient: f64,
+}
+
+/// Two contracted functions and the host's numbers.
+#[derive(Clone, Debug, PartialEq)]
+pub struct Contracted {
+    pub roll: Vec<u8>,
+    pub left: Counted,
+    pub right: Counted,
+    pub host: Vec<f64>,
+}
+
+/// A function's primitives with their count as the question says it. Out of range it has none
+/// beside it.
+#[derive(Clone, Debug, PartialEq)]
+pub struct Counted {
+    pub count: u8,
+    pub list: Vec<Primitive>,
+}
+
+impl Contracted {
+    /// The pairs of primitives, the right function outer.
+    pub fn pairs(&self) -> impl Iterator<Item = (&Primitive, &Primitive)> {
+        let of = move |right| self.left.list.iter().map(move |left| (left, right));
+        self.right.list.iter().flat_map(of)
+    }
+
+    /// The centres of each pair's evaluation.
+    pub fn centres(&self) -> impl Iterator<Item = [Centre; 4]> + '_ {
+        let unused = Centre::default();
+        self.pairs()
+            .map(move |(left, right)| [left.centre, right.centre, unused, unused])
     }
 }
 
@@ -125,6 +169,7 @@ pub enum Question {
         evaluation: Evaluation,
     },
     Nuclei(Nuclei),
+    Contracted(Contracted),
     Table(u8, [Centre; 4]),
     JK {
         n: u64,
@@ -219,6 +264,15 @@ impl<'a> Words<'a> {
         })
     }
 
+    /// A centre, norm and coefficient.
+    fn primitive(&mut self) -> Option<Primitive> {
+        Some(Primitive {
+            centre: self.centre()?,
+            norm: self.float()?,
+            coefficient: self.float()?,
+        })
+    }
+
     fn centres(&mut self) -> Option<[Centre; 4]> {
         let mut centres = [Centre::default(); 4];
         for centre in centres.iter_mut() {
@@ -295,6 +349,7 @@ fn question(bytes: &[u8]) -> Option<Question> {
             evaluation: evaluation(&mut words)?,
         },
         b"nuclei" => Question::Nuclei(nuclei(&mut words)?),
+        b"contracted" => Question::Contracted(contracted(&mut words)?),
         b"table" => Question::Table(words.byte()?, words.centres()?),
         b"jk" => jk(&mut words)?,
         b"jkl" => jkl(&mut words)?,
@@ -401,6 +456,26 @@ fn nuclei(words: &mut Words) -> Option<Nuclei> {
         aux: words.float()?,
         boys: words.boys()?,
     })
+}
+
+fn contracted(words: &mut Words) -> Option<Contracted> {
+    let roll = words.roll()?;
+    let (left, right) = (counted(words)?, counted(words)?);
+    let host = words.number(MOST_HOST)?;
+    Some(Contracted {
+        roll,
+        left,
+        right,
+        host: words.floats(host as usize)?,
+    })
+}
+
+/// As many primitives as their count says; where that is out of range there is none.
+fn counted(words: &mut Words) -> Option<Counted> {
+    let count = words.byte()?;
+    let follow = if count <= MOST_PRIMITIVES { count } else { 0 };
+    let list: Option<_> = (0..follow).map(|_| words.primitive()).collect();
+    Some(Counted { count, list: list? })
 }
 
 /// The lengths are those that n asks for; where n is out of range there are no floats.

@@ -5,15 +5,15 @@ use crate::cursors::{self, Walk};
 use crate::floats::{self, Taste};
 use crate::lines::{append, append_centres, append_float, append_floats, append_room};
 use crate::lines::{grouping_buffer, numbers, with_roll, with_rolls};
-use crate::parse::{LONGEST_LINE, MOST_BOYS};
+use crate::parse::{LONGEST_LINE, MOST_BOYS, MOST_HOST};
 use crate::random::Random;
 use crate::second::{self, Form, NOW};
-use crate::{form2_rolls, matrices, nuclei, odd_lines, requests, rolls, runs};
+use crate::{contracted, form2_rolls, matrices, nuclei, odd_lines, requests, rolls, runs};
 use crate::{rust_side, salvage_rolls};
 use std::io::{self, Write};
 
 /// The kinds of question, as `oracle/ask-both` names them.
-pub const KINDS: [&str; 24] = [
+pub const KINDS: [&str; 25] = [
     "shell",
     "component",
     "expand",
@@ -35,6 +35,7 @@ pub const KINDS: [&str; 24] = [
     "eval",
     "grouped",
     "nuclei",
+    "contracted",
     "table",
     "jk",
     "jkl",
@@ -121,6 +122,8 @@ fn at_a_limit(kind: &str, from_end: u64) -> Option<Vec<u8>> {
         2 if kind == "compare" => Some(compared(compare_rolls::of_one_side())),
         3 if kind == "nuclei" => Some(odd_lines::nuclei_with_boys(MOST_BOYS)),
         2 if kind == "nuclei" => Some(odd_lines::nuclei_with_boys(MOST_BOYS + 1)),
+        3 if kind == "contracted" => Some(odd_lines::contracted_with_host(MOST_HOST)),
+        2 if kind == "contracted" => Some(odd_lines::contracted_with_host(MOST_HOST + 1)),
         2 if kind == "eval" => Some(odd_lines::with_boys("eval", MOST_BOYS + 1)),
         2 if kind == "grouped" => Some(odd_lines::with_boys("grouped 0", MOST_BOYS + 1)),
         _ => None,
@@ -158,6 +161,7 @@ fn question(random: &mut Random, kind: &str, at: u64) -> Vec<u8> {
         "eval" => eval(random),
         "grouped" => grouped(random),
         "nuclei" => nuclei::any(random),
+        "contracted" => contracted::any(random),
         "table" => table(random),
         "jk" => jk(random, at),
         "jkl" => jkl(random, at),
@@ -175,7 +179,7 @@ fn question(random: &mut Random, kind: &str, at: u64) -> Vec<u8> {
 
 /// Are there centres in a question of the kind?
 fn has_charges(kind: &str) -> bool {
-    ["eval", "grouped", "nuclei", "table"].contains(&kind)
+    ["eval", "grouped", "nuclei", "contracted", "table"].contains(&kind)
 }
 
 fn about_roll(random: &mut Random, kind: &str, roll: &[u8], walk: Walk) -> Vec<u8> {

@@ -1,6 +1,6 @@
-//! What the unchanged Rust answers: shells, terms, values, tables, J and K.
+//! What the unchanged Rust answers: shells, terms, values, tables, elements, J and K.
 
-use crate::parse::Centre;
+use crate::parse::{Centre, Contracted, Primitive};
 use crate::second::{self, Form, Header, Term, NOW};
 use ndarray::{Array, Ix2};
 use rchem::integrals::{given, os86};
@@ -170,6 +170,46 @@ pub fn geometry_and_table(kind: u8, centres: &[Centre; 4]) -> (Vec<f64>, Vec<f64
     };
     value_of_terms(&empty, &[], centres, 0.0, &[0.0]);
     given::kept()
+}
+
+/// The element of S or T for two contracted functions, by the unchanged get_ functions.
+pub fn element(header: &Header, asked: &Contracted) -> f64 {
+    let all = |list: &[Primitive]| -> Vec<_> {
+        let one = |primitive: &Primitive| in_basis(primitive, primitive.centre.z);
+        list.iter().map(one).collect()
+    };
+    element_of(header, &all(&asked.left.list), &all(&asked.right.list))
+}
+
+/// The same by the loops of S or T alone, where the pairs have these values, the right function
+/// outer.
+pub fn element_of_values(header: &Header, asked: &Contracted, values: &[f64]) -> f64 {
+    let all = |list: &[Primitive], number: fn(usize) -> f64| -> Vec<_> {
+        let numbered = list.iter().enumerate();
+        numbered.map(|(at, p)| in_basis(p, number(at))).collect()
+    };
+    let left = all(&asked.left.list, elements::integrals::number_on_the_left);
+    let right = all(&asked.right.list, elements::integrals::number_on_the_right);
+    let call = || element_of(header, &left, &right);
+    elements::integrals::with_values(left.len(), values, call)
+}
+
+fn in_basis(primitive: &Primitive, exponent: f64) -> elements::Primitive {
+    elements::Primitive {
+        exponent,
+        origin: primitive.centre.r,
+        norm: primitive.norm,
+        coefficient: primitive.coefficient,
+    }
+}
+
+fn element_of(header: &Header, left: &[elements::Primitive], right: &[elements::Primitive]) -> f64 {
+    let q = header.orders.map(usize::from);
+    let pair = [q[0], q[1], q[2], q[3], q[4], q[5]];
+    match header.kind {
+        0 => elements::overlap(left, right, &pair),
+        _ => elements::kinetic(left, right, &pair),
+    }
 }
 
 /// J and K, row by row.

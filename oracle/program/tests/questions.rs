@@ -5,7 +5,8 @@ use oracle::compare_rolls;
 use oracle::diff::class;
 use oracle::form2_rolls;
 use oracle::form2_runs::{self, Asked};
-use oracle::parse::{self, write_roll, Line, Nuclei, Question, LONGEST_LINE};
+use oracle::parse::LONGEST_LINE;
+use oracle::parse::{self, write_roll, Contracted, Line, Nuclei, Primitive, Question};
 use oracle::questions::{write_all, KINDS};
 use oracle::requests;
 use oracle::rolls::{to_be_cut, tried_one_by_one};
@@ -125,6 +126,17 @@ fn every_kind_of_answer_comes_up() {
                 "refused 11",
                 "refused 14",
                 "refused 17",
+            ],
+            "contracted" => &[
+                "value",
+                "refused  1",
+                "refused  7",
+                "refused  8",
+                "refused  9",
+                "refused 11",
+                "refused 14",
+                "refused 15",
+                "refused 16",
             ],
             "table" => &[
                 "table",
@@ -300,6 +312,101 @@ fn nuclei_of_every_sort() {
         "no Boys number",
     ];
     for expected in wrong {
+        assert!(all.contains(expected), "{}", expected);
+    }
+}
+
+/// What there is to find in a question about contracted functions: counts, charges, and what its floats
+/// are.
+fn sorts_of_contracted(asked: &Contracted) -> BTreeSet<String> {
+    let mut found = BTreeSet::new();
+    for (side, function) in [("left", &asked.left), ("right", &asked.right)] {
+        found.insert(format!("{} {}", side, function.count));
+        for primitive in &function.list {
+            let Primitive {
+                centre,
+                norm,
+                coefficient,
+            } = primitive;
+            found.insert(format!("charge {}", centre.charge));
+            found.insert(format!("norm {}", sort(norm)));
+            found.insert(format!("coefficient {}", sort(coefficient)));
+            found.insert(format!("exponent {}", sort(&centre.z)));
+        }
+    }
+    for number in &asked.host {
+        found.insert(format!("host number {}", sort(number)));
+    }
+    let right = asked.left.list.len() * asked.right.list.len();
+    let count = asked.host.len();
+    let named = [
+        (right, "as many host numbers as asked for"),
+        (right + 1, "one host number too many"),
+        (right.wrapping_sub(1), "one host number too few"),
+        (asked.left.list.len(), "the host numbers of a left function"),
+        (0, "no host number"),
+        (128, "most host numbers"),
+    ];
+    let named = named.iter().filter(|(number, _)| *number == count);
+    found.extend(named.map(|(_, name)| name.to_string()));
+    if let Ok(header) = NOW.open(&asked.roll) {
+        found.insert(format!("kind {}", header.kind));
+    }
+    found
+}
+
+/// Every count and length at a limit and beyond it, and every sort of float, comes up; those that are
+/// right, and what is not looked at, also where a value is told.
+#[test]
+fn contracted_functions_of_every_sort() {
+    let asked = questions("contracted", 5_000, 1);
+    let answered = answers(&asked);
+    let (mut all, mut told) = (BTreeSet::new(), BTreeSet::new());
+    for (question, answer) in lines(&asked).into_iter().zip(lines(&answered)) {
+        if let Line::Asks(Question::Contracted(asked)) = parse::line(question) {
+            let found = sorts_of_contracted(&asked);
+            if answer.starts_with(b"value") {
+                told.extend(found.iter().cloned());
+            }
+            all.extend(found);
+        }
+    }
+    let sides = ["left", "right"];
+    let counts = |counts: &[u8]| -> Vec<String> {
+        let of = |side| {
+            counts
+                .iter()
+                .map(move |count| format!("{} {}", side, count))
+        };
+        sides.iter().flat_map(of).collect()
+    };
+    let charges = [0, 1, 118, 119, 256, 300, u32::MAX].map(|charge| format!("charge {}", charge));
+    let floats = ["norm", "coefficient", "host number"];
+    let of = |sorts: &[&str]| -> Vec<String> {
+        let of = |name| sorts.iter().map(move |sort| format!("{} {}", name, sort));
+        floats.iter().flat_map(of).collect()
+    };
+    let others = ["kind 0", "kind 1", "as many host numbers as asked for"].map(String::from);
+    let right = counts(&[1, 2, 3, 4, 5, 6, 7, 8, 9, 10]);
+    let finite = of(&["0.0", "-0.0", "subnormal", "normal"]);
+    for expected in right.iter().chain(&charges).chain(&finite).chain(&others) {
+        assert!(told.contains(expected), "{}", expected);
+    }
+    let wrong = [
+        "exponent 0.0",
+        "exponent -0.0",
+        "kind 2",
+        "kind 3",
+        "kind 4",
+        "one host number too many",
+        "one host number too few",
+        "the host numbers of a left function",
+        "no host number",
+        "most host numbers",
+    ];
+    let wrong = wrong.map(String::from);
+    let (counts, floats) = (counts(&[0, 11, 255]), of(&["infinite", "no number"]));
+    for expected in wrong.iter().chain(&counts).chain(&floats) {
         assert!(all.contains(expected), "{}", expected);
     }
 }

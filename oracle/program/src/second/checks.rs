@@ -1,10 +1,11 @@
 //! The checks of each call but the roll's, in the order in which they refuse.
 
-use super::limits::{orders_used, LARGEST_CHARGE, LARGEST_MATRIX, MOST_NUCLEI, NOW};
+use super::limits::{orders_used, LARGEST_CHARGE, LARGEST_MATRIX, NOW};
+use super::limits::{MOST_NUCLEI, MOST_PRIMITIVES};
 use super::refusal::{refusal, Refusal};
 use super::roll::Header;
 use super::steps::count_histories;
-use crate::parse::{Centre, Lengths, Nuclei};
+use crate::parse::{Centre, Contracted, Lengths, Nuclei};
 
 // Shells
 
@@ -178,7 +179,7 @@ pub fn check_nuclei(header: &Header, asked: &Nuclei) -> Result<(), Refusal> {
     if header.kind != 2 {
         return Err(refusal(1));
     }
-    if asked.count < 1 || asked.count > MOST_NUCLEI {
+    if !(1..=MOST_NUCLEI).contains(&asked.count) {
         return Err(refusal(17));
     }
     let each = || asked.list.iter().map(|nucleus| asked.centres(nucleus));
@@ -192,6 +193,36 @@ pub fn check_nuclei(header: &Header, asked: &Nuclei) -> Result<(), Refusal> {
         return Err(refusal(10));
     }
     Ok(())
+}
+
+/// Contracted functions before 7 and 14: 15 for either count, then 16 for the host's list.
+pub fn check_counts(asked: &Contracted) -> Result<(), Refusal> {
+    let (left, right) = (asked.left.count, asked.right.count);
+    let range = 1..=MOST_PRIMITIVES;
+    if !range.contains(&left) || !range.contains(&right) {
+        return Err(refusal(15));
+    }
+    if asked.host.len() != usize::from(left) * usize::from(right) {
+        return Err(refusal(16));
+    }
+    Ok(())
+}
+
+/// Contracted functions after 7 and 14: 1, 8, 9, each over all pairs before the next. 10 never comes,
+/// since no Boys numbers are lent; 11 is for geometry, tables, values and sums.
+pub fn check_contracted(kind: u8, asked: &Contracted) -> Result<(), Refusal> {
+    if kind != 0 && kind != 1 {
+        return Err(refusal(1));
+    }
+    for ((left, right), centres) in asked.pairs().zip(asked.centres()) {
+        let others = [left.norm, left.coefficient, right.norm, right.coefficient];
+        check_finite(kind, &centres, &others)?;
+    }
+    if asked.host.iter().any(|aux| !aux.is_finite()) {
+        return Err(refusal(8));
+    }
+    let mut all = asked.centres();
+    all.try_for_each(|centres| check_exponents(kind, &centres))
 }
 
 /// What a term takes of the grouping buffer.

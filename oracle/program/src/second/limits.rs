@@ -35,6 +35,8 @@ pub const LARGEST_MATRIX: u64 = 16;
 /// Of a nucleus.
 pub const LARGEST_CHARGE: u32 = 118;
 pub const MOST_NUCLEI: u8 = 32;
+/// Of a contracted function.
+pub const MOST_PRIMITIVES: u8 = 10;
 
 /// How many of the twelve orders a kind uses.
 pub fn orders_used(kind: u8) -> usize {

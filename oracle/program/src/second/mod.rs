@@ -3,12 +3,13 @@
 //! Everything that os86.rs, shell.rs and basis.rs do not know stands here: limits and
 //! refusals, the roll in its two forms, the reader and the cursor, the moves, what is left of a
 //! damaged roll, the listing, the comparison of two rolls, the capped count of histories, the checks of an evaluation, the
-//! grouping of terms, and the charges and lists of nuclei. Nothing here calls the unchanged Rust. The step rules, the geometry and the
+//! grouping of terms, the charges and lists of nuclei, and contracted functions. Nothing here calls the unchanged Rust. The step rules, the geometry and the
 //! sums of J and K are here too, so that the two can be held against each other.
 
 mod census;
 mod checks;
 mod compare;
+mod contracted;
 mod form;
 mod geometry;
 mod grouping;
@@ -24,10 +25,12 @@ mod steps;
 mod totals;
 
 pub use census::{facts, totals, Facts};
-pub use checks::{check_component, check_evaluation, check_grouping, check_matrices};
-pub use checks::{check_measured, check_nuclei, check_request, check_results, check_room};
-pub use checks::{check_shell, check_table, check_total, BYTES_OF_AN_ENTRY};
+pub use checks::{check_component, check_contracted, check_counts, check_evaluation};
+pub use checks::{check_grouping, check_matrices, check_measured, check_nuclei};
+pub use checks::{check_request, check_results, check_room, check_shell};
+pub use checks::{check_table, check_total, BYTES_OF_AN_ENTRY};
 pub use compare::{compared, Side};
+pub use contracted::{element, Element};
 pub use form::{shared_length, Form};
 pub use geometry::geometry_and_table;
 pub use grouping::{grouped, sum_of_groups, Entry};
