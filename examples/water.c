@@ -47,6 +47,8 @@ static void accept(uint8_t refusal, size_t place)
         [12] = "matrix size out of range, or a slice length wrong for it",
         [13] = "component number not below the count",
         [14] = "the roll ends before a number does; carries the place",
+        [15] = "a contracted function is not of 1 to 10 primitives",
+        [16] = "host numbers are not one for each pair of primitives",
         [17] = "a nucleus' charge is above 118, or a list is not of 1 to 32 nuclei",
     };
     if (refusal == 0) return;

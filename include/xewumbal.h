@@ -25,10 +25,13 @@
  *   12  matrix size out of range, or a slice length wrong for it
  *   13  component number not below the count
  *   14  the roll ends before a number does; carries the place
+ *   15  a contracted function is not of 1 to 10 primitives
+ *   16  host numbers are not one for each pair of primitives
  *   17  a nucleus' charge is above 118, or a list is not of 1 to 32 nuclei
  *
  * These are the words of docs/01-scope.md, which has the rules of a roll, for 14 of docs/requests/Q-5.md, for 2 and 4
- * of docs/requests/Q-6.md, which has the limits, and for 1, 10 and 17 of docs/requests/Q-10.md; the listing is not exported.
+ * of docs/requests/Q-6.md, which has the limits, for 15 and 16 of docs/requests/Q-1.md and for 1, 10 and 17 of
+ * docs/requests/Q-10.md; the listing is not exported.
  *
  * Kinds: 0 overlap, 1 kinetic, 2 nuclear, 3 moment, 4 Coulomb. Orders stand by centre, x y z each: A, B; for kind 3
  * then the operator; for kind 4 then C, D. L is the sum of all orders. docs/01-scope.md defines terms and rolls.
@@ -64,6 +67,7 @@ extern "C" {
 #define XEW_TABLE 23              /* places for a table's entries: 8, 11, 11, 12 or 23 of them by kind */
 #define XEW_MOST_CHARGE 118       /* charge of a nucleus */
 #define XEW_MOST_NUCLEI 32        /* nuclei of a list */
+#define XEW_MOST_PRIMITIVES 10    /* primitives of a contracted function */
 
 /* A centre. Kinds 0 and 1 use A and B; 2 and 3 also C's coordinates; 4 uses A to D. Unused floats are not looked at. Only a
  * nucleus' charge is looked at, C's in kind 2; every other charge may hold anything. */
@@ -77,6 +81,19 @@ typedef struct {
     xew_centre centres[XEW_MOST_NUCLEI];
     uint32_t count;
 } xew_nuclei;
+
+/* A primitive of a contracted function: its centre with the exponent, its norm and its coefficient. The charge is not looked
+ * at. */
+typedef struct {
+    xew_centre centre;
+    double norm, coefficient;
+} xew_primitive;
+
+/* A contracted function: its first count primitives. What lies beyond the count is not looked at. */
+typedef struct {
+    xew_primitive primitives[XEW_MOST_PRIMITIVES];
+    uint32_t count;
+} xew_contraction;
 
 /* What was written from the start place on, or measured: its bytes, and the terms of a roll or the triples of a shell
  * list. */
@@ -317,6 +334,14 @@ xew_value xew_evaluate(const uint8_t *roll, size_t roll_len, xew_centre a, xew_c
  * next. */
 xew_value xew_nuclear(const uint8_t *roll, size_t roll_len, xew_centre a, xew_centre b, xew_nuclei nuclei, double aux,
                       const double *boys, size_t boys_len);
+
+/* The element of two contracted functions over a roll of overlap or kinetic, which is judged once. For each right primitive,
+ * in order, its coefficient times the inner sum; the inner sum is over the left primitives, in order, of the left coefficient
+ * times ((left norm * right norm) * value), value being what xew_evaluate gives for the pair; both sums begin at 0.0. host has
+ * the aux of each pair, the right function outer: that of left i and right j stands at j * left.count + i. Refusals: 15, 16;
+ * 7 or 14; 1 for a roll of another kind; 8, 9, 11, each for all pairs before the next. */
+xew_value xew_contracted(const uint8_t *roll, size_t roll_len, xew_contraction left, xew_contraction right,
+                         const double *host, size_t host_len);
 
 /* The same integral as xew_evaluate's, bit for bit, lent a buffer in which a Coulomb roll's terms are grouped by Boys order and then summed
  * in one pass: for large rolls it is quicker. The buffer needs XEW_ENTRY bytes for each term of a Coulomb roll; for other

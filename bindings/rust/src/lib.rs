@@ -26,7 +26,7 @@ mod raw;
 #[allow(missing_docs)]
 mod refusal;
 
-pub use raw::{Centre, Cursor, Cursor2, Nuclei, Pair};
+pub use raw::{Centre, Contraction, Cursor, Cursor2, Nuclei, Pair, Primitive};
 pub use refusal::Refusal;
 
 /// The version of include/xewumbal.h.
@@ -56,6 +56,8 @@ pub const TABLE: usize = 23;
 pub const MOST_CHARGE: u32 = 118;
 /// The nuclei of a list.
 pub const MOST_NUCLEI: usize = 32;
+/// The primitives of a contracted function.
+pub const MOST_PRIMITIVES: usize = 10;
 
 /// Kind 0.
 pub const OVERLAP: u8 = 0;
@@ -255,12 +257,13 @@ pub enum Table {
     Refused(Refusal),
 }
 
-/// The answer of [`evaluate`], [`nuclear`] and [`evaluate_grouped`].
+/// The answer of [`evaluate`], [`nuclear`], [`contracted`] and [`evaluate_grouped`].
 #[derive(Clone, Copy, Debug, PartialEq)]
 pub enum Value {
     /// The integral.
     Is(f64),
-    /// By 7 or 14, 17 (kind 2), 8, 9, 10 or 11; of [`evaluate_grouped`] after 7 and 14 also by 6, of [`nuclear`] by 1.
+    /// By 7 or 14, 17 (kind 2), 8, 9, 10 or 11; of [`evaluate_grouped`] after 7 and 14 also by 6, of [`nuclear`] by 1;
+    /// of [`contracted`] by 15, 16, 7 or 14, 1, 8, 9 or 11.
     Refused(Refusal),
 }
 
@@ -511,6 +514,17 @@ pub fn evaluate(roll: &[u8], a: Centre, b: Centre, c: Centre, d: Centre, aux: f6
 /// judged once, one `aux` serves all nuclei, and their Boys numbers follow one another, F(0) to F(L) for each.
 pub fn nuclear(roll: &[u8], a: Centre, b: Centre, nuclei: Nuclei, aux: f64, boys: &[f64]) -> Value {
     let answer = raw::nuclear(roll, a, b, nuclei, aux, boys);
+    match Refusal::of(answer.refusal, answer.place) {
+        Some(refusal) => Value::Refused(refusal),
+        None => Value::Is(answer.value),
+    }
+}
+
+/// The element of two contracted functions over a roll of overlap or kinetic, which is judged once: for each right primitive
+/// its coefficient times the sum over the left ones of coefficient · ((left norm · right norm) · value), both sums from 0.0 in
+/// order. `host` has the aux of each pair, the right function outer: that of left i and right j stands at j · left.count + i.
+pub fn contracted(roll: &[u8], left: Contraction, right: Contraction, host: &[f64]) -> Value {
+    let answer = raw::contracted(roll, left, right, host);
     match Refusal::of(answer.refusal, answer.place) {
         Some(refusal) => Value::Refused(refusal),
         None => Value::Is(answer.value),

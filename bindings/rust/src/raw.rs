@@ -1,6 +1,6 @@
 //! The structs and functions of include/xewumbal.h, and every `unsafe` of the crate: each function here lends slices as
 //! a pointer and a length, and the library reads and writes within them, during the call alone.
-use crate::{MOST_NUCLEI, ORDERS, PREFACTORS, TABLE};
+use crate::{MOST_NUCLEI, MOST_PRIMITIVES, ORDERS, PREFACTORS, TABLE};
 use core::mem::size_of;
 
 /// A centre: three coordinates, an exponent and a charge. Kinds 0 and 1 use A and B; 2 and 3 also C's coordinates; 4 uses A to
@@ -20,6 +20,23 @@ pub struct Centre {
 #[derive(Clone, Copy, Debug, Default, PartialEq)]
 pub struct Nuclei {
     pub centres: [Centre; MOST_NUCLEI],
+    pub count: u32,
+}
+
+/// A primitive of a contracted function: its centre with the exponent, its norm and its coefficient. The charge is not looked at.
+#[repr(C)]
+#[derive(Clone, Copy, Debug, Default, PartialEq)]
+pub struct Primitive {
+    pub centre: Centre,
+    pub norm: f64,
+    pub coefficient: f64,
+}
+
+/// A contracted function: its first `count` primitives. What lies beyond the count is not looked at.
+#[repr(C)]
+#[derive(Clone, Copy, Debug, Default, PartialEq)]
+pub struct Contraction {
+    pub primitives: [Primitive; MOST_PRIMITIVES],
     pub count: u32,
 }
 
@@ -200,6 +217,7 @@ pub struct Scales {
 
 // The sizes that a C compiler gives the structs.
 const _: () = assert!(size_of::<Centre>() == 40 && size_of::<Nuclei>() == 1288 && size_of::<Cursor>() == 16);
+const _: () = assert!(size_of::<Primitive>() == 56 && size_of::<Contraction>() == 568);
 const _: () = assert!(size_of::<Written>() == 16 && size_of::<Value>() == 24);
 const _: () = assert!(size_of::<Component>() == 13 && size_of::<Table>() == 192);
 const _: () = assert!(size_of::<Opened>() == 40 && size_of::<Step>() == 56);
@@ -236,6 +254,8 @@ extern "C" {
                     aux: f64, boys: *const f64, boys_len: usize) -> Value;
     fn xew_nuclear(roll: *const u8, roll_len: usize, a: Centre, b: Centre, nuclei: Nuclei,
                    aux: f64, boys: *const f64, boys_len: usize) -> Value;
+    fn xew_contracted(roll: *const u8, roll_len: usize, left: Contraction, right: Contraction,
+                      host: *const f64, host_len: usize) -> Value;
     fn xew_evaluate_grouped(roll: *const u8, roll_len: usize, a: Centre, b: Centre, c: Centre, d: Centre,
                             aux: f64, boys: *const f64, boys_len: usize, buffer: *mut u8, buffer_len: usize) -> Value;
     fn xew_grouped_term(grouping: *const u8, grouping_len: usize, l: u8, terms: u32, number: u32) -> Restored;
@@ -329,6 +349,10 @@ pub fn evaluate(roll: &[u8], a: Centre, b: Centre, c: Centre, d: Centre, aux: f6
 
 pub fn nuclear(roll: &[u8], a: Centre, b: Centre, nuclei: Nuclei, aux: f64, boys: &[f64]) -> Value {
     unsafe { xew_nuclear(roll.as_ptr(), roll.len(), a, b, nuclei, aux, boys.as_ptr(), boys.len()) }
+}
+
+pub fn contracted(roll: &[u8], left: Contraction, right: Contraction, host: &[f64]) -> Value {
+    unsafe { xew_contracted(roll.as_ptr(), roll.len(), left, right, host.as_ptr(), host.len()) }
 }
 
 #[rustfmt::skip]

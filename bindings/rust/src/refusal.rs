@@ -24,6 +24,8 @@ pub enum Refusal {
     CutRoll {
         place: usize,
     },
+    PrimitiveCount,
+    HostCount,
     Nuclei,
 }
 
@@ -58,6 +60,8 @@ impl Refusal {
             Refusal::MatrixSize => (12, "matrix size out of range, or a slice length wrong for it"),
             Refusal::ComponentNumber => (13, "component number not below the count"),
             Refusal::CutRoll { .. } => (14, "the roll ends before a number does; carries the place"),
+            Refusal::PrimitiveCount => (15, "a contracted function is not of 1 to 10 primitives"),
+            Refusal::HostCount => (16, "host numbers are not one for each pair of primitives"),
             Refusal::Nuclei => (17, "a nucleus' charge is above 118, or a list is not of 1 to 32 nuclei"),
         }
     }
@@ -80,6 +84,8 @@ impl Refusal {
             12 => Refusal::MatrixSize,
             13 => Refusal::ComponentNumber,
             14 => Refusal::CutRoll { place },
+            15 => Refusal::PrimitiveCount,
+            16 => Refusal::HostCount,
             17 => Refusal::Nuclei,
             _ => panic!("libxewumbal.a is not of this binding's version: refusal {number}"),
         })

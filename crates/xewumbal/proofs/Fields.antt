@@ -57,6 +57,8 @@ use Rattle.geometry.specs.Floats.{zero}
 use Rattle.integrals.specs.declared.Value.{Value}
 use Rattle.integrals.specs.declared.Value.the-variants as value
 use Rattle.roll.specs.Reading.{rollAt}
+use Rattle.contracting.specs.declared.Contracted.{Contracted}
+use Rattle.contracting.specs.Elements.{contractedOf}
 use Rattle.nuclei.specs.declared.Nuclei.{Nuclei}
 use Rattle.nuclei.specs.Nuclei.{nuclearOf}
 use Rattle.integrals.specs.Evaluation.{evaluateOf}
@@ -88,7 +90,7 @@ use Rattle.xewumbal.specs.Answers.{ExpandCallTold, ListCallTold, Grouped
 use Rattle.xewumbal.specs.Answers.{Expand2CallTold, ToForm2CallTold, ToForm1CallTold, cursor2In, hostCursor2, hostOpened2, foundStep2, hostStep2, hostMoved}
 use Rattle.xewumbal.specs.Answers.{afterCode, flagOf, hostSalvaged, SalvageCallTold}
 use Rattle.xewumbal.specs.Answers.{hostPair, pairIn, hostTerm, comparedBy, hostCompared, compareAnswer, metBy, hostMet, compareNextAnswer}
-use Rattle.xewumbal.specs.Answers.{measureAnswer, shell2Answer, shell4Answer, openAnswer, checkAnswer, nextAnswer, open2Answer, check2Answer, next2Answer, scaleTotalAnswer, rollTotalAnswer, prefactorsAnswer, evaluateAnswer, nuclearAnswer}
+use Rattle.xewumbal.specs.Answers.{measureAnswer, shell2Answer, shell4Answer, openAnswer, checkAnswer, nextAnswer, open2Answer, check2Answer, next2Answer, scaleTotalAnswer, rollTotalAnswer, prefactorsAnswer, evaluateAnswer, nuclearAnswer, contractedAnswer}
 
 -- ---- the cases in fields
 
@@ -325,6 +327,10 @@ evaluate-answered roll a b c d aux boys v x told is = is ∙ ap hostValue told
 pub nuclear-answered : (roll : List ℕ) (a b : Centre) (n : Nuclei) (aux : Float) (boys : List Float) (v : Value) (x : «xew_value») → v ≡ nuclearOf roll a b n aux boys → x ≡ hostValue v → x ≡ nuclearAnswer roll a b n aux boys
 unfolding nuclearAnswer
 nuclear-answered roll a b n aux boys v x told is = is ∙ ap hostValue told
+
+pub contracted-answered : (roll : List ℕ) (left right : Contracted) (host : List Float) (v : Value) (x : «xew_value») → v ≡ contractedOf roll left right host → x ≡ hostValue v → x ≡ contractedAnswer roll left right host
+unfolding contractedAnswer
+contracted-answered roll left right host v x told is = is ∙ ap hostValue told
 
 pub grouped-answered : (a b c d : Centre) (roll : List ℕ) (aux : Float) (boys : List Float) (before : List ℕ) (v : Value) (x : «xew_value») (after : List ℕ) → GroupedTold roll a b c d aux boys before v after → x ≡ hostValue v → GroupedCallTold roll a b c d aux boys before x after
 grouped-answered a b c d roll aux boys before v x after told is = record { answer = is ∙ ap hostValue (told .answer); buffer = told .buffer }

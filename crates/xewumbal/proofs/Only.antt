@@ -15,6 +15,7 @@ use Rattle.grouping.specs.Evaluation.{ofRoll as groupedOfRoll, bufferOf}
 use Rattle.jk.specs.Outcome.{jkOf, refusalOf as jkRefusal}
 use Rattle.geometry.specs.declared.Centre.{Centre}
 use Rattle.nuclei.specs.declared.Nuclei.{Nuclei}
+use Rattle.contracting.specs.declared.Contracted.{Contracted}
 use Rattle.laws.proofs.Contract.{Alone, alone, Lent, _then_, _▸_, end}
 use Rattle.xewumbal.specs.declared.xew_written.{«xew_written»}
 use Rattle.xewumbal.specs.declared.xew_cursor.{«xew_cursor»}
@@ -24,7 +25,7 @@ use Rattle.xewumbal.specs.declared.xew_salvaged.{«xew_salvaged»}
 use Rattle.xewumbal.specs.declared.xew_pair.{«xew_pair»}
 use Rattle.xewumbal.specs.declared.xew_value.{«xew_value»}
 use Rattle.xewumbal.specs.Answers.{hostExpanded, hostListed, hostMoved, hostSalvaged, compareAnswer, compareNextAnswer, measureAnswer, shell2Answer, shell4Answer, openAnswer, checkAnswer, nextAnswer, open2Answer, check2Answer, next2Answer}
-use Rattle.xewumbal.specs.Answers.{scaleTotalAnswer, rollTotalAnswer, prefactorsAnswer, evaluateAnswer, nuclearAnswer, groupedTermAnswer, hostValue}
+use Rattle.xewumbal.specs.Answers.{scaleTotalAnswer, rollTotalAnswer, prefactorsAnswer, evaluateAnswer, nuclearAnswer, contractedAnswer, groupedTermAnswer, hostValue}
 use Rattle.xewumbal.proofs.xew_expand.Reads.{Post as Expand}
 use Rattle.xewumbal.proofs.xew_measure.Reads.{Post as Measure}
 use Rattle.xewumbal.proofs.xew_expand2.Reads.{Post as Expand2}
@@ -47,6 +48,7 @@ use Rattle.xewumbal.proofs.xew_roll_total.Reads.{Post as RollTotal}
 use Rattle.xewumbal.proofs.xew_prefactors.Reads.{Post as Prefactors}
 use Rattle.xewumbal.proofs.xew_evaluate.Reads.{Post as Evaluate}
 use Rattle.xewumbal.proofs.xew_nuclear.Reads.{Post as Nuclear}
+use Rattle.xewumbal.proofs.xew_contracted.Reads.{Post as ContractedElement}
 use Rattle.xewumbal.proofs.xew_evaluate_grouped.Reads.{Post as EvaluateGrouped}
 use Rattle.xewumbal.proofs.xew_grouped_term.Reads.{Post as GroupedTerm}
 use Rattle.xewumbal.proofs.xew_jk.Reads.{Post as Jk}
@@ -133,6 +135,10 @@ evaluate-only κs roll a b c d aux boys = alone (λ r p. p)
 pub nuclear-only : (κs : Lfts 2) (roll : Lent ℕ) (a b : Centre) (nuclei : Nuclei) (aux : Float) (boys : Lent Float) →
     let g = roll ▸ a ▸ b ▸ nuclei ▸ aux ▸ boys ▸ end in Alone (λ r. Nuclear κs g r g) (nuclearAnswer (roll .now) a b nuclei aux (boys .now))
 nuclear-only κs roll a b nuclei aux boys = alone (λ r p. p)
+
+pub contracted-only : (κs : Lfts 2) (roll : Lent ℕ) (left right : Contracted) (host : Lent Float) →
+    let g = roll ▸ left ▸ right ▸ host ▸ end in Alone (λ r. ContractedElement κs g r g) (contractedAnswer (roll .now) left right (host .now))
+contracted-only κs roll left right host = alone (λ r p. p)
 
 pub evaluate-grouped-only : (κs : Lfts 3) (roll : Lent ℕ) (a b c d : Centre) (aux : Float) (boys : Lent Float) (buffer : Lent ℕ) →
     Alone {A = «xew_value» × List ℕ} (λ x. EvaluateGrouped κs (roll ▸ a ▸ b ▸ c ▸ d ▸ aux ▸ boys ▸ buffer ▸ end) (x .0) (roll ▸ a ▸ b ▸ c ▸ d ▸ aux ▸ boys ▸ buffer then (x .1) ▸ end))

@@ -51,6 +51,8 @@ use Rattle.geometry.specs.declared.Centre.{Centre}
 use Rattle.geometry.specs.declared.Table.{Table}
 use Rattle.geometry.specs.Checks.{prefactorTableOf, refusalOf as tableRefusal}
 use Rattle.integrals.specs.declared.Value.{Value}
+use Rattle.contracting.specs.declared.Contracted.{Contracted}
+use Rattle.contracting.specs.Elements.{contractedOf}
 use Rattle.nuclei.specs.declared.Nuclei.{Nuclei}
 use Rattle.nuclei.specs.Nuclei.{nuclearOf}
 use Rattle.integrals.specs.Evaluation.{evaluateOf, floatOf, placeOf, refusalOf as valueRefusal}
@@ -322,6 +324,11 @@ evaluateAnswer roll a b c d aux boys = hostValue (evaluateOf roll a b c d aux bo
 
 unfoldable pub nuclearAnswer : List ℕ → Centre → Centre → Nuclei → Float → List Float → «xew_value»
 nuclearAnswer roll a b nuclei aux boys = hostValue (nuclearOf roll a b nuclei aux boys)
+
+-- ---- xew_contracted: the same of two contracted functions
+
+unfoldable pub contractedAnswer : List ℕ → Contracted → Contracted → List Float → «xew_value»
+contractedAnswer roll left right host = hostValue (contractedOf roll left right host)
 
 -- ---- xew_evaluate_grouped: the same of an evaluation that is lent a grouping buffer, and what the buffer then holds
 

@@ -5,7 +5,7 @@ mod answers;
 ghost use mathlib.Core.Path.{_≡_};
 ghost use Rattle.xewumbal.specs.Answers.{ExpandCallTold, Expand2CallTold, ListCallTold, ToForm2CallTold, ToForm1CallTold, SalvageCallTold, GroupedCallTold, JkCallTold};
 ghost use Rattle.xewumbal.specs.Answers.{measureAnswer, shell2Answer, shell4Answer, openAnswer, checkAnswer, nextAnswer, open2Answer, check2Answer, next2Answer, compareAnswer, compareNextAnswer};
-ghost use Rattle.xewumbal.specs.Answers.{scaleTotalAnswer, rollTotalAnswer, prefactorsAnswer, evaluateAnswer, nuclearAnswer, groupedTermAnswer};
+ghost use Rattle.xewumbal.specs.Answers.{scaleTotalAnswer, rollTotalAnswer, prefactorsAnswer, evaluateAnswer, nuclearAnswer, contractedAnswer, groupedTermAnswer};
 use kind::Kind;
 
 // Raised when a struct, a meaning or an answer changes. The header and the binding have the same (D-85).
@@ -15,6 +15,10 @@ pub const VERSION: u32 = 3;
 pub type xew_centre = geometry::Centre;
 
 pub type xew_nuclei = nuclei::Nuclei;
+
+pub type xew_primitive = contracting::Primitive;
+
+pub type xew_contraction = contracting::Contracted;
 
 #[repr(C)]
 pub struct xew_written {
@@ -374,6 +378,18 @@ pub extern "C" fn xew_nuclear(
     ensures { λ r. ⌜ r ≡ nuclearAnswer (now (roll .entry)) a b nuclei aux (now (boys .entry)) ⌝ }
 {
     answers::value(nuclei::nuclear(roll, a, b, nuclei, aux, boys))
+}
+
+#[no_mangle]
+pub extern "C" fn xew_contracted(
+    roll: &[u8],
+    left: xew_contraction,
+    right: xew_contraction,
+    host: &[f64],
+) -> xew_value
+    ensures { λ r. ⌜ r ≡ contractedAnswer (now (roll .entry)) left right (now (host .entry)) ⌝ }
+{
+    answers::value(contracting::element(roll, left, right, host))
 }
 
 #[no_mangle]
