@@ -57,6 +57,7 @@ enum Question {
     SalvageIn,
     Compare,
     Nuclei,
+    Contracted,
     Unknown,
 }
 
@@ -103,6 +104,7 @@ fn of(shape: usize) -> Question {
         30 => Question::SalvageIn,
         31 => Question::Compare,
         32 => Question::Nuclei,
+        33 => Question::Contracted,
         _ => Question::Unknown,
     }
 }
@@ -207,6 +209,7 @@ fn in_numbers(q: Question, n: [u64; NUMBERS], count: usize, roll: &[u8], floats:
         Question::Eval => values::value(roll, floats),
         Question::Table => values::table(n, floats),
         Question::Nuclei => values::of_nuclei(n, roll, floats),
+        Question::Contracted => values::contracted(n, roll, floats),
         Question::Measure => expands::measured(n),
         Question::Total => sums::total(n),
         Question::Scales => sums::scales(roll),

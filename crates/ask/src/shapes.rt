@@ -3,6 +3,7 @@ ghost use Prim.Native.Nat.{_<_};
 use crate::lent;
 use crate::words;
 use words::Asked;
+use words::Listed;
 use words::NUMBERS;
 
 // Nothing is read yet by the shape with this number.
@@ -56,7 +57,7 @@ fn ended(a: Asked, end: usize) -> Asked {
 }
 
 // B, W and P are numbers below 2^8, 2^32 and 2^64, L the length of a lent buffer, G of a grouping buffer, R a roll, S a second one; C a centre, N a count and so many
-// centres, F a float, * floats, each after a blank,
+// centres, M a count and so many primitives, H a count and so many floats, F a float, * floats, each after a blank,
 // + a number below 2^8 after a blank or nothing, ^ whatever is left. What is read after a misfit is dropped.
 fn item(mark: u8, line: &[u8], a: Asked, bytes: &mut [u8], floats: &mut [f64]) -> Asked {
     match mark {
@@ -66,7 +67,9 @@ fn item(mark: u8, line: &[u8], a: Asked, bytes: &mut [u8], floats: &mut [f64]) -
         b'R' => words::roll(line, a, bytes),
         b'S' => words::second(line, a, bytes),
         b'C' => words::centre(line, a, floats),
-        b'N' => words::centres(line, a, floats),
+        b'N' => words::several(Listed::Nuclei, line, a, floats),
+        b'M' => words::several(Listed::Primitives, line, a, floats),
+        b'H' => words::several(Listed::Floats, line, a, floats),
         b'F' => words::one_float(line, a, floats),
         b'*' => words::floats(line, a, floats),
         b'^' => words::rest(line, a),

@@ -12,7 +12,7 @@ use lines::State;
 use words::Asked;
 
 // Shapes: B, W and P are numbers below 2^8, 2^32 and 2^64, L a buffer's length, G a grouping buffer's, R a roll, S a second one, C a centre, N a count of nuclei
-// and as many centres, F a float, * floats, + one number below 2^8 or none, ^ any bytes; the first is the empty line. `questions::of` has their numbers.
+// and as many centres, M a count of primitives and as many, H a count of floats and as many, F a float, * floats, + one number below 2^8 or none, ^ any bytes; the first is the empty line. `questions::of` has their numbers.
 pub(crate) fn turn(
     input: &[u8],
     s: State,
@@ -57,6 +57,7 @@ salvage R
 salvage R L P
 compare R S
 nuclei RCCNF*
+contracted RMMH
 ",
         line,
         given,

@@ -1,11 +1,14 @@
-// `eval ROLL A B C D AUX F0 F1 ..`, `grouped BUFFER` with the same, `nuclei ROLL A B N centres.. AUX F0 F1 ..` and `table KIND A B C D`:
-// the integral of a roll, plain, by way of a grouping buffer and over a list of nuclei, and the prefactor table of a kind.
+// `eval ROLL A B C D AUX F0 F1 ..`, `grouped BUFFER` with the same, `nuclei ROLL A B N centres.. AUX F0 F1 ..`, `contracted ROLL NL primitives.. NR primitives.. NH h1 ..`
+// and `table KIND A B C D`: the integral of a roll, plain, by way of a grouping buffer, over a list of nuclei and over two contracted functions, and the prefactor table of a kind.
 ghost use Prim.Native.Nat.{_≤_};
 use crate::answers;
 use crate::floats;
 use crate::forms;
 use crate::questions;
 use crate::words;
+use contracting::Contracted;
+use contracting::MOST_PRIMITIVES;
+use contracting::Primitive;
 use forms::Told;
 use geometry::Centre;
 use geometry::Table;
@@ -18,13 +21,16 @@ use questions::byte;
 use questions::word;
 use roll::Cursor;
 use roll::Opened;
+use words::Listed;
 use words::NUMBERS;
-use words::listed;
+use words::follow;
 
 // The floats of a centre: its charge stands among them by its bits.
 const CENTRE: usize = 5;
 
 const PAIR: usize = 2 * CENTRE;
+// Those of a primitive: its centre, its norm and its coefficient.
+const PRIMITIVE: usize = CENTRE + 2;
 
 const CENTRES: usize = 4 * CENTRE;
 // The most Boys numbers that a question can have.
@@ -45,11 +51,10 @@ fn at(floats: &[f64], i: usize) -> f64 {
     0.0
 }
 
-// The centre with this number, from 0 on.
-fn centre(floats: &[f64], number: usize) -> Centre
-    requires { ⌜ number ≤ 34 ⌝ }
+// The centre that stands from a place on.
+fn centre_at(floats: &[f64], i: usize) -> Centre
+    requires { ⌜ i ≤ 4096 ⌝ }
 {
-    let i = CENTRE * number;
     Centre {
         x: at(floats, i),
         y: at(floats, i + 1),
@@ -57,6 +62,51 @@ fn centre(floats: &[f64], number: usize) -> Centre
         exponent: at(floats, i + 3),
         charge: word(floats::bits(at(floats, i + 4))),
     }
+}
+
+// The centre with this number, from 0 on.
+fn centre(floats: &[f64], number: usize) -> Centre
+    requires { ⌜ number ≤ 34 ⌝ }
+{
+    centre_at(floats, CENTRE * number)
+}
+
+fn primitive_at(floats: &[f64], i: usize) -> Primitive
+    requires { ⌜ i ≤ 4000 ⌝ }
+{
+    Primitive {
+        centre: centre_at(floats, i),
+        norm: at(floats, i + CENTRE),
+        coefficient: at(floats, i + CENTRE + 1),
+    }
+}
+
+// The function whose primitives stand from a place on; in the places left stands what does not matter.
+fn function_at(floats: &[f64], from: usize, count: u64) -> Contracted
+    requires { ⌜ from ≤ 1000 ⌝ }
+{
+    let first = primitive_at(floats, from);
+    let mut primitives = [first; MOST_PRIMITIVES];
+    let mut i = 0;
+    while i < MOST_PRIMITIVES {
+        primitives[i] = primitive_at(floats, from + PRIMITIVE * i);
+        i += 1;
+    }
+    Contracted {
+        primitives,
+        count: word(count),
+    }
+}
+
+pub(crate) fn contracted(n: [u64; NUMBERS], roll: &[u8], floats: &[f64]) -> Told {
+    let lefts = PRIMITIVE * follow(n[0], Listed::Primitives);
+    let all = lefts + PRIMITIVE * follow(n[1], Listed::Primitives);
+    if floats.len() < all {
+        return answers::unknown();
+    }
+    let left = function_at(floats, 0, n[0]);
+    let right = function_at(floats, lefts, n[1]);
+    value_told(contracting::element(roll, left, right, &floats[all..]))
 }
 
 fn four_of(floats: &[f64]) -> Four {
@@ -85,7 +135,7 @@ fn nuclei_of(floats: &[f64], count: u64) -> Nuclei {
 
 pub(crate) fn of_nuclei(n: [u64; NUMBERS], roll: &[u8], floats: &[f64]) -> Told {
     let count = n[0];
-    let before = PAIR + CENTRE * listed(count);
+    let before = PAIR + CENTRE * follow(count, Listed::Nuclei);
     if floats.len() <= before {
         return answers::unknown();
     }

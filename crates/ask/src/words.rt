@@ -10,8 +10,8 @@ use text::Parsed;
 pub(crate) const CURSOR: usize = 4;
 // The most numbers of a question: those of a cursor, and the prefactors of the term before.
 pub(crate) const NUMBERS: usize = CURSOR + Kind::PREFACTORS;
-// The most nuclei of a list, and the most that a question's charge says.
-const MOST_NUCLEI: u64 = nuclei::MOST_NUCLEI as u64;
+// The most host numbers that a question has, and the most that its charge says.
+const MOST_HOST: u64 = 128;
 
 const MOST_CHARGE: u64 = 4294967295;
 
@@ -210,23 +210,75 @@ pub(crate) fn centre(line: &[u8], a: Asked, room: &mut [f64]) -> Asked {
     charge(line, c, room)
 }
 
-// How many centres follow a count: so many where it is one of a list of nuclei, else none.
-pub(crate) fn listed(count: u64) -> usize
-    ensures { λ r. ⌜ r ≤ 32 ⌝ }
+// A primitive: a centre and two floats.
+fn primitive(line: &[u8], a: Asked, room: &mut [f64]) -> Asked {
+    let b = centre(line, a, room);
+    two_floats(line, b, room)
+}
+
+// What follows a count: so many of a sort, where the count is not above the most of a list, else none.
+pub(crate) enum Listed {
+    Nuclei,
+    Primitives,
+    Floats,
+}
+
+pub(crate) fn most_listed(sort: Listed) -> u64
+    ensures { λ r. ⌜ r ≤ 128 ⌝ }
 {
-    if MOST_NUCLEI < count {
+    match sort {
+        Listed::Nuclei => nuclei::MOST_NUCLEI as u64,
+        Listed::Primitives => contracting::MOST_PRIMITIVES as u64,
+        Listed::Floats => MOST_HOST,
+    }
+}
+
+// A count up to 255; of host numbers up to 128.
+fn most_counted(sort: Listed) -> u64 {
+    match sort {
+        Listed::Nuclei => 255,
+        Listed::Primitives => 255,
+        Listed::Floats => MOST_HOST,
+    }
+}
+
+// How many follow a count.
+pub(crate) fn follow(count: u64, sort: Listed) -> usize
+    ensures { λ r. ⌜ r ≤ 128 ⌝ }
+{
+    let most = most_listed(sort);
+    if most < count {
         return 0;
     }
     count as usize
 }
 
-// A count up to 255 after a blank, and the centres that follow it; the count is a number of the question.
-pub(crate) fn centres(line: &[u8], a: Asked, room: &mut [f64]) -> Asked {
-    let mut b = number(line, letter(line, a, b' '), 255);
-    let n = b.numbers;
-    let mut left = listed(n[0]);
+fn one_of(sort: Listed, line: &[u8], a: Asked, room: &mut [f64]) -> Asked {
+    match sort {
+        Listed::Nuclei => centre(line, a, room),
+        Listed::Primitives => primitive(line, a, room),
+        Listed::Floats => one_float(line, a, room),
+    }
+}
+
+// The number that was read last.
+fn last(a: Asked) -> u64 {
+    let n = a.numbers;
+    let count = a.count;
+    if 0 < count {
+        if count <= NUMBERS {
+            return n[count - 1];
+        }
+    }
+    0
+}
+
+// A count after a blank, which is a number of the question, and what follows it.
+pub(crate) fn several(sort: Listed, line: &[u8], a: Asked, room: &mut [f64]) -> Asked {
+    let mut b = number(line, letter(line, a, b' '), most_counted(sort));
+    let mut left = follow(last(b), sort);
     while 0 < left {
-        b = centre(line, b, room);
+        b = one_of(sort, line, b, room);
         left -= 1;
     }
     b

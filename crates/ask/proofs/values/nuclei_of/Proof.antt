@@ -1,7 +1,6 @@
 -- `values::nuclei_of` is safe and ends. Assumes nothing.
 use Prim.Native.Nat.{_-_, _≤_}
 use borrow.Author.Needs.{needs}
-use native.Mathlib.Omega.{arith}
 use Rattle.ask.proofs.values.nuclei_of.Statement.{statement}
 use Rattle.ask.proofs.values.nuclei_of.Tie as tie
 use Rattle.ask.proofs.questions.word.Reads as word-reads
