@@ -46,7 +46,7 @@ pairGeometry k p = geometryFinite k (p .left .centre) (p .right .centre) (p .lef
 unfoldable pub pairValue : Kind → ℕ → List Term → Pair → Float
 pairValue k l ts p = integralOf k l (p .left .centre) (p .right .centre) (p .left .centre) (p .right .centre) (p .aux) [] ts
 
--- each primitive value is multiplied by the product of both norms, left norm first, and that by the left coefficient: ca · ((na · nb) · v)
+-- each primitive value is multiplied by the product of both norms, left norm first, and that by the left coefficient: ca · ((na · nb) · v) (D-111)
 unfoldable pub shareOf : (Pair → Float) → Pair → Float
 shareOf v p = p .left .coefficient ⊗ (p .left .norm ⊗ p .right .norm ⊗ v p)
 
@@ -66,7 +66,7 @@ outerFrom v (row ∷ rows) sum = outerFrom v rows (sum ⊕ row .right .coefficie
 unfoldable pub elementOf : (Pair → Float) → List Row → Float
 elementOf v rows = outerFrom v rows 0·0
 
--- 8, 9, 11, each over all pairs before the next; the sums are results
+-- 8, 9, 11, each over all pairs before the next; the sums are results (D-112)
 unfoldable pub checkedOf : Kind → ℕ → List Term → List Row → Value
 checkedOf k l ts rows =
     let v = pairValue k l ts in

@@ -1,11 +1,12 @@
 -- 02, Q-1: two contracted functions of one to ten primitives each, their pairs, and the host's number of each pair.
 use Prim.Native.Nat.{ℕ, suc, _*_}
-use mathlib.Core.Bool.{Bool, true, _&&_}
+use mathlib.Core.Bool.{Bool, _&&_}
 use mathlib.Core.List.{List, [], _∷_, _++_}
 use lib.Dec.{leb}
 use lib.Ieee.{Float}
 use lib.ListN.{length, getD, take}
 use Rattle.geometry.specs.Floats.{zero as 0·0}
+unfoldable pub use Rattle.integrals.specs.Values.{every}
 use Rattle.contracting.specs.declared.Primitive.{Primitive}
 use Rattle.contracting.specs.declared.Contracted.{Contracted}
 
@@ -16,7 +17,7 @@ mostPrimitives = 10
 unfoldable pub counted : ℕ → Bool
 counted n = leb 1 n && leb n mostPrimitives
 
--- what lies beyond the count is not looked at
+-- what lies beyond the count is not looked at (D-110)
 unfoldable pub primitivesOf : Contracted → List Primitive
 primitivesOf f = take (f .count) (f .primitives)
 
@@ -48,8 +49,3 @@ rowsOf left right host = rowsFrom host (primitivesOf left) 0 (primitivesOf right
 unfoldable pub allPairs : List Row → List Pair
 allPairs [] = []
 allPairs (row ∷ rows) = row .pairs ++ allPairs rows
-
--- a check holds of every one
-unfoldable pub every : {A : Type 0} → (A → Bool) → List A → Bool
-every check [] = true
-every check (x ∷ xs) = check x && every check xs

@@ -1,7 +1,7 @@
 -- 01, "Limits and refusal numbers", and 02, Q-10: an evaluation is refused 17, 8, 9, 10 or 11, in this order, once its roll has been read.
 use Prim.Native.Nat.{ℕ, _+_}
 use mathlib.Core.Bool.{Bool, true, false, _&&_, cond}
-use mathlib.Core.List.{List}
+use mathlib.Core.List.{List, [], _∷_}
 use lib.Dec.{eqb}
 use lib.Ieee.{Float}
 use lib.Ieee.Scale.{finite}
@@ -24,6 +24,11 @@ inputsFinite k a b c d aux boys = usedFinite k a b c d && (finite aux && allFini
 -- 10 unless the Boys numbers are exactly L+1 (kinds 2, 4) or 0 (others) (D-21)
 unfoldable pub boysCounted : Kind → ℕ → ℕ → Bool
 boysCounted k l count = eqb count (cond (usesBoys k) (l + 1) 0)
+
+-- a check that is made over all of a list before the next one
+unfoldable pub every : {A : Type 0} → (A → Bool) → List A → Bool
+every check [] = true
+every check (x ∷ xs) = check x && every check xs
 
 -- beside a refusal other than 7 and 14 the place is 0 (D-2)
 unfoldable pub refusedUnless : Bool → ℕ → Value → Value

@@ -19,6 +19,7 @@ use Rattle.integrals.specs.declared.Value.{Value}
 use Rattle.integrals.specs.declared.Value.the-variants.{Refused}
 use Rattle.integrals.specs.Sums.{integralOf}
 use Rattle.integrals.specs.Values.{refusedUnless, resultOf}
+unfoldable pub use Rattle.integrals.specs.Values.{every}
 use Rattle.nuclei.specs.declared.Nuclei.{Nuclei}
 
 -- a list of up to 32 nuclei
@@ -28,10 +29,6 @@ mostNuclei = 32
 -- what lies beyond the count is not looked at (D-107)
 abbrev pub nucleiOf : Nuclei → List Centre
 nucleiOf n = take (n .count) (n .centres)
-
-unfoldable pub every : (Centre → Bool) → List Centre → Bool
-every passes [] = true
-every passes (c ∷ cs) = passes c && every passes cs
 
 -- 17 unless the count is from 1 to 32 and every charge 118 at most
 unfoldable pub listKept : Nuclei → Bool
