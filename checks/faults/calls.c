@@ -139,6 +139,7 @@ static void play_large(uint64_t number)
         struct slice roll = try_expand(&largest[number], largest[number].length, 0);
         try_evaluate(roll, expected_open(roll.mine, roll.length));
         try_nuclear(roll, expected_open(roll.mine, roll.length));
+        try_contracted(roll, expected_open(roll.mine, roll.length));
         try_grouping(roll, expected_open(roll.mine, roll.length));
         try_to_form2(roll, expected_open(roll.mine, roll.length));
         try_expand2(&largest[number]);
@@ -207,6 +208,7 @@ static void play(void)
     try_evaluate(roll, checked);
     try_evaluate(roll, checked);
     try_nuclear(roll, checked);
+    try_contracted(roll, checked);
     try_evaluate_grouped(roll, checked);
     try_to_form2(roll, checked);
     if (once_in(8))
@@ -274,6 +276,7 @@ int main(int words, char **word)
         else if (call.scene % 6 == 4) {
             play_grouping();
             play_nuclear(bytes);
+            play_contracted(bytes);
         }
         else if (call.scene % 6 == 2)
             for (int i = 0; i < 4; i++) {

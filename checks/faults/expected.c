@@ -273,6 +273,41 @@ uint8_t expected_nuclear(xew_opened checked, const xew_centre *pair, const xew_n
     return boys_length == (checked.cursor.l + 1u) * nuclei->count ? 0 : 10;
 }
 
+static bool primitives_finite(const xew_contraction *function)
+{
+    for (uint32_t i = 0; i < function->count; i++) {
+        const xew_primitive *p = &function->primitives[i];
+        if (!all_finite((double[]){ p->centre.x, p->centre.y, p->centre.z, p->centre.exponent, p->norm, p->coefficient }, 6))
+            return false;
+    }
+    return true;
+}
+
+static bool primitives_positive(const xew_contraction *function)
+{
+    for (uint32_t i = 0; i < function->count; i++)
+        if (!(function->primitives[i].centre.exponent > 0))
+            return false;
+    return true;
+}
+
+/* Each check of an evaluation goes over all pairs before the next. */
+uint8_t expected_contracted(xew_opened checked, const xew_contraction *left, const xew_contraction *right,
+                            const double *host, size_t host_length)
+{
+    if (left->count < 1 || left->count > XEW_MOST_PRIMITIVES || right->count < 1 || right->count > XEW_MOST_PRIMITIVES)
+        return 15;
+    if (host_length != (size_t)left->count * right->count)
+        return 16;
+    if (checked.refusal)
+        return checked.refusal;
+    if (checked.cursor.kind > 1)
+        return 1;
+    if (!primitives_finite(left) || !primitives_finite(right) || !all_finite(host, host_length))
+        return 8;
+    return primitives_positive(left) && primitives_positive(right) ? 0 : 9;
+}
+
 /* A sum of J or K: I from a place on, so many further for each lambda, times D; lambda outer, from 0.0. */
 static double summed(size_t n, const double *i, size_t step, const double *d)
 {

@@ -35,8 +35,9 @@ struct call {
     uint64_t number, scene, words[8];
     struct slice slices[4];
     xew_centre centres[2 + XEW_MOST_NUCLEI];
+    xew_primitive primitives[2 * XEW_MOST_PRIMITIVES];
     double aux;
-    size_t slice_count, centre_count;
+    size_t slice_count, centre_count, primitive_count;
     bool has_aux;
 };
 extern struct call call;
@@ -60,6 +61,7 @@ struct request {
 #define MOST_LIST (3 * (XEW_MOST_ORDER + 1) * (XEW_MOST_ORDER + 2) / 2)
 #define MOST_BUFFER (XEW_ENTRY * XEW_MOST_TERMS + 1000) /* for a grouping, and some more */
 #define MOST_BOYS 480 /* beyond what a list of nuclei needs */
+#define MOST_HOST 128 /* beyond what two contracted functions need */
 #define LARGEST 6
 #define OVER 4
 extern const struct request largest[LARGEST], over[OVER];
@@ -91,6 +93,8 @@ void any_nuclei(xew_nuclei *nuclei);
 /* Other charges in all centres but the nucleus that is looked at, of a number; 4 for none. */
 void other_charges(xew_centre centres[4], int nucleus);
 void other_unused(xew_nuclei *nuclei); /* other nuclei beyond the count, and other exponents */
+void any_contraction(xew_contraction *function);
+void other_primitives(xew_contraction *function); /* others beyond the count, and other charges */
 
 /* expected.c: what a call must answer, by docs/01-scope.md and docs/02-change-requests.md alone. */
 extern const uint8_t orders_used[XEW_KINDS], table_size[XEW_KINDS];
@@ -114,6 +118,8 @@ uint8_t expected_value(xew_opened checked, const xew_centre *centres, double aux
                        const double *boys, size_t boys_length);
 uint8_t expected_nuclear(xew_opened checked, const xew_centre *pair, const xew_nuclei *nuclei, double aux, /* 0: or 11 */
                          const double *boys, size_t boys_length);
+uint8_t expected_contracted(xew_opened checked, const xew_contraction *left, const xew_contraction *right, /* 0: or 11 */
+                            const double *host, size_t host_length);
 /* 0: j and k, of 256 each, have the sums */
 uint8_t expected_jk(size_t n, const double *i, const double *d, const size_t lengths[4], double *j, double *k);
 bool all_finite(const double *floats, size_t count);

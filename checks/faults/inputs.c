@@ -541,3 +541,56 @@ void any_nuclei(xew_nuclei *nuclei)
             nuclei->centres[i].charge = 0;
     other_unused(nuclei);
 }
+
+static void put_primitive(xew_primitive *primitive, const double floats[6])
+{
+    put_centre(&primitive->centre, floats, floats[3], any_charge());
+    primitive->norm = floats[4];
+    primitive->coefficient = floats[5];
+}
+
+void other_primitives(xew_contraction *function)
+{
+    for (uint32_t i = 0; i < XEW_MOST_PRIMITIVES; i++) {
+        double floats[6];
+        for (int j = 0; j < 6; j++)
+            floats[j] = any_float();
+        if (i < function->count)
+            function->primitives[i].centre.charge = any_charge();
+        else
+            put_primitive(&function->primitives[i], floats);
+    }
+}
+
+void any_contraction(xew_contraction *function)
+{
+    static const uint32_t wrong[] = { 0, 0, 11, 11, 12, 256, 257, 256 + 10, (uint32_t)1 << 31, UINT32_MAX - 9, UINT32_MAX };
+    const uint32_t right[] = { 1, 2, 1 + (uint32_t)below(4), XEW_MOST_PRIMITIVES - 1, XEW_MOST_PRIMITIVES,
+                               1 + (uint32_t)below(XEW_MOST_PRIMITIVES) };
+    double floats[6 * XEW_MOST_PRIMITIVES];
+    uint32_t held = ONE_OF(right); /* primitives that stand there; where the count is wrong as many as there are places */
+    memset(function, (int)below(256), sizeof *function);
+    function->count = held;
+    if (once_in(12)) {
+        function->count = ONE_OF(wrong);
+        held = XEW_MOST_PRIMITIVES;
+    }
+    any_floats(floats, 6 * held);
+    bool positive = !once_in(8), units = once_in(6), zeros = once_in(12), one_place = once_in(2);
+    for (uint32_t i = 0; i < held; i++) {
+        double *f = floats + 6 * i;
+        f[3] = positive ? fabs(f[3]) : f[3];
+        if (units)
+            f[4] = f[5] = 1;
+        if (zeros) /* every product is 0.0 or -0.0 */
+            f[5] = once_in(2) ? 0.0 : -0.0;
+        if (one_place)
+            memcpy(f, floats, 3 * sizeof *f);
+        put_primitive(&function->primitives[i], f);
+    }
+    if (once_in(8))
+        function->primitives[below(held)].centre.exponent = any_float();
+    if (once_in(16))
+        *(once_in(2) ? &function->primitives[below(held)].norm : &function->primitives[below(held)].coefficient) = any_float();
+    other_primitives(function);
+}

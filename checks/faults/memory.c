@@ -113,6 +113,13 @@ static void tell(const char *what)
         fprintf(stderr, "  centre %" PRIx64 " %" PRIx64 " %" PRIx64 " %" PRIx64 " %" PRIu32 "\n", float_bits(c->x),
                 float_bits(c->y), float_bits(c->z), float_bits(c->exponent), c->charge);
     }
+    for (size_t i = 0; i < call.primitive_count; i++) {
+        const xew_primitive *p = &call.primitives[i];
+        const xew_centre *c = &p->centre;
+        fprintf(stderr, "  primitive %" PRIx64 " %" PRIx64 " %" PRIx64 " %" PRIx64 " %" PRIu32 " %" PRIx64 " %" PRIx64 "\n",
+                float_bits(c->x), float_bits(c->y), float_bits(c->z), float_bits(c->exponent), c->charge,
+                float_bits(p->norm), float_bits(p->coefficient));
+    }
     if (call.has_aux)
         fprintf(stderr, "  aux %" PRIx64 "\n", float_bits(call.aux));
 }

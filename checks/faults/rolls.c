@@ -184,6 +184,7 @@ void try_cuts(const uint8_t *bytes, size_t length)
             hold(step.refusal == 14 && step.place == checked.place, "a cut term that is not 14 where check says");
         try_evaluate(roll, checked);
         try_nuclear(roll, checked);
+        try_contracted(roll, checked);
         try_evaluate_grouped(roll, checked);
         try_roll_total(roll, checked);
     }

@@ -28,6 +28,7 @@ static uint8_t triples[TRIPLES][3];
 static double floats[65536], matrices[3][256];
 static const xew_centre a = { 0, 0, 0, 1, 1 }, b = { 1, 0, 0, 2, 6 }, c = { 0, 1, 0, 3, 118 }, d = { 0, 0, 1, 4, 0 };
 static xew_nuclei nuclei; /* as many as a list may have */
+static xew_contraction contraction; /* as many primitives as a function may have */
 
 static _Alignas(64) uint8_t stack[SIZE];
 static uint8_t *top, kind;
@@ -293,6 +294,13 @@ CALLER void nuclear(void)
     note(xew_nuclear(rolls[2], lengths[2], a, b, nuclei, 1, floats, boys).refusal);
 }
 
+CALLER void contracted(void)
+{
+    FROM_HERE;
+    for (int k = 0; k < 2; k++)
+        note(xew_contracted(rolls[k], lengths[k], contraction, contraction, floats, 100).refusal);
+}
+
 CALLER void evaluate_grouped(void)
 {
     FROM_HERE;
@@ -360,6 +368,8 @@ int main(int words, char **word)
     }
     while (nuclei.count < XEW_MOST_NUCLEI)
         nuclei.centres[nuclei.count++] = c;
+    while (contraction.count < XEW_MOST_PRIMITIVES)
+        contraction.primitives[contraction.count++] = (xew_primitive){ c, 1, 1 };
     printf("bytes of stack below the caller's frame\n");
     for (uint8_t k = 0; k < XEW_KINDS; k++)
         row_of_kind("xew_expand", k, expand);
@@ -393,6 +403,7 @@ int main(int words, char **word)
     row("xew_evaluate_grouped, the same", evaluate_grouped);
     row("xew_grouped_term, the last of the most", grouped_term);
     row("xew_nuclear, the most terms, 32 nuclei", nuclear);
+    row("xew_contracted, the most terms, 10 by 10", contracted);
     row("xew_jk, size 16", jk);
     printf("  %-44s %6zu\n", "the deepest", most);
     return 0;

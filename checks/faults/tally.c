@@ -31,6 +31,7 @@ static const struct {
     [PREFACTORS] = { "xew_prefactors", { 1, 8, 9, 11 } },
     [EVALUATE] = { "xew_evaluate", { 7, 14, 17, 8, 9, 10, 11 } },
     [NUCLEAR] = { "xew_nuclear", { 7, 14, 1, 17, 8, 9, 10, 11 } },
+    [CONTRACTED] = { "xew_contracted", { 15, 16, 7, 14, 1, 8, 9, 11 } },
     [EVALUATE_GROUPED] = { "xew_evaluate_grouped", { 7, 14, 6, 17, 8, 9, 10, 11 } },
     [GROUPED_TERM] = { "xew_grouped_term", { 7, 13, 14 } },
     [JK] = { "xew_jk", { 12, 8, 11 } },
@@ -64,6 +65,8 @@ static const struct {
     [EVALUATE_BOYS] = { EVALUATE, "boys" },
     [NUCLEAR_ROLL] = { NUCLEAR, "roll" },
     [NUCLEAR_BOYS] = { NUCLEAR, "boys" },
+    [CONTRACTED_ROLL] = { CONTRACTED, "roll" },
+    [CONTRACTED_HOST] = { CONTRACTED, "host" },
     [GROUPED_ROLL] = { EVALUATE_GROUPED, "roll" },
     [GROUPED_BOYS] = { EVALUATE_GROUPED, "boys" },
     [GROUPED_BUFFER] = { EVALUATE_GROUPED, "buffer" },
@@ -96,15 +99,19 @@ static const char *const told_names[TOLD] = { "none kept", "some kept", "all kep
 enum { ONE_NUCLEUS, MOST_NUCLEI, ONLY_NEGATIVE, LISTS };
 static const char *const list_names[LISTS] = { "one nucleus", "32 nuclei", "only of -0.0" };
 
+/* What an element is of. */
+enum { ONE_BY_ONE, TEN_BY_TEN, OTHER_NUMBERS, PARTS_NEGATIVE, ELEMENTS };
+static const char *const element_names[ELEMENTS] = { "one by one", "ten by ten", "other counts", "only of -0.0" };
+
 static const char *const met_names[5] = { "refused", "both", "left", "right", "end" };
 
 uint64_t further_calls;
 static uint64_t answers[FUNCTIONS][REFUSALS], found[FUNCTIONS][3], faults[FAULTS], rolls[LARGE], empties[EMPTIES];
-static uint64_t disorders[DISORDERS], tolds[TOLD], lists[LISTS], mets[5], left[REFUSALS], just_over, most_histories;
+static uint64_t disorders[DISORDERS], tolds[TOLD], lists[LISTS], elements[ELEMENTS], mets[5], left[REFUSALS], just_over, most_histories;
 
 void begin(enum function f, const char *labels, size_t words_count, const uint64_t *words)
 {
-    call.slice_count = call.centre_count = 0;
+    call.slice_count = call.centre_count = call.primitive_count = 0;
     call.has_aux = false;
     call.labels = labels;
     memcpy(call.words, words, words_count * sizeof *words);
@@ -120,6 +127,12 @@ void with_centres(const xew_centre *centres, size_t count)
 {
     memcpy(call.centres + call.centre_count, centres, count * sizeof *centres);
     call.centre_count += count;
+}
+
+void with_primitives(const xew_primitive *primitives, size_t count)
+{
+    memcpy(call.primitives + call.primitive_count, primitives, count * sizeof *primitives);
+    call.primitive_count += count;
 }
 
 void with_aux(double aux)
@@ -178,6 +191,14 @@ void count_list(uint32_t nuclei, bool only_negative)
     lists[ONE_NUCLEUS] += nuclei == 1;
     lists[MOST_NUCLEI] += nuclei == XEW_MOST_NUCLEI;
     lists[ONLY_NEGATIVE] += only_negative;
+}
+
+void count_element(uint32_t left_count, uint32_t right_count, bool only_negative)
+{
+    bool one = left_count == 1 && right_count == 1;
+    bool ten = left_count == XEW_MOST_PRIMITIVES && right_count == XEW_MOST_PRIMITIVES;
+    elements[one ? ONE_BY_ONE : ten ? TEN_BY_TEN : OTHER_NUMBERS]++;
+    elements[PARTS_NEGATIVE] += only_negative;
 }
 
 void count_left(uint8_t refusal)
@@ -251,6 +272,8 @@ bool report(void)
             show(name, met_names[i], mets[i]);
         for (int i = 0; f == NUCLEAR && i < LISTS; i++)
             show(name, list_names[i], lists[i]);
+        for (int i = 0; f == CONTRACTED && i < ELEMENTS; i++)
+            show(name, element_names[i], elements[i]);
         if (f == EVALUATE_GROUPED)
             show(name, "grouped", left[0]);
         for (const uint8_t *refusal = functions[f].refusals; *refusal; refusal++) {

@@ -6,7 +6,8 @@
 
 enum function {
     EXPAND, MEASURE, EXPAND2, SHELL_LIST, SHELL2, SHELL4, OPEN, CHECK, NEXT, OPEN2, CHECK2, NEXT2, TO_FORM2, TO_FORM1,
-    SALVAGE, COMPARE, COMPARE_NEXT, SCALE_TOTAL, ROLL_TOTAL, PREFACTORS, EVALUATE, NUCLEAR, EVALUATE_GROUPED, GROUPED_TERM, JK,
+    SALVAGE, COMPARE, COMPARE_NEXT, SCALE_TOTAL, ROLL_TOTAL, PREFACTORS, EVALUATE, NUCLEAR, CONTRACTED, EVALUATE_GROUPED,
+    GROUPED_TERM, JK,
     FUNCTIONS
 };
 
@@ -15,7 +16,7 @@ enum empty {
     EXPAND_OUT, EXPAND2_OUT, LIST_OUT, OPEN_ROLL, CHECK_ROLL, NEXT_ROLL, OPEN2_ROLL, CHECK2_ROLL, NEXT2_ROLL,
     TO_FORM2_ROLL, TO_FORM2_OUT, TO_FORM1_ROLL, TO_FORM1_OUT, SALVAGE_ROLL, SALVAGE_OUT, COMPARE_LEFT, COMPARE_RIGHT,
     COMPARE_NEXT_LEFT, COMPARE_NEXT_RIGHT, TOTAL_ROLL, EVALUATE_ROLL, EVALUATE_BOYS, NUCLEAR_ROLL, NUCLEAR_BOYS,
-    GROUPED_ROLL, GROUPED_BOYS, GROUPED_BUFFER, GROUPING, JK_I, JK_D, JK_J, JK_K, EMPTIES
+    CONTRACTED_ROLL, CONTRACTED_HOST, GROUPED_ROLL, GROUPED_BOYS, GROUPED_BUFFER, GROUPING, JK_I, JK_D, JK_J, JK_K, EMPTIES
 };
 
 extern struct arena roll_arena, orders_arena, out_arena, boys_arena, i_arena, d_arena, j_arena, k_arena;
@@ -28,6 +29,7 @@ void begin(enum function f, const char *labels, size_t count, const uint64_t *wo
     begin(f, labels, sizeof((uint64_t[]){ __VA_ARGS__ }) / sizeof(uint64_t), (uint64_t[]){ __VA_ARGS__ })
 void with_slice(const struct slice *slice);
 void with_centres(const xew_centre *centres, size_t count); /* after those that are told already */
+void with_primitives(const xew_primitive *primitives, size_t count); /* likewise */
 void with_aux(double aux);
 void hold(bool good, const char *what);
 void count(enum function f, uint8_t refusal, int again); /* again: 1 for the second call with the same arguments */
@@ -37,6 +39,8 @@ void count_disorder(enum disorder met); /* of a grouping */
 void count_salvaged(xew_salvaged told); /* what was told of a damaged roll */
 void count_met(uint8_t found); /* of xew_compare_next */
 void count_list(uint32_t nuclei, bool only_negative); /* nuclei of a total, and whether each value of theirs is -0.0 */
+/* Primitives of the two functions of an element, and whether each right one's part is -0.0. */
+void count_element(uint32_t left, uint32_t right, bool only_negative);
 void count_left(uint8_t refusal); /* a grouping left in its buffer beside a value, or beside a refusal */
 void count_roll(xew_written written);
 void count_histories(uint64_t histories); /* of a request over the cap */
@@ -88,6 +92,10 @@ void try_grouping(struct slice roll, xew_opened checked); /* a grouping asked fo
 bool same_value(xew_value a, xew_value b);
 void try_nuclear(struct slice roll, xew_opened checked);
 void play_nuclear(uint8_t *bytes);
+
+/* contracted.c: calls on two contracted functions, each made twice */
+void try_contracted(struct slice roll, xew_opened checked);
+void play_contracted(uint8_t *bytes);
 
 /* compare.c: calls on two rolls, each made twice */
 void play_compare(uint8_t *bytes);

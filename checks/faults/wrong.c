@@ -182,6 +182,74 @@ xew_value __wrap_xew_nuclear(const uint8_t *roll, size_t roll_len, xew_centre a,
     return sums && !value.refusal ? summed(roll, roll_len, a, b, &nuclei, aux, boys) : value;
 }
 
+/* Which host number a pair takes, how its norms are multiplied, and where the outer sum begins. */
+static xew_value contracted(const uint8_t *roll, size_t roll_len, const xew_contraction *left, const xew_contraction *right,
+                            const double *host)
+{
+    xew_value sum = { is("begins-at-minus-zero") ? -0.0 : 0.0, 0, 0 };
+    for (uint32_t j = 0; j < right->count; j++) {
+        const xew_primitive *b = &right->primitives[j];
+        double inner = 0;
+        for (uint32_t i = 0; i < left->count; i++) {
+            const xew_primitive *a = &left->primitives[i];
+            double aux = host[is("takes-host-numbers-left-outer") ? i * right->count + j : j * left->count + i];
+            double v = __real_xew_evaluate(roll, roll_len, a->centre, b->centre, a->centre, b->centre, aux, NULL, 0).value;
+            v = is("multiplies-the-norms-right-first") ? a->norm * (b->norm * v) : (a->norm * b->norm) * v;
+            inner += a->coefficient * v;
+        }
+        sum.value += b->coefficient * inner;
+    }
+    return isfinite(sum.value) ? sum : (xew_value){ 0, 0, 11 };
+}
+
+/* The pairs one after the other, each with all its checks. */
+static uint8_t first_pair_refusal(const xew_contraction *left, const xew_contraction *right, const double *host)
+{
+    for (uint32_t j = 0; j < right->count; j++)
+        for (uint32_t i = 0; i < left->count; i++) {
+            const xew_primitive *pair[] = { &left->primitives[i], &right->primitives[j] };
+            for (int k = 0; k < 2; k++)
+                if (!isfinite(pair[k]->centre.x + pair[k]->centre.y + pair[k]->centre.z + pair[k]->centre.exponent)
+                    || !isfinite(pair[k]->norm) || !isfinite(pair[k]->coefficient) || !isfinite(host[j * left->count + i]))
+                    return 8;
+            if (!(pair[0]->centre.exponent > 0) || !(pair[1]->centre.exponent > 0))
+                return 9;
+        }
+    return 0;
+}
+
+xew_value __real_xew_contracted(const uint8_t *roll, size_t roll_len, xew_contraction left, xew_contraction right,
+                                const double *host, size_t host_len);
+xew_value __wrap_xew_contracted(const uint8_t *roll, size_t roll_len, xew_contraction left, xew_contraction right,
+                                const double *host, size_t host_len)
+{
+    if (is("reads-a-host-number-too-many") && host)
+        seen = host[host_len] > 0;
+    if (is("counts-primitives-in-a-byte"))
+        left.count = (uint8_t)left.count;
+    if (is("takes-11-primitives-as-10") && right.count == XEW_MOST_PRIMITIVES + 1)
+        right.count--;
+    xew_value value = __real_xew_contracted(roll, roll_len, left, right, host, host_len);
+    if (is("judges-the-host-list-first") && value.refusal == 15 && host_len != (size_t)left.count * right.count)
+        value.refusal = 16;
+    if (is("judges-the-roll-before-the-host-list") && value.refusal == 16) {
+        xew_opened opened = __real_xew_check(roll, roll_len);
+        if (opened.refusal)
+            value = (xew_value){ 0, opened.place, opened.refusal };
+    }
+    if (is("judges-pair-by-pair") && value.refusal == 8 && first_pair_refusal(&left, &right, host) == 9)
+        value.refusal = 9;
+    if (value.refusal)
+        return value;
+    if (is("looks-beyond-the-primitives") && left.count < XEW_MOST_PRIMITIVES
+        && !isfinite(left.primitives[left.count].norm))
+        return (xew_value){ 0, 0, 8 };
+    if (is("looks-at-the-charge-of-a-primitive") && right.primitives[0].centre.charge > XEW_MOST_CHARGE)
+        return (xew_value){ 0, 0, 17 };
+    bool sums = is("begins-at-minus-zero") || is("takes-host-numbers-left-outer") || is("multiplies-the-norms-right-first");
+    return sums ? contracted(roll, roll_len, &left, &right, host) : value;
+}
+
 /* The bytes of a Coulomb roll's grouping: its terms, and a number for each. */
 static size_t grouping_size(xew_opened opened, size_t roll_len)
 {
