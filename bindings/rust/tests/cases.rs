@@ -454,6 +454,150 @@ fn refusals_of_a_list() {
     assert_eq!(refused(&NUCLEAR_S, UNIT, nuclei(&[1, 1]), &[f64::MAX / 2.0; 2]), Refusal::ResultNotFinite);
 }
 
+/// The roll of overlap s,s: its one term has no prefactor, so the value of a pair is its host number.
+const OVERLAP_S: [u8; 11] = [0, 0, 0, 0, 0, 0, 0, 1, 1, 0, 0];
+
+fn primitive(centre: Centre, norm: f64, coefficient: f64) -> Primitive {
+    Primitive { centre, norm, coefficient }
+}
+
+/// A function of these primitives; beyond them stand others.
+fn contraction(primitives: &[Primitive]) -> Contraction {
+    let odd = primitive(ODD, f64::NAN, f64::INFINITY);
+    let mut function = Contraction { primitives: [odd; MOST_PRIMITIVES], count: primitives.len() as u32 };
+    function.primitives[..primitives.len()].copy_from_slice(primitives);
+    function
+}
+
+/// Primitives at UNIT's place, each a norm and a coefficient.
+fn units(factors: &[[f64; 2]]) -> Contraction {
+    let primitives: Vec<_> = factors.iter().map(|&[norm, coefficient]| primitive(UNIT, norm, coefficient)).collect();
+    contraction(&primitives)
+}
+
+/// 1.0 for each norm and coefficient: the value of the pair itself.
+#[test]
+fn one_primitive_each() {
+    let [a, b, c, d] = CENTRES;
+    let alone = |centre| contraction(&[primitive(centre, 1.0, 1.0)]);
+    for kind in [OVERLAP, KINETIC] {
+        for orders in [[0; ORDERS], one_at(&[0, 3]), one_at(&[0, 1, 5])] {
+            let roll = expanded(kind, orders);
+            let value = evaluate(&roll, a, b, c, d, 1.5, &[]);
+            assert_eq!(bits(contracted(&roll, alone(a), alone(b), &[1.5])), bits(value));
+        }
+    }
+    assert_eq!(contracted(&OVERLAP_S, units(&[[2.0, 5.0]]), units(&[[3.0, 7.0]]), &[0.5]), Value::Is(105.0));
+}
+
+/// The right function is outer: the host numbers are those of the first right primitive with both left ones, then of the second.
+#[test]
+fn two_by_two() {
+    let (left, right) = (units(&[[2.0, 3.0], [5.0, 7.0]]), units(&[[11.0, 13.0], [17.0, 19.0]]));
+    let host = [1.0, 10.0, 100.0, 1000.0];
+    let first = 13.0 * (3.0 * (22.0 * host[0]) + 7.0 * (55.0 * host[1]));
+    let second = 19.0 * (3.0 * (34.0 * host[2]) + 7.0 * (85.0 * host[3]));
+    assert_eq!(contracted(&OVERLAP_S, left, right, &host), Value::Is(first + second));
+    // Left norm times right norm, then the value, then the left coefficient: 0.1 * 0.2, 0.3, 0.7 round otherwise in other orders.
+    let (left, right) = (units(&[[0.1, 0.7], [0.3, 0.9]]), units(&[[0.2, 1.1], [0.6, 1.3]]));
+    let host = [0.3, 0.31, 0.37, 0.41];
+    let inner = |right: f64, v: [f64; 2]| (0.0 + 0.7 * ((0.1 * right) * v[0])) + 0.9 * ((0.3 * right) * v[1]);
+    let element = (0.0 + 1.1 * inner(0.2, [host[0], host[1]])) + 1.3 * inner(0.6, [host[2], host[3]]);
+    assert_eq!(bits(contracted(&OVERLAP_S, left, right, &host)), element.to_bits());
+    // In order within each sum: 1.0 is lost beside 1e17 and stays beside 0.0.
+    let ones = units(&[[1.0, 1.0]; 3]);
+    for (host, element) in [([1.0, 1e17, -1e17], 0.0), ([1e17, -1e17, 1.0], 1.0)] {
+        assert_eq!(contracted(&OVERLAP_S, ones, units(&[[1.0, 1.0]]), &host), Value::Is(element));
+        assert_eq!(contracted(&OVERLAP_S, units(&[[1.0, 1.0]]), ones, &host), Value::Is(element));
+    }
+}
+
+/// Both functions with centres of their own, beside a loop over [`evaluate`].
+#[test]
+fn an_element_beside_its_pairs() {
+    let [a, b, c, d] = CENTRES;
+    let roll = expanded(KINETIC, one_at(&[0, 3]));
+    let left = [primitive(a, 0.7, 0.15), primitive(c, 1.3, -0.53), primitive(d, 0.4, 0.44)];
+    let right = [primitive(b, 0.9, -0.33), primitive(a, 1.1, 0.21)];
+    let host: Vec<f64> = (0..6).map(|n| 0.8 / f64::from(2 * n + 1)).collect();
+    let mut element = 0.0;
+    for (r, hosts) in right.iter().zip(host.chunks(3)) {
+        let mut inner = 0.0;
+        for (l, &aux) in left.iter().zip(hosts) {
+            let value = f64::from_bits(bits(evaluate(&roll, l.centre, r.centre, ODD, ODD, aux, &[])));
+            inner += l.coefficient * ((l.norm * r.norm) * value);
+        }
+        element += r.coefficient * inner;
+    }
+    assert_eq!(bits(contracted(&roll, contraction(&left), contraction(&right), &host)), element.to_bits());
+}
+
+/// Sums begin at 0.0: an element is never -0.0.
+#[test]
+fn zeros() {
+    let (zero, below) = (units(&[[1.0, 0.0]]), units(&[[1.0, -1.0]]));
+    assert_eq!(bits(contracted(&OVERLAP_S, zero, below, &[1.0])), 0.0_f64.to_bits());
+    assert_eq!(bits(contracted(&OVERLAP_S, below, zero, &[1.0])), 0.0_f64.to_bits());
+}
+
+#[test]
+fn charges_of_primitives_are_not_looked_at() {
+    let [a, b, ..] = CENTRES;
+    let roll = expanded(OVERLAP, one_at(&[0, 3]));
+    let element = |charge| {
+        let one = |centre: Centre| contraction(&[primitive(Centre { charge, ..centre }, 0.7, 0.15); 2]);
+        bits(contracted(&roll, one(a), one(b), &[0.5; 4]))
+    };
+    assert_eq!(element(0), element(1));
+    assert_eq!(element(119), element(1));
+    assert_eq!(element(u32::MAX), element(1));
+}
+
+/// Each refusal of an element, with every later one beside it: 15, 16, 7, 1, 8, 9, 11.
+#[test]
+fn refusals_of_an_element() {
+    let refused = |roll: &[u8], left, right, host: &[f64]| match contracted(roll, left, right, host) {
+        Value::Refused(refusal) => refusal,
+        other => panic!("{other:?}"),
+    };
+    let below = Centre { exponent: -1.0, ..UNIT };
+    // The first pair is refused 9, the last one 8.
+    let left = contraction(&[primitive(below, 1.0, 1.0), primitive(UNIT, 1.0, 1.0)]);
+    let right = contraction(&[primitive(UNIT, 1.0, 1.0), primitive(Centre { z: f64::NAN, ..UNIT }, 1.0, 1.0)]);
+    for count in [0, 11, 256, 257, u32::MAX] {
+        let other = |function| Contraction { count, ..function };
+        assert_eq!(refused(&[5], other(left), right, &[]), Refusal::PrimitiveCount);
+        assert_eq!(refused(&[5], left, other(right), &[]), Refusal::PrimitiveCount);
+    }
+    for count in [0, 1, 2, 3, 5, 8, 100] {
+        assert_eq!(refused(&[5], left, right, &[f64::NAN; 100][..count]), Refusal::HostCount);
+    }
+    assert_eq!(refused(&[5], left, right, &[f64::NAN; 4]), Refusal::BadRoll { place: 0 });
+    assert_eq!(refused(&[2, 0, 0], left, right, &[f64::NAN; 4]), Refusal::CutRoll { place: 3 });
+    for kind in [NUCLEAR, MOMENT, COULOMB] {
+        assert_eq!(refused(&expanded(kind, [0; ORDERS]), left, right, &[f64::NAN; 4]), Refusal::Kind);
+    }
+    // The last pair is refused 8 before the first one 9.
+    assert_eq!(refused(&OVERLAP_S, left, right, &[1.0; 4]), Refusal::InputNotFinite);
+    let ones = units(&[[1.0, 1.0]; 2]);
+    for odd in [f64::NAN, f64::INFINITY, f64::NEG_INFINITY] {
+        assert_eq!(refused(&OVERLAP_S, left, ones, &[1.0, 1.0, 1.0, odd]), Refusal::InputNotFinite);
+        assert_eq!(refused(&OVERLAP_S, left, units(&[[1.0, 1.0], [odd, 1.0]]), &[1.0; 4]), Refusal::InputNotFinite);
+        assert_eq!(refused(&OVERLAP_S, left, units(&[[1.0, 1.0], [1.0, odd]]), &[1.0; 4]), Refusal::InputNotFinite);
+    }
+    // The last pair is refused 9 before the first one 11, whose squared distance is not finite.
+    let far = contraction(&[primitive(Centre { x: 1e155, ..UNIT }, 1.0, 1.0), primitive(UNIT, 1.0, 1.0)]);
+    let last_below = contraction(&[primitive(UNIT, 1.0, 1.0), primitive(below, 1.0, 1.0)]);
+    assert_eq!(refused(&OVERLAP_S, far, last_below, &[1.0; 4]), Refusal::Exponent);
+    assert_eq!(refused(&OVERLAP_S, far, ones, &[1.0; 4]), Refusal::ResultNotFinite);
+    // Each value is finite; a product, an inner sum or the outer sum is not, also where it is then multiplied by 0.0.
+    let (large, zeros) = (units(&[[1e200, 1.0]]), units(&[[1e200, 0.0]]));
+    assert_eq!(refused(&OVERLAP_S, large, large, &[0.5]), Refusal::ResultNotFinite);
+    assert_eq!(refused(&OVERLAP_S, zeros, zeros, &[0.0]), Refusal::ResultNotFinite);
+    assert_eq!(refused(&OVERLAP_S, ones, units(&[[1.0, 0.0]]), &[f64::MAX; 2]), Refusal::ResultNotFinite);
+    assert_eq!(refused(&OVERLAP_S, units(&[[1.0, 1.0]]), ones, &[f64::MAX; 2]), Refusal::ResultNotFinite);
+}
+
 /// Document 01's roll of Coulomb Ax1 Cx1: [0,2] [0,5]o1 [4,2]o1 [4,5]o2 [22]o1.
 const COULOMB_ORDERS: [u8; ORDERS] = [1, 0, 0, 0, 0, 0, 1, 0, 0, 0, 0, 0];
 
@@ -603,7 +747,7 @@ macro_rules! refusal {
 }
 
 /// A call for each refusal.
-fn refusals() -> [(u8, Refusal); 15] {
+fn refusals() -> [(u8, Refusal); 17] {
     let mut room = [UNTOUCHED; 10];
     let mut request = |kind, orders, start| refusal!(Expanded, expand(kind, &orders, &mut room, start));
     let sum = |roll, a, boys| refusal!(Value, evaluate(roll, a, UNIT, UNIT, UNIT, 1.0, boys));
@@ -622,6 +766,8 @@ fn refusals() -> [(u8, Refusal); 15] {
         (12, refusal!(Matrices, jk(0, &[], &[], &mut [], &mut []))),
         (13, refusal!(Component, shell2(0, 0, 1))),
         (14, sum(&ROLL[..16], UNIT, &[])),
+        (15, refusal!(Value, contracted(&ROLL, units(&[]), units(&[]), &[]))),
+        (16, refusal!(Value, contracted(&ROLL, units(&[[1.0; 2]]), units(&[[1.0; 2]]), &[]))),
         (17, refusal!(Value, nuclear(&NUCLEAR_S, UNIT, UNIT, nuclei(&[119]), 1.0, &[1.0]))),
     ];
     assert_eq!(room, [UNTOUCHED; 10]);

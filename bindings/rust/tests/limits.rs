@@ -174,6 +174,24 @@ fn most_charge_and_most_nuclei() {
     assert_eq!(total(MOST_CHARGE, 0, &[]), Value::Refused(Refusal::Nuclei));
 }
 
+/// Overlap s,s, whose value is the host number.
+#[test]
+fn most_primitives() {
+    let roll = [OVERLAP, 0, 0, 0, 0, 0, 0, 1, 1, 0, 0];
+    let unit = Primitive { centre: Centre { exponent: 1.0, ..Centre::default() }, norm: 1.0, coefficient: 1.0 };
+    let element = |left, right, host: &[f64]| {
+        let function = |count| Contraction { primitives: [unit; MOST_PRIMITIVES], count };
+        contracted(&roll, function(left), function(right), host)
+    };
+    let (most, host) = (MOST_PRIMITIVES as u32, [0.5; (MOST_PRIMITIVES + 1) * MOST_PRIMITIVES]);
+    assert_eq!(element(most, most, &host[MOST_PRIMITIVES..]), Value::Is(50.0));
+    assert_eq!(element(most + 1, most, &host), Value::Refused(Refusal::PrimitiveCount));
+    assert_eq!(element(most, most + 1, &host), Value::Refused(Refusal::PrimitiveCount));
+    assert_eq!(element(0, most, &[]), Value::Refused(Refusal::PrimitiveCount));
+    assert_eq!(element(most, 0, &[]), Value::Refused(Refusal::PrimitiveCount));
+    assert_eq!(element(most, most, &host), Value::Refused(Refusal::HostCount));
+}
+
 #[test]
 fn tables() {
     let [a, b, c, d] = [1.0, 2.0, 4.0, 8.0].map(|x| Centre { x, y: x * x, z: -x, exponent: x + 0.5, charge: 1 });
