@@ -3,6 +3,7 @@
 
 mod compare;
 mod components;
+mod contracted;
 mod forms;
 mod grouped;
 mod matrices;
@@ -35,6 +36,7 @@ const ORDERS: usize = 12;
 const PREFACTORS: usize = 24;
 const TABLE: usize = 23;
 const MOST_NUCLEI: usize = 32;
+const MOST_PRIMITIVES: usize = 10;
 
 /// Each request once for each run.
 fn list(requests: Vec<Request>, runs: fn(&Request) -> usize) {
@@ -76,6 +78,7 @@ fn run(words: &[&str]) -> Result<(), String> {
             return measure::print(&request, time);
         }
         ["nuclei"] => return table::print_lists(),
+        ["contracted"] => return table::print_elements(),
         ["native"] => return table::print(&rows()?, true),
         ["emulated"] => return table::print(&rows()?, false),
         ["picture"] => picture::print(&rows()?),

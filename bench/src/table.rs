@@ -7,6 +7,7 @@ use crate::salvage;
 use crate::grouped;
 use crate::matrices::{self, SIZES};
 use crate::measure::Row;
+use crate::contracted::{self, ELEMENT};
 use crate::nuclei::{self, LIST};
 use crate::totals;
 use std::fmt::Display;
@@ -155,6 +156,28 @@ impl Table {
                 took.rust / took.list
             );
             self.row(&cells, format!("{:.1}", LIST), ratio <= LIST);
+        }
+        Ok(())
+    }
+
+    fn print_contracted(&self) -> Result<(), String> {
+        self.head("10 by 10 primitives | terms | xew_contracted, ns a call | xew_evaluate of one pair | xew_check | 100 of (evaluate - check), one check | xew_contracted, times that | an element of S or T | S or T through xew_contracted");
+        for request in contracted::requests() {
+            let took = contracted::times(&request, Duration::from_millis(100))?;
+            let ratio = took.element / took.apart();
+            let cells = format!(
+                "{} | {} | {:.0} | {:.1} | {:.1} | {:.0} | {:.2} | {:.0} | {:.1}",
+                request.title(),
+                took.terms,
+                took.element,
+                took.one,
+                took.check,
+                took.apart(),
+                ratio,
+                took.rust,
+                took.rust / took.element
+            );
+            self.row(&cells, format!("{:.1}", ELEMENT), ratio <= ELEMENT);
         }
         Ok(())
     }
@@ -309,10 +332,16 @@ pub fn print(rows: &[Row], has_goals: bool) -> Result<(), String> {
     print_salvage(&accepted)?;
     print_compare(&accepted)?;
     table.print_nuclei()?;
+    table.print_contracted()?;
     print_totals()
 }
 
 /// The table of lists of nuclei alone.
 pub fn print_lists() -> Result<(), String> {
     Table { has_goals: true }.print_nuclei()
+}
+
+/// The table of contracted elements alone.
+pub fn print_elements() -> Result<(), String> {
+    Table { has_goals: true }.print_contracted()
 }
