@@ -1,0 +1,9 @@
+pub mod Answers
+pub mod Only
+pub mod Parts
+pub mod Patterns
+pub mod Roots
+pub mod Scales
+pub mod Signs
+pub mod Squares
+pub mod Wholes
