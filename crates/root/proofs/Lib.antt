@@ -1,4 +1,7 @@
 pub mod Answers
+pub mod Examples
+pub mod Gaps
+pub mod Meaning
 pub mod Only
 pub mod Parts
 pub mod Patterns
@@ -6,4 +9,5 @@ pub mod Roots
 pub mod Scales
 pub mod Signs
 pub mod Squares
+pub mod Taken
 pub mod Wholes
