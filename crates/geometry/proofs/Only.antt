@@ -9,7 +9,7 @@ use Rattle.laws.proofs.Contract.{Alone, alone, Lent, _▸_, end}
 use Rattle.geometry.specs.declared.Centre.{Centre}
 use Rattle.geometry.specs.declared.Point.{Point}
 use Rattle.geometry.specs.Floats.{allFinite, inPlaces}
-use Rattle.geometry.specs.Geometry.{pointOf, biCenter, r12Squared}
+use Rattle.geometry.specs.Geometry.{pointOf, biCenter, r12Squared, exponentSum}
 use Rattle.geometry.specs.Tables.{prefac}
 use Rattle.geometry.specs.Charges.{chargeKept, charged}
 use Rattle.geometry.specs.Checks.{usedFinite, exponentsAboveZero, finiteWith, prefactorTableOf}
@@ -18,6 +18,7 @@ use Rattle.geometry.proofs.finite.Reads.{Post as Finite}
 use Rattle.geometry.proofs.all_finite.Reads.{Post as AllFinite}
 use Rattle.geometry.proofs.get_bi_center.Reads.{Post as GetBiCenter}
 use Rattle.geometry.proofs.get_r12_squared.Reads.{Post as GetR12Squared}
+use Rattle.geometry.proofs.exponent_sum.Reads.{Post as ExponentSum}
 use Rattle.geometry.proofs.prefac.Reads.{Post as Prefac}
 use Rattle.geometry.proofs.used_finite.Reads.{Post as UsedFinite}
 use Rattle.geometry.proofs.exponents_above_zero.Reads.{Post as ExponentsAboveZero}
@@ -40,6 +41,9 @@ get-bi-center-only z1 z2 r1 r2 = alone (λ r p. p)
 
 pub get-r12-squared-only : (r1 r2 : Point) → let g = r1 ▸ r2 ▸ end in Alone (λ r. GetR12Squared tt g r g) (r12Squared r1 r2)
 get-r12-squared-only r1 r2 = alone (λ r p. p)
+
+pub exponent-sum-only : (a b c d : Centre) → let g = a ▸ b ▸ c ▸ d ▸ end in Alone (λ r. ExponentSum tt g r g) (exponentSum a b c d)
+exponent-sum-only a b c d = alone (λ r p. p)
 
 module _ (k : Kind) (a b c d : Centre) where
   pub prefac-only : let g = k ▸ a ▸ b ▸ c ▸ d ▸ end in Alone (λ r. Prefac tt g r g) (inPlaces tablePlaces (prefac k a b c d))

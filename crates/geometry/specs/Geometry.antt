@@ -55,6 +55,10 @@ rhoOf a b c d = zOf a b ⊗ zOf c d ⊘ (zOf a b ⊕ zOf c d)
 abbrev pub tOf : Centre → Centre → Centre → Centre → Float
 tOf a b c d = rhoOf a b c d ⊗ r12Squared (rpOf a b) (rpOf c d)
 
+-- 02, Q-12: the sum of exponents, as get_aux adds them
+abbrev pub exponentSum : Centre → Centre → Centre → Centre → Float
+exponentSum a b c d = ((a .exponent ⊕ b .exponent) ⊕ c .exponent) ⊕ d .exponent
+
 -- kinds 0 and 1: z, e, ab, rp
 abbrev pub pairNumbers : Centre → Centre → List Float
 pairNumbers a b = zOf a b ∷ eOf a b ∷ abOf a b ∷ coordinates (rpOf a b)
@@ -67,10 +71,10 @@ nuclearNumbers a b c = zOf a b ∷ coordinates (rpOf a b) ++ (pcOf a b c ∷ uOf
 abbrev pub momentNumbers : Centre → Centre → List Float
 momentNumbers a b = zOf a b ∷ coordinates (rpOf a b)
 
--- kind 4: z, n, rp, rq, rw, rho, t
+-- kind 4: z, n, rp, rq, rw, rho, t, and the sum of exponents (02, Q-12)
 abbrev pub coulombNumbers : Centre → Centre → Centre → Centre → List Float
 coulombNumbers a b c d =
-    zOf a b ∷ zOf c d ∷ coordinates (rpOf a b) ++ coordinates (rpOf c d) ++ coordinates (rwOf a b c d) ++ (rhoOf a b c d ∷ tOf a b c d ∷ [])
+    zOf a b ∷ zOf c d ∷ coordinates (rpOf a b) ++ coordinates (rpOf c d) ++ coordinates (rwOf a b c d) ++ (rhoOf a b c d ∷ tOf a b c d ∷ exponentSum a b c d ∷ [])
 
 unfoldable pub geometryNumbers : Kind → Centre → Centre → Centre → Centre → List Float
 geometryNumbers Overlap a b c d = pairNumbers a b
@@ -81,4 +85,4 @@ geometryNumbers Coulomb a b c d = coulombNumbers a b c d
 
 -- room for the most geometry numbers of any kind, Coulomb's
 abbrev pub numberPlaces : ℕ
-numberPlaces = 13
+numberPlaces = 14

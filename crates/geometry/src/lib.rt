@@ -4,7 +4,7 @@ ghost use mathlib.Core.List.{[], _∷_, _++_};
 ghost use lib.Ieee.Scale.{finite};
 ghost use Rattle.kind.specs.Limits.{tablePlaces};
 ghost use Rattle.geometry.specs.Floats.{aboveZero, allFinite, allAboveZero, inPlaces};
-ghost use Rattle.geometry.specs.Geometry.{pointOf, coordinates, biCenter, r12Squared, rpOf};
+ghost use Rattle.geometry.specs.Geometry.{pointOf, coordinates, biCenter, r12Squared, rpOf, exponentSum};
 ghost use Rattle.geometry.specs.Tables.{prefac};
 ghost use Rattle.geometry.specs.Charges.{chargeKept, charged};
 ghost use Rattle.geometry.specs.Checks.{whole, usedFinite, exponentsAboveZero, finiteWith, refused, checkedTable, prefactorTableOf};
@@ -113,6 +113,13 @@ pub(crate) fn bi_center_of(a: Centre, b: Centre) -> Point
     ensures { λ r. ⌜ r ≡ rpOf a b ⌝ }
 {
     get_bi_center(a.exponent, b.exponent, a.point(), b.point())
+}
+
+// The sum of exponents under get_aux's root: each is added to the sum so far.
+pub fn exponent_sum(a: Centre, b: Centre, c: Centre, d: Centre) -> f64
+    ensures { λ r. ⌜ r ≡ exponentSum a b c d ⌝ }
+{
+    a.exponent + b.exponent + c.exponent + d.exponent
 }
 
 // The prefactor table of a kind, and 0.0 in the places left.

@@ -4,12 +4,13 @@ ghost use Rattle.geometry.specs.Floats.{inPlaces};
 ghost use Rattle.geometry.specs.Geometry.{pairNumbers, nuclearNumbers, momentNumbers, coulombNumbers, geometryNumbers, numberPlaces};
 use super::Centre;
 use super::bi_center_of;
+use super::exponent_sum;
 use super::get_bi_center;
 use super::get_r12_squared;
 use kind::Kind;
 
 // Room for the most geometry numbers of any kind.
-const NUMBERS: usize = 13;
+const NUMBERS: usize = 14;
 
 fn pair_numbers(a: Centre, b: Centre) -> [f64; NUMBERS]
     ensures { λ r. ⌜ r ≡ inPlaces numberPlaces (pairNumbers a b) ⌝ }
@@ -27,6 +28,7 @@ fn pair_numbers(a: Centre, b: Centre) -> [f64; NUMBERS]
         rp.x,
         rp.y,
         rp.z,
+        0.0,
         0.0,
         0.0,
         0.0,
@@ -58,6 +60,7 @@ fn nuclear_numbers(a: Centre, b: Centre, c: Centre) -> [f64; NUMBERS]
         0.0,
         0.0,
         0.0,
+        0.0,
     ]
 }
 
@@ -80,6 +83,7 @@ fn moment_numbers(a: Centre, b: Centre) -> [f64; NUMBERS]
         0.0,
         0.0,
         0.0,
+        0.0,
     ]
 }
 
@@ -93,6 +97,7 @@ fn coulomb_numbers(a: Centre, b: Centre, c: Centre, d: Centre) -> [f64; NUMBERS]
     let rw = get_bi_center(z, n, rp, rq);
     let rho = z * n / (z + n);
     let t = rho * get_r12_squared(rp, rq);
+    let exponents = exponent_sum(a, b, c, d);
     [
         z,
         n,
@@ -107,6 +112,7 @@ fn coulomb_numbers(a: Centre, b: Centre, c: Centre, d: Centre) -> [f64; NUMBERS]
         rw.z,
         rho,
         t,
+        exponents,
     ]
 }
 

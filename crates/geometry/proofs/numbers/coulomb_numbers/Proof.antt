@@ -15,8 +15,11 @@ get-bi-center-requires c κs = search needs
 get-r12-squared-requires : tie.Need-get-r12-squared-requires
 get-r12-squared-requires c κs = search needs
 
+exponent-sum-requires : tie.Need-exponent-sum-requires
+exponent-sum-requires c κs = search needs
+
 returns : tie.Need-returns
-returns c = rw (c .get-r12-squared .ensures, c .before .get-bi-center .ensures, c .before .before .before .bi-center-of .ensures, c .before .before .bi-center-of2 .ensures)
+returns c = rw (c .exponent-sum .ensures, c .before .get-r12-squared .ensures, c .before .before .get-bi-center .ensures, c .before .before .before .before .bi-center-of .ensures, c .before .before .before .bi-center-of2 .ensures)
 
 pub coulomb-numbers-spec : {M : Type 1} → statement M
 coulomb-numbers-spec =
@@ -26,4 +29,5 @@ coulomb-numbers-spec =
     bi-center-of-requires-2
     get-bi-center-requires
     get-r12-squared-requires
+    exponent-sum-requires
     returns)
