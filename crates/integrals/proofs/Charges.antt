@@ -11,7 +11,7 @@ use Rattle.geometry.specs.declared.Centre.{Centre}
 use Rattle.geometry.specs.Charges.{chargeKept, charged}
 use Rattle.geometry.proofs.Charges.{recharged, used-recharged, exponents-recharged, prefac-recharged, geometry-recharged}
 use Rattle.roll.specs.Reading.{Reading, got, refused, Roll, rollAt}
-use Rattle.integrals.specs.Sums.{kineticStart, integralOf}
+use Rattle.integrals.specs.Sums.{kineticStart, factorOf, integralOf}
 use Rattle.integrals.specs.Values.{inputsFinite, valueOf}
 use Rattle.integrals.specs.Evaluation.{ofRoll, evaluateOf}
 
@@ -27,6 +27,14 @@ chargeIn Coulomb c q = q
 abbrev pub chargeOfRoll : Reading Roll → Centre → ℕ → ℕ
 chargeOfRoll (got r end) c q = chargeIn (r .kind) c q
 chargeOfRoll (refused n place) c q = q
+
+pub factor-recharged : (a b c d : Centre) (p q r s : ℕ) (k : Kind) (aux : Float) → factorOf k (recharged a p) (recharged b q) (recharged c r) (recharged d s) aux ≡ factorOf k a b c d aux
+unfolding factorOf
+factor-recharged a b c d p q r s Overlap aux = refl
+factor-recharged a b c d p q r s Kinetic aux = refl
+factor-recharged a b c d p q r s Nuclear aux = refl
+factor-recharged a b c d p q r s Moment aux = refl
+factor-recharged a b c d p q r s Coulomb aux = refl
 
 module _ (a b c d : Centre) (p q r s : ℕ) where
   kept-recharged : (k : Kind) → chargeKept k (recharged c (chargeIn k c r)) ≡ chargeKept k c
@@ -50,7 +58,7 @@ module _ (a b c d : Centre) (p q r s : ℕ) where
     unfolding valueOf inputsFinite integralOf kineticStart
     value-recharged k l ts =
         let t = chargeIn k c r in
-        rw (kept-recharged k, used-recharged a b c d p q t s k, exponents-recharged a b c d p q t s k, geometry-recharged a b c d p q t s k, prefac-recharged a b c d p q t s k, charged-recharged k (integralOf k l a b c d aux boys ts))
+        rw (kept-recharged k, used-recharged a b c d p q t s k, exponents-recharged a b c d p q t s k, geometry-recharged a b c d p q t s k, prefac-recharged a b c d p q t s k, factor-recharged a b c d p q t s k aux, charged-recharged k (integralOf k l a b c d aux boys ts))
 
     by-reading : (x : Reading Roll) → ofRoll x (recharged a p) (recharged b q) (recharged c (chargeOfRoll x c r)) (recharged d s) aux boys ≡ ofRoll x a b c d aux boys
     unfolding ofRoll

@@ -1,4 +1,5 @@
 pub mod Charges
+pub mod Factors
 pub mod Only
 pub mod Rolls
 pub mod SumsLaws

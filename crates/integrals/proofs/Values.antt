@@ -24,7 +24,7 @@ use Rattle.integrals.specs.declared.Value.{Value}
 use Rattle.integrals.specs.declared.Value.the-variants.{Is, Refused}
 use Rattle.laws.specs.Unless.{unless}
 use Rattle.integrals.specs.inner.Barred.{barsWith}
-use Rattle.integrals.specs.Sums.{kineticStart, totalOf, integralOf}
+use Rattle.integrals.specs.Sums.{kineticStart, totalOf, factorOf, integralOf}
 use Rattle.integrals.specs.Values.{inputsFinite, boysCounted, refusedUnless, resultOf, valueOf}
 
 pub kinetic-made : (a b : Centre) (p q : Point) (ab : Float) → p ≡ pointOf a → q ≡ pointOf b → ab ≡ r12Squared p q → eOf a b ⊗ (three ⊖ two ⊗ eOf a b ⊗ ab) ≡ kineticStart a b
@@ -115,8 +115,8 @@ module _ (k : Kind) (l : ℕ) (a b c d : Centre) (aux : Float) (boys : List Floa
     pub value-barred : (n ≡ 0 → ⊥) → Refused n 0 ≡ valueOf k l a b c d aux boys ts
     value-barred differs = sym (value-is ∙ rw (ne-eqb n 0 differs))
 
-    pub value-passed : (x y : Float) (r : Value) → n ≡ 0 → x ≡ totalOf k l (kineticStart a b) table aux boys ts → y ≡ charged k c x → r ≡ resultOf y → r ≡ valueOf k l a b c d aux boys ts
+    pub value-passed : (f x y : Float) (r : Value) → n ≡ 0 → f ≡ factorOf k a b c d aux → x ≡ totalOf k l (kineticStart a b) table f boys ts → y ≡ charged k c x → r ≡ resultOf y → r ≡ valueOf k l a b c d aux boys ts
     unfolding integralOf
-    value-passed x y r none u v z =
-        let whole : x ≡ integralOf k l a b c d aux boys ts = rw (← is) u in
+    value-passed f x y r none w u v z =
+        let whole : x ≡ integralOf k l a b c d aux boys ts = rw (← is, ← w) u in
         z ∙ ap resultOf (v ∙ ap (charged k c) whole) ∙ sym (value-is ∙ rw (eq-eqb n 0 none))

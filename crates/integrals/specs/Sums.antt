@@ -11,9 +11,10 @@ use Rattle.kind.specs.declared.Kind.the-variants.{Overlap, Kinetic, Nuclear, Mo
 use Rattle.kind.specs.Limits.{tablePlaces}
 use Rattle.term.specs.Terms.{Term}
 use Rattle.geometry.specs.declared.Centre.{Centre}
-use Rattle.geometry.specs.Floats.{_⊕_, _⊖_, _⊗_, zero as 0·0, one, two, three, inPlaces}
-use Rattle.geometry.specs.Geometry.{eOf, abOf}
+use Rattle.geometry.specs.Floats.{_⊕_, _⊖_, _⊗_, _⊘_, zero as 0·0, one, two, three, inPlaces}
+use Rattle.geometry.specs.Geometry.{eOf, abOf, exponentSum}
 use Rattle.geometry.specs.Tables.{prefac}
+use Rattle.root.specs.Root.{rootOf}
 
 -- a term's scale as a float
 abbrev pub scaleOf : ℕ → Float
@@ -81,6 +82,14 @@ totalOf Nuclear l kinetic table aux boys ts = sumFrom (nuclearOf table aux boys)
 totalOf Moment l kinetic table aux boys ts = sumFrom (plainOf table aux) ts 0·0
 totalOf Coulomb l kinetic table s boys ts = runOrders table s boys ts (l + 1) 0 0·0
 
--- with the table and the start that the centres give
+-- 02, Q-12: what stands in the sums for the host's aux. Coulomb's is k1·k2, and s is that divided by the root of the sum of exponents
+unfoldable pub factorOf : Kind → Centre → Centre → Centre → Centre → Float → Float
+factorOf Overlap a b c d aux = aux
+factorOf Kinetic a b c d aux = aux
+factorOf Nuclear a b c d aux = aux
+factorOf Moment a b c d aux = aux
+factorOf Coulomb a b c d aux = aux ⊘ rootOf (exponentSum a b c d)
+
+-- with the table, the start and the factor that the centres give
 unfoldable pub integralOf : Kind → ℕ → Centre → Centre → Centre → Centre → Float → List Float → List Term → Float
-integralOf k l a b c d aux boys ts = totalOf k l (kineticStart a b) (inPlaces tablePlaces (prefac k a b c d)) aux boys ts
+integralOf k l a b c d aux boys ts = totalOf k l (kineticStart a b) (inPlaces tablePlaces (prefac k a b c d)) (factorOf k a b c d aux) boys ts

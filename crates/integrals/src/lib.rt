@@ -1,6 +1,6 @@
 // The five integrals over a roll: the checks in their order, then the sum.
 ghost use mathlib.Core.Path.{_≡_};
-ghost use Rattle.integrals.specs.Sums.{kineticStart, totalOf};
+ghost use Rattle.integrals.specs.Sums.{kineticStart, factorOf, totalOf};
 ghost use Rattle.integrals.specs.Values.{inputsFinite, boysCounted, resultOf, valueOf};
 ghost use Rattle.integrals.specs.inner.Stored.{ofCursor, againFrom};
 ghost use Rattle.integrals.specs.inner.Barred.{barsWith};
@@ -32,6 +32,19 @@ fn kinetic_of(a: Centre, b: Centre) -> f64
     let e = za * zb / (za + zb);
     let ab = geometry::get_r12_squared(a.point(), b.point());
     e * (3.0 - 2.0 * e * ab)
+}
+
+// What stands in the sums for the host's aux: of Coulomb k1·k2 divided by the root of the sum of exponents.
+pub fn factor(kind: Kind, a: Centre, b: Centre, c: Centre, d: Centre, aux: f64) -> f64
+    ensures { λ r. ⌜ r ≡ factorOf kind a b c d aux ⌝ }
+{
+    match kind {
+        Kind::Overlap => aux,
+        Kind::Kinetic => aux,
+        Kind::Nuclear => aux,
+        Kind::Moment => aux,
+        Kind::Coulomb => aux / root::root_of(geometry::exponent_sum(a, b, c, d)),
+    }
 }
 
 // The sum of the terms, with the start that the centres give.
@@ -142,7 +155,8 @@ fn judged(
     if refusal != 0 {
         return Value::Refused(refusal, 0);
     }
-    let sum = integral(terms, a, b, &table, aux, boys, roll);
+    let s = factor(kind, a, b, c, d, aux);
+    let sum = integral(terms, a, b, &table, s, boys, roll);
     result(geometry::charged(kind, c, sum))
 }
 

@@ -7,6 +7,7 @@ use Rattle.geometry.proofs.charge_kept.Reads as charge-kept-reads
 use Rattle.geometry.proofs.charged.Reads as charged-reads
 use Rattle.geometry.proofs.prefac.Reads as prefac-reads
 use Rattle.integrals.proofs.barred.Reads as barred-reads
+use Rattle.integrals.proofs.factor.Reads as factor-reads
 use Rattle.integrals.proofs.integral.Reads as integral-reads
 use Rattle.integrals.proofs.result.Reads as result-reads
 
@@ -27,6 +28,9 @@ barred-requires c κs = search needs
 
 returns-2 : tie.Need-returns-2
 returns-2 c = search value-barred
+
+factor-requires : tie.Need-factor-requires
+factor-requires c κs = search needs
 
 slice-aggregate-integral : tie.Need-slice-aggregate-integral
 slice-aggregate-integral c = search needs
@@ -53,6 +57,7 @@ judged-spec =
     slice-aggregate-barred
     barred-requires
     returns-2
+    factor-requires
     slice-aggregate-integral
     integral-requires
     charged-requires
