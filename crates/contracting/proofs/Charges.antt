@@ -13,6 +13,7 @@ use Rattle.geometry.specs.Floats.{_⊕_, _⊗_, zero as 0·0}
 use Rattle.geometry.proofs.Charges.{recharged, used-recharged, exponents-recharged, prefac-recharged, geometry-recharged}
 use Rattle.integrals.specs.Sums.{kineticStart, integralOf}
 use Rattle.integrals.specs.Values.{inputsFinite}
+use Rattle.integrals.proofs.Charges.{factor-recharged}
 use Rattle.roll.specs.Reading.{Reading, got, refused, Roll, rollAt}
 use Rattle.contracting.specs.declared.Primitive.{Primitive}
 use Rattle.contracting.specs.declared.Contracted.{Contracted}
@@ -51,7 +52,8 @@ module _ (k : Kind) (p : Pair) (x y : ℕ) where
 
   value-same : (l : ℕ) (ts : List Term) → pairValue k l ts (rechargedPair p x y) ≡ pairValue k l ts p
   unfolding pairValue integralOf kineticStart
-  value-same l ts = rw (prefac-recharged (p .left .centre) (p .right .centre) (p .left .centre) (p .right .centre) x y x y k)
+  value-same l ts =
+      rw (prefac-recharged (p .left .centre) (p .right .centre) (p .left .centre) (p .right .centre) x y x y k, factor-recharged (p .left .centre) (p .right .centre) (p .left .centre) (p .right .centre) x y x y k (p .aux))
 
 -- ---- all of them
 

@@ -20,7 +20,7 @@ use Rattle.geometry.specs.Charges.{chargeKept, charged}
 use Rattle.geometry.specs.Checks.{used, usedFinite, exponents, exponentsAboveZero, finiteWith, geometryFinite}
 use Rattle.integrals.specs.declared.Value.{Value}
 use Rattle.integrals.specs.declared.Value.the-variants.{Is, Refused}
-use Rattle.integrals.specs.Sums.{integralOf}
+use Rattle.integrals.specs.Sums.{factorOf, integralOf}
 use Rattle.integrals.specs.Values.{inputsFinite, boysCounted, refusedUnless, resultOf, valueOf}
 use Rattle.integrals.specs.Evaluation.{refusalOf}
 use Rattle.contracting.specs.Pairs.{Pair, Row, allPairs, every}
@@ -55,7 +55,7 @@ module _ (a b c d : Centre) where
 
   module _ (aux : Float) (l : ℕ) (ts : List Term) where
     pub integral-any : (k : Kind) → contracts k ≡ true → integralOf k l a b a b aux [] ts ≡ integralOf k l a b c d aux [] ts
-    unfolding contracts integralOf prefac entriesOf
+    unfolding contracts integralOf factorOf prefac entriesOf
     integral-any Overlap e = refl
     integral-any Kinetic e = refl
     integral-any Nuclear e = absurd (false≢true e)

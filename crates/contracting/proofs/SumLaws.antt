@@ -16,7 +16,7 @@ use Rattle.geometry.specs.Floats.{_⊕_, _⊗_, zero as 0·0, inPlaces}
 use Rattle.geometry.specs.Tables.{prefac}
 use Rattle.geometry.specs.Checks.{finiteWith}
 use Rattle.geometry.proofs.Checks.{finite-table}
-use Rattle.integrals.specs.Sums.{kineticStart, totalOf, integralOf}
+use Rattle.integrals.specs.Sums.{kineticStart, totalOf, factorOf, integralOf}
 use Rattle.contracting.specs.declared.Primitive.{Primitive}
 use Rattle.contracting.specs.Pairs.{mostPrimitives, Pair, pairsWith, rowsFrom}
 use Rattle.contracting.specs.Elements.{pairGeometry, pairValue, shareOf, innerFrom, innerOf, outerFrom}
@@ -27,11 +27,11 @@ abbrev pairOf : Primitive → Primitive → Float → Pair
 pairOf a b aux = record { left = a; right = b; aux = aux }
 
 module _ (k : Kind) (l : ℕ) (ts : List Term) (a b : Primitive) (aux : Float) (table : List Float) (t : Bool) (is : table ≡ inPlaces tablePlaces (prefac k (a .centre) (b .centre) (a .centre) (b .centre))) (e : t ≡ finiteWith k (a .centre) (b .centre) (a .centre) (b .centre) table) where
-  pub value-kept : (x : Float) → t ≡ true → x ≡ totalOf k l (kineticStart (a .centre) (b .centre)) table aux [] ts → x ≡ keptValue k l ts (pairOf a b aux)
+  pub value-kept : (f x : Float) → t ≡ true → f ≡ factorOf k (a .centre) (b .centre) (a .centre) (b .centre) aux → x ≡ totalOf k l (kineticStart (a .centre) (b .centre)) table f [] ts → x ≡ keptValue k l ts (pairOf a b aux)
   unfolding keptValue pairGeometry pairValue integralOf
-  value-kept x p g =
+  value-kept f x p h g =
       let fine = finite-table k (a .centre) (b .centre) (a .centre) (b .centre) table t is e in
-      rw (← fine, p, ← is) g
+      rw (← fine, p, ← is, ← h) g
 
   pub value-not : t ≡ false → infinity ≡ keptValue k l ts (pairOf a b aux)
   unfolding keptValue pairGeometry

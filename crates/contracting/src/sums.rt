@@ -31,7 +31,8 @@ fn value(terms: Terms, a: Primitive, b: Primitive, aux: f64, roll: &[u8]) -> f64
     let table = geometry::prefac(kind, ca, cb, ca, cb);
     if geometry::geometry_finite(kind, ca, cb, ca, cb, &table) {
         let none: [f64; 0] = [];
-        return integrals::integral(terms, ca, cb, &table, aux, &none, roll);
+        let factor = integrals::factor(kind, ca, cb, ca, cb, aux);
+        return integrals::integral(terms, ca, cb, &table, factor, &none, roll);
     }
     f64::from_bits(0x7ff0_0000_0000_0000)
 }

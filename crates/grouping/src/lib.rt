@@ -1,7 +1,7 @@
 // The evaluation that is lent a grouping buffer: a Coulomb roll's terms are laid into it by Boys order and summed in one pass over it; and its terms by number.
 ghost use mathlib.Core.Path.{_≡_};
 ghost use Rattle.grouping.specs.Evaluation.{GroupedTold};
-ghost use Rattle.grouping.specs.inner.Grouped.{tableOf, barsOf, summedOf, GroupsMay, InGroupsTold, CursorMay, CursorTold};
+ghost use Rattle.grouping.specs.inner.Grouped.{tableOf, barsOf, factorOf, summedOf, GroupsMay, InGroupsTold, CursorMay, CursorTold};
 ghost use Rattle.grouping.specs.inner.Laying.{entriesAgain};
 use geometry::Centre;
 use integrals::Terms;
@@ -33,19 +33,20 @@ struct Given {
 
 // The sum of the entries in the buffer, after the checks before it.
 fn summed(buffer: &[u8], cursor: Cursor, given: Given, boys: &[f64]) -> Value
-    ensures { λ r. ⌜ r ≡ summedOf (barsOf (cursor .l) given (now (boys .entry))) (tableOf given) (given .aux) (now (boys .entry)) (entriesAgain (now (buffer .entry)) 0 (cursor .left)) ⌝ }
+    ensures { λ r. ⌜ r ≡ summedOf (barsOf (cursor .l) given (now (boys .entry))) (tableOf given) (factorOf given) (now (boys .entry)) (entriesAgain (now (buffer .entry)) 0 (cursor .left)) ⌝ }
 {
     let a = given.a;
     let b = given.b;
     let c = given.c;
     let d = given.d;
-    let s = given.aux;
+    let aux = given.aux;
     let kind = Kind::Coulomb;
     let table = geometry::prefac(kind, a, b, c, d);
-    let refusal = integrals::barred(Terms { kind, cursor }, a, b, c, d, s, boys, &table);
+    let refusal = integrals::barred(Terms { kind, cursor }, a, b, c, d, aux, boys, &table);
     if refusal != 0 {
         return Value::Refused(refusal, 0);
     }
+    let s = integrals::factor(kind, a, b, c, d, aux);
     integrals::result(sum(buffer, cursor.left, &table, s, boys))
 }
 

@@ -38,7 +38,7 @@ use Rattle.roll.proofs.Checked.{checked-judged, checked-refused, judged-kind, j
 use Rattle.roll.proofs.AgainLaws.{judged-again}
 use Rattle.integrals.specs.declared.Value.{Value}
 use Rattle.integrals.specs.declared.Value.the-variants.{Refused}
-use Rattle.integrals.specs.Sums.{kineticStart, totalOf, integralOf}
+use Rattle.integrals.specs.Sums.{kineticStart, totalOf, factorOf, integralOf}
 use Rattle.integrals.specs.Values.{refusedUnless, resultOf}
 use Rattle.integrals.specs.inner.Stored.{againFrom}
 use Rattle.nuclei.specs.declared.Nuclei.{Nuclei}
@@ -123,7 +123,7 @@ module _ (l : ℕ) (a b c : Centre) (aux : Float) (boys : List Float) (ts : List
   geometry-is = finite-table Nuclear a b c c table t is e
 
   pub product-kept : (x y : Float) → t ≡ true → x ≡ totalOf Nuclear l (kineticStart a b) table aux boys ts → y ≡ charged Nuclear c x → record { kept = true; value = y } ≡ productOf l a b c aux boys ts
-  unfolding productOf integralOf
+  unfolding productOf integralOf factorOf
   product-kept x y p f g =
       let whole : x ≡ totalOf Nuclear l (kineticStart a b) (inPlaces tablePlaces (prefac Nuclear a b c c)) aux boys ts = rw (← is) f in
       rw (← geometry-is, p, g, whole)

@@ -25,7 +25,7 @@ use Rattle.geometry.proofs.Charges.{recharged}
 use Rattle.roll.specs.Reading.{Reading, got, refused, Roll, rollAt}
 use Rattle.integrals.specs.declared.Value.{Value}
 use Rattle.integrals.specs.declared.Value.the-variants.{Is, Refused}
-use Rattle.integrals.specs.Sums.{kineticStart, integralOf}
+use Rattle.integrals.specs.Sums.{kineticStart, factorOf, integralOf}
 use Rattle.integrals.specs.Values as single
 use Rattle.integrals.specs.Values.{refusedUnless, resultOf, valueOf}
 use Rattle.integrals.specs.Evaluation.{floatOf, evaluateOf, ofRoll as evaluated}
@@ -75,7 +75,7 @@ result-refused x n place e = by (finite x) refl
 
 -- D is not used by a nuclear integral
 no-d : (l : ℕ) (a b c d : Centre) (aux : Float) (boys : List Float) (ts : List Term) → integralOf Nuclear l a b c d aux boys ts ≡ integralOf Nuclear l a b c c aux boys ts
-unfolding integralOf prefac entriesOf
+unfolding integralOf factorOf prefac entriesOf
 no-d l a b c d aux boys ts = refl
 
 -- what the single call gives, and of how many Boys numbers
@@ -239,7 +239,7 @@ module _ (a b : Centre) (p q : ℕ) where
   above-same = refl
 
   value-same : (l : ℕ) (c : Centre) (aux : Float) (boys : List Float) (ts : List Term) → chargedValue l (recharged a p) (recharged b q) c aux boys ts ≡ chargedValue l a b c aux boys ts
-  unfolding integralOf kineticStart prefac entriesOf
+  unfolding integralOf factorOf kineticStart prefac entriesOf
   value-same l c aux boys ts = refl
 
   sum-same : (l : ℕ) (aux : Float) (cs : List Centre) (boys : List Float) (ts : List Term) (sum : Float) → sumFrom l (recharged a p) (recharged b q) aux cs boys ts sum ≡ sumFrom l a b aux cs boys ts sum
@@ -277,7 +277,7 @@ module _ (a b : Centre) (e : Centre → Float) where
   geometry-other c = refl
 
   value-other : (l : ℕ) (c : Centre) (aux : Float) (boys : List Float) (ts : List Term) → chargedValue l a b (reexponent e c) aux boys ts ≡ chargedValue l a b c aux boys ts
-  unfolding integralOf charged prefac entriesOf
+  unfolding integralOf factorOf charged prefac entriesOf
   value-other l c aux boys ts = refl
 
   sum-other : (l : ℕ) (aux : Float) (cs : List Centre) (boys : List Float) (ts : List Term) (sum : Float) → sumFrom l a b aux (map (reexponent e) cs) boys ts sum ≡ sumFrom l a b aux cs boys ts sum

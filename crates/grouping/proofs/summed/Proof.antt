@@ -16,6 +16,9 @@ barred-requires c κs = search needs
 returns : tie.Need-returns
 returns c = search summed-barred
 
+factor-requires : tie.Need-factor-requires
+factor-requires c κs = search needs
+
 slice-aggregate-sum : tie.Need-slice-aggregate-sum
 slice-aggregate-sum c = search needs
 
@@ -31,4 +34,4 @@ returns-2 c = search summed-passed
 pub summed-spec : {M : Type 1} → statement M
 summed-spec =
     tie.close
-    (tie.spec prefac-requires slice-aggregate-barred barred-requires returns slice-aggregate-sum sum-requires result-requires returns-2)
+    (tie.spec prefac-requires slice-aggregate-barred barred-requires returns factor-requires slice-aggregate-sum sum-requires result-requires returns-2)

@@ -19,7 +19,7 @@ use Rattle.roll.specs.Reading.{got, termsAt}
 use Rattle.roll.specs.inner.Judged.{Readable}
 use Rattle.integrals.specs.declared.Value.{Value}
 use Rattle.integrals.specs.declared.Value.the-variants.{Refused}
-use Rattle.integrals.specs.Sums.{sumFrom}
+use Rattle.integrals.specs.Sums.{factorOf as factorIn, sumFrom}
 use Rattle.integrals.specs.Values.{resultOf, valueOf}
 use Rattle.integrals.specs.inner.Barred.{barsWith}
 use Rattle.integrals.specs.inner.Stored.{ownOrderOf, againFrom, ofCursor}
@@ -33,6 +33,10 @@ tableOf g = inPlaces tablePlaces (prefac Coulomb (g .a) (g .b) (g .c) (g .d))
 
 unfoldable pub barsOf : ℕ → Given → List Float → ℕ
 barsOf l g boys = barsWith Coulomb l (g .a) (g .b) (g .c) (g .d) (g .aux) boys (tableOf g)
+
+-- what stands in the sum for the host's aux
+unfoldable pub factorOf : Given → Float
+factorOf g = factorIn Coulomb (g .a) (g .b) (g .c) (g .d) (g .aux)
 
 -- the sum of terms that stand by Boys order, unless it is barred
 unfoldable pub summedOf : ℕ → List Float → Float → List Float → List Term → Value

@@ -14,6 +14,9 @@ slice-aggregate-geometry-finite c = search needs
 geometry-finite-requires : tie.Need-geometry-finite-requires
 geometry-finite-requires c κs = search needs
 
+factor-requires : tie.Need-factor-requires
+factor-requires c κs = search needs
+
 slice-aggregate-integral : tie.Need-slice-aggregate-integral
 slice-aggregate-integral c = search needs
 
@@ -40,6 +43,7 @@ value-spec =
     prefac-requires
     slice-aggregate-geometry-finite
     geometry-finite-requires
+    factor-requires
     slice-aggregate-integral
     slice-aggregate-integral-2
     integral-requires
