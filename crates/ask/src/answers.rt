@@ -58,7 +58,9 @@ pub(crate) const REFUSED_LEFT: usize = 26;
 
 pub(crate) const REFUSED_RIGHT: usize = 27;
 
-pub(crate) const WAIT: usize = 28;
+pub(crate) const ROOT: usize = 28;
+
+pub(crate) const WAIT: usize = 29;
 
 // The refusal of an output that has no room.
 const NO_ROOM: u64 = 6;

@@ -58,6 +58,7 @@ enum Question {
     Compare,
     Nuclei,
     Contracted,
+    Root,
     Unknown,
 }
 
@@ -105,6 +106,7 @@ fn of(shape: usize) -> Question {
         31 => Question::Compare,
         32 => Question::Nuclei,
         33 => Question::Contracted,
+        34 => Question::Root,
         _ => Question::Unknown,
     }
 }
@@ -210,6 +212,7 @@ fn in_numbers(q: Question, n: [u64; NUMBERS], count: usize, roll: &[u8], floats:
         Question::Table => values::table(n, floats),
         Question::Nuclei => values::of_nuclei(n, roll, floats),
         Question::Contracted => values::contracted(n, roll, floats),
+        Question::Root => values::root(floats),
         Question::Measure => expands::measured(n),
         Question::Total => sums::total(n),
         Question::Scales => sums::scales(roll),

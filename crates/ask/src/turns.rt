@@ -58,6 +58,7 @@ salvage R L P
 compare R S
 nuclei RCCNF*
 contracted RMMH
+rootF
 ",
         line,
         given,
@@ -197,6 +198,7 @@ salvaged # terms # kept # anew # count other after unknown %
 compared |
 refused # at # left
 refused # at # right
+root $
 !",
         t,
         line,

@@ -1,5 +1,6 @@
 // `eval ROLL A B C D AUX F0 F1 ..`, `grouped BUFFER` with the same, `nuclei ROLL A B N centres.. AUX F0 F1 ..`, `contracted ROLL NL primitives.. NR primitives.. NH h1 ..`
-// and `table KIND A B C D`: the integral of a roll, plain, by way of a grouping buffer, over a list of nuclei and over two contracted functions, and the prefactor table of a kind.
+// and `table KIND A B C D`: the integral of a roll, plain, by way of a grouping buffer, over a list of nuclei and over two contracted functions, and the prefactor table of a kind;
+// and `root X`.
 ghost use Prim.Native.Nat.{_≤_};
 use crate::answers;
 use crate::floats;
@@ -21,6 +22,7 @@ use questions::byte;
 use questions::word;
 use roll::Cursor;
 use roll::Opened;
+use root::Rooted;
 use words::Listed;
 use words::NUMBERS;
 use words::follow;
@@ -211,6 +213,19 @@ fn value_told(value: Value) -> Told {
             answers::spoiled()
         }
         Value::Refused(refusal, place) => answers::refused(refusal, place),
+    }
+}
+
+// A root is finite where it comes back.
+pub(crate) fn root(floats: &[f64]) -> Told {
+    match root::root(at(floats, 0)) {
+        Rooted::Is(x) => {
+            if geometry::finite(x) {
+                return answers::bytes(answers::ROOT, [floats::bits(x), 0, 0, 0], 0, 0);
+            }
+            answers::spoiled()
+        }
+        Rooted::Refused(refusal) => answers::refused(refusal, 0),
     }
 }
 

@@ -57,6 +57,9 @@ use Rattle.geometry.specs.Floats.{zero}
 use Rattle.integrals.specs.declared.Value.{Value}
 use Rattle.integrals.specs.declared.Value.the-variants as value
 use Rattle.roll.specs.Reading.{rollAt}
+use Rattle.root.specs.declared.Rooted.{Rooted}
+use Rattle.root.specs.declared.Rooted.the-variants as root
+use Rattle.root.specs.Root.{rootedOf}
 use Rattle.contracting.specs.declared.Contracted.{Contracted}
 use Rattle.contracting.specs.Elements.{contractedOf}
 use Rattle.nuclei.specs.declared.Nuclei.{Nuclei}
@@ -69,6 +72,7 @@ use Rattle.jk.specs.declared.Answer.{Answer}
 use Rattle.jk.specs.Outcome.{Outcome, outcome, jkOf, refusalOf as jkRefusal}
 use Rattle.xewumbal.specs.declared.xew_written.{«xew_written»}
 use Rattle.xewumbal.specs.declared.xew_value.{«xew_value»}
+use Rattle.xewumbal.specs.declared.xew_rooted.{«xew_rooted»}
 use Rattle.xewumbal.specs.declared.xew_component.{«xew_component»}
 use Rattle.xewumbal.specs.declared.xew_table.{«xew_table»}
 use Rattle.xewumbal.specs.declared.xew_cursor.{«xew_cursor»}
@@ -86,7 +90,7 @@ use Rattle.xewumbal.specs.declared.xew_met.{«xew_met»}
 use Rattle.xewumbal.specs.declared.xew_restored.{«xew_restored»}
 use Rattle.xewumbal.specs.declared.xew_total.{«xew_total»}
 use Rattle.xewumbal.specs.declared.xew_scales.{«xew_scales»}
-use Rattle.xewumbal.specs.Answers.{ExpandCallTold, ListCallTold, GroupedCallTold, hostRestored, groupedTermAnswer, JkCallTold, cursorIn, hostExpanded, hostListed, hostComponent, hostCursor, hostOpened, foundStep, hostStep, hostTotal, hostScales, hostTable, hostValue}
+use Rattle.xewumbal.specs.Answers.{ExpandCallTold, ListCallTold, GroupedCallTold, hostRestored, groupedTermAnswer, JkCallTold, cursorIn, hostExpanded, hostListed, hostComponent, hostCursor, hostOpened, foundStep, hostStep, hostTotal, hostScales, hostTable, hostValue, hostRooted, rootAnswer}
 use Rattle.xewumbal.specs.Answers.{Expand2CallTold, ToForm2CallTold, ToForm1CallTold, cursor2In, hostCursor2, hostOpened2, foundStep2, hostStep2, hostMoved}
 use Rattle.xewumbal.specs.Answers.{afterCode, flagOf, hostSalvaged, SalvageCallTold}
 use Rattle.xewumbal.specs.Answers.{hostPair, pairIn, hostTerm, comparedBy, hostCompared, compareAnswer, metBy, hostMet, compareNextAnswer}
@@ -238,6 +242,12 @@ scales-given t n is = sym (ap hostScales is)
 pub scales-refused : (t : RollTotal) (n place : ℕ) → t ≡ rollTotal.Refused n place → record { total = 0; place = place; refusal = n } ≡ hostScales t
 scales-refused t n place is = sym (ap hostScales is)
 
+pub root-given : (v : Rooted) (x : Float) → v ≡ root.Is x → record { root = x; refusal = 0 } ≡ hostRooted v
+root-given v x is = sym (ap hostRooted is)
+
+pub root-refused : (v : Rooted) (n : ℕ) → v ≡ root.Refused n → record { root = zero; refusal = n } ≡ hostRooted v
+root-refused v n is = sym (ap hostRooted is)
+
 pub value-given : (v : Value) (x : Float) → v ≡ value.Is x → record { value = x; place = 0; refusal = 0 } ≡ hostValue v
 value-given v x is = sym (ap hostValue is)
 
@@ -319,6 +329,10 @@ compare-next-answered p left right below m x at told is = is ∙ ap hostMet (tol
 pub prefactors-answered : (kind : ℕ) (a b c d : Centre) (t : Table) (x : «xew_table») → t ≡ prefactorTableOf kind a b c d → x ≡ hostTable t → x ≡ prefactorsAnswer kind a b c d
 unfolding prefactorsAnswer
 prefactors-answered kind a b c d t x told is = is ∙ ap hostTable told
+
+pub root-answered : (x : Float) (v : Rooted) (r : «xew_rooted») → v ≡ rootedOf x → r ≡ hostRooted v → r ≡ rootAnswer x
+unfolding rootAnswer
+root-answered x v r told is = is ∙ ap hostRooted told
 
 pub evaluate-answered : (roll : List ℕ) (a b c d : Centre) (aux : Float) (boys : List Float) (v : Value) (x : «xew_value») → v ≡ evaluateOf roll a b c d aux boys → x ≡ hostValue v → x ≡ evaluateAnswer roll a b c d aux boys
 unfolding evaluateAnswer

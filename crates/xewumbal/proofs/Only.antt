@@ -25,7 +25,7 @@ use Rattle.xewumbal.specs.declared.xew_salvaged.{«xew_salvaged»}
 use Rattle.xewumbal.specs.declared.xew_pair.{«xew_pair»}
 use Rattle.xewumbal.specs.declared.xew_value.{«xew_value»}
 use Rattle.xewumbal.specs.Answers.{hostExpanded, hostListed, hostMoved, hostSalvaged, compareAnswer, compareNextAnswer, measureAnswer, shell2Answer, shell4Answer, openAnswer, checkAnswer, nextAnswer, open2Answer, check2Answer, next2Answer}
-use Rattle.xewumbal.specs.Answers.{scaleTotalAnswer, rollTotalAnswer, prefactorsAnswer, evaluateAnswer, nuclearAnswer, contractedAnswer, groupedTermAnswer, hostValue}
+use Rattle.xewumbal.specs.Answers.{scaleTotalAnswer, rollTotalAnswer, prefactorsAnswer, evaluateAnswer, nuclearAnswer, contractedAnswer, rootAnswer, groupedTermAnswer, hostValue}
 use Rattle.xewumbal.proofs.xew_expand.Reads.{Post as Expand}
 use Rattle.xewumbal.proofs.xew_measure.Reads.{Post as Measure}
 use Rattle.xewumbal.proofs.xew_expand2.Reads.{Post as Expand2}
@@ -47,6 +47,7 @@ use Rattle.xewumbal.proofs.xew_scale_total.Reads.{Post as ScaleTotal}
 use Rattle.xewumbal.proofs.xew_roll_total.Reads.{Post as RollTotal}
 use Rattle.xewumbal.proofs.xew_prefactors.Reads.{Post as Prefactors}
 use Rattle.xewumbal.proofs.xew_evaluate.Reads.{Post as Evaluate}
+use Rattle.xewumbal.proofs.xew_root.Reads.{Post as Root}
 use Rattle.xewumbal.proofs.xew_nuclear.Reads.{Post as Nuclear}
 use Rattle.xewumbal.proofs.xew_contracted.Reads.{Post as ContractedElement}
 use Rattle.xewumbal.proofs.xew_evaluate_grouped.Reads.{Post as EvaluateGrouped}
@@ -127,6 +128,9 @@ roll-total-only κs roll = alone (λ r p. p)
 
 pub prefactors-only : (kind : ℕ) (a b c d : Centre) → let g = kind ▸ a ▸ b ▸ c ▸ d ▸ end in Alone (λ r. Prefactors tt g r g) (prefactorsAnswer kind a b c d)
 prefactors-only kind a b c d = alone (λ r p. p)
+
+pub root-only : (x : Float) → let g = x ▸ end in Alone (λ r. Root tt g r g) (rootAnswer x)
+root-only x = alone (λ r p. p)
 
 pub evaluate-only : (κs : Lfts 2) (roll : Lent ℕ) (a b c d : Centre) (aux : Float) (boys : Lent Float) →
     let g = roll ▸ a ▸ b ▸ c ▸ d ▸ aux ▸ boys ▸ end in Alone (λ r. Evaluate κs g r g) (evaluateAnswer (roll .now) a b c d aux (boys .now))

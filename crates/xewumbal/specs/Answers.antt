@@ -51,6 +51,10 @@ use Rattle.geometry.specs.declared.Centre.{Centre}
 use Rattle.geometry.specs.declared.Table.{Table}
 use Rattle.geometry.specs.Checks.{prefactorTableOf, refusalOf as tableRefusal}
 use Rattle.integrals.specs.declared.Value.{Value}
+use Rattle.root.specs.declared.Rooted.{Rooted}
+use Rattle.root.specs.declared.Rooted.the-variants as root
+use Rattle.root.specs.Root.{rootedOf, refusalOf as rootRefusal}
+use Rattle.geometry.specs.Floats.{zero as 0·0}
 use Rattle.contracting.specs.declared.Contracted.{Contracted}
 use Rattle.contracting.specs.Elements.{contractedOf}
 use Rattle.nuclei.specs.declared.Nuclei.{Nuclei}
@@ -62,6 +66,7 @@ use Rattle.grouping.specs.declared.restoring.Restored.{Restored}
 use Rattle.jk.specs.Outcome.{jkOf, refusalOf as jkRefusal}
 use Rattle.xewumbal.specs.declared.xew_written.{«xew_written»}
 use Rattle.xewumbal.specs.declared.xew_value.{«xew_value»}
+use Rattle.xewumbal.specs.declared.xew_rooted.{«xew_rooted»}
 use Rattle.xewumbal.specs.declared.xew_component.{«xew_component»}
 use Rattle.xewumbal.specs.declared.xew_table.{«xew_table»}
 use Rattle.xewumbal.specs.declared.xew_cursor.{«xew_cursor»}
@@ -311,6 +316,18 @@ hostTable t = record { entries = t .entries; refusal = tableRefusal (t .found) }
 
 unfoldable pub prefactorsAnswer : ℕ → Centre → Centre → Centre → Centre → «xew_table»
 prefactorsAnswer kind a b c d = hostTable (prefactorTableOf kind a b c d)
+
+-- ---- xew_root: the root and the refusal
+
+abbrev pub rootIn : Rooted → Float
+rootIn (root.Is x) = x
+rootIn (root.Refused n) = 0·0
+
+abbrev pub hostRooted : Rooted → «xew_rooted»
+hostRooted r = record { root = rootIn r; refusal = rootRefusal r }
+
+unfoldable pub rootAnswer : Float → «xew_rooted»
+rootAnswer x = hostRooted (rootedOf x)
 
 -- ---- xew_evaluate: the integral, and a refusal with its place
 

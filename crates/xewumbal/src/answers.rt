@@ -2,7 +2,7 @@
 ghost use mathlib.Core.Path.{_≡_};
 ghost use Rattle.jk.specs.Outcome.{refusalOf};
 ghost use Rattle.xewumbal.specs.Answers.{cursorIn, cursor2In, hostExpanded, hostListed, hostComponent, hostCursor, hostOpened, foundStep, hostStep};
-ghost use Rattle.xewumbal.specs.Answers.{hostCursor2, hostOpened2, foundStep2, hostStep2, hostMoved, afterCode, hostSalvaged, hostTotal, hostScales, hostTable, hostValue, hostRestored};
+ghost use Rattle.xewumbal.specs.Answers.{hostCursor2, hostOpened2, foundStep2, hostStep2, hostMoved, afterCode, hostSalvaged, hostTotal, hostScales, hostTable, hostValue, hostRooted, hostRestored};
 ghost use Rattle.xewumbal.specs.Answers.{pairIn, hostPair, hostTerm, flagOf, comparedBy, hostCompared, metBy, hostMet};
 use crate::xew_compared;
 use crate::xew_component;
@@ -14,6 +14,7 @@ use crate::xew_opened;
 use crate::xew_opened2;
 use crate::xew_pair;
 use crate::xew_restored;
+use crate::xew_rooted;
 use crate::xew_salvaged;
 use crate::xew_scales;
 use crate::xew_step;
@@ -41,6 +42,7 @@ use roll::Cursor;
 use roll::Opened;
 use roll::Opening;
 use roll::Step;
+use root::Rooted;
 use salvaging::After;
 use salvaging::Salvaged;
 use salvaging::Told;
@@ -469,6 +471,15 @@ pub(crate) fn scales(answer: RollTotal) -> xew_scales
             place,
             refusal,
         },
+    }
+}
+
+pub(crate) fn rooted(answer: Rooted) -> xew_rooted
+    ensures { λ r. ⌜ r ≡ hostRooted answer ⌝ }
+{
+    match answer {
+        Rooted::Is(root) => xew_rooted { root, refusal: 0 },
+        Rooted::Refused(refusal) => xew_rooted { root: 0.0, refusal },
     }
 }
 

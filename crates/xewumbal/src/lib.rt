@@ -5,11 +5,11 @@ mod answers;
 ghost use mathlib.Core.Path.{_≡_};
 ghost use Rattle.xewumbal.specs.Answers.{ExpandCallTold, Expand2CallTold, ListCallTold, ToForm2CallTold, ToForm1CallTold, SalvageCallTold, GroupedCallTold, JkCallTold};
 ghost use Rattle.xewumbal.specs.Answers.{measureAnswer, shell2Answer, shell4Answer, openAnswer, checkAnswer, nextAnswer, open2Answer, check2Answer, next2Answer, compareAnswer, compareNextAnswer};
-ghost use Rattle.xewumbal.specs.Answers.{scaleTotalAnswer, rollTotalAnswer, prefactorsAnswer, evaluateAnswer, nuclearAnswer, contractedAnswer, groupedTermAnswer};
+ghost use Rattle.xewumbal.specs.Answers.{scaleTotalAnswer, rollTotalAnswer, prefactorsAnswer, evaluateAnswer, nuclearAnswer, contractedAnswer, groupedTermAnswer, rootAnswer};
 use kind::Kind;
 
 // Raised when a struct, a meaning or an answer changes. The header and the binding have the same (D-85).
-pub const VERSION: u32 = 3;
+pub const VERSION: u32 = 4;
 
 // Centres and lists of them go in as the crates below have them (D-109).
 pub type xew_centre = geometry::Centre;
@@ -31,6 +31,12 @@ pub struct xew_written {
 pub struct xew_value {
     pub value: f64,
     pub place: usize,
+    pub refusal: u8,
+}
+
+#[repr(C)]
+pub struct xew_rooted {
+    pub root: f64,
     pub refusal: u8,
 }
 
@@ -349,6 +355,13 @@ pub extern "C" fn xew_prefactors(
     ensures { λ r. ⌜ r ≡ prefactorsAnswer kind a b c d ⌝ }
 {
     answers::table(geometry::prefactors(kind, a, b, c, d))
+}
+
+#[no_mangle]
+pub extern "C" fn xew_root(x: f64) -> xew_rooted
+    ensures { λ r. ⌜ r ≡ rootAnswer x ⌝ }
+{
+    answers::rooted(root::root(x))
 }
 
 #[no_mangle]

@@ -1,0 +1,20 @@
+-- `rooted` meets its contract: each case in fields. Assumes nothing.
+use Rattle.xewumbal.proofs.Fields.{root-given, root-refused}
+use borrow.Author.Needs.{needs}
+use Rattle.xewumbal.proofs.answers.rooted.Statement.{statement}
+use Rattle.xewumbal.proofs.answers.rooted.Tie as tie
+
+enum-known-answer : tie.Need-enum-known-answer
+enum-known-answer c = search needs
+
+enum-known-answer-2 : tie.Need-enum-known-answer-2
+enum-known-answer-2 c = search needs
+
+returns : tie.Need-returns
+returns c = search root-given
+
+returns-2 : tie.Need-returns-2
+returns-2 c = search root-refused
+
+pub rooted-spec : {M : Type 1} → statement M
+rooted-spec = tie.close (tie.spec enum-known-answer enum-known-answer-2 returns returns-2)
