@@ -96,6 +96,7 @@ fn answer(question: Question, out: &mut Vec<u8>) -> Result<(), Refusal> {
         Question::Grouped { buffer, evaluation } => grouped(out, buffer, &evaluation),
         Question::Nuclei(asked) => nuclei(out, &asked),
         Question::Contracted(asked) => contracted(out, &asked),
+        Question::Root(x) => root(out, x),
         Question::Table(kind, centres) => table(out, kind, &centres),
         Question::JK { n, lengths, i, d } => jk(out, n, &lengths, &i, &d),
     }
@@ -287,15 +288,14 @@ fn next(
 /// How an evaluation comes to its value.
 #[derive(Clone, Copy)]
 pub enum Way {
-    /// The Rust's own list and aux: the unchanged get_ function.
+    /// The Rust's own list and aux (Coulomb: s): the unchanged get_ function.
     Unchanged,
     /// Any other: the Rust's sum loops, fed with terms and aux.
     SumLoops,
 }
 
 pub fn way(header: &Header, terms: &[Term], centres: &[Centre; 4], aux: f64) -> Way {
-    let own_aux = rust_side::aux(header.kind, centres);
-    if own_aux.to_bits() == aux.to_bits() && rust_side::is_own_list(header, terms) {
+    if rust_side::is_own_aux(header.kind, centres, aux) && rust_side::is_own_list(header, terms) {
         Way::Unchanged
     } else {
         Way::SumLoops
@@ -331,7 +331,8 @@ fn grouped(out: &mut Vec<u8>, buffer: usize, evaluation: &Evaluation) -> Result<
     let (value, table) = value_and_table(&header, &terms, evaluation)?;
     if header.kind == 4 {
         let entries = second::grouped(header.l, &terms);
-        let value2 = second::sum_of_groups(&entries, &table, evaluation.aux, &evaluation.boys);
+        let s = second::s_of_product(evaluation.aux, &evaluation.centres);
+        let value2 = second::sum_of_groups(&entries, &table, s, &evaluation.boys);
         assert!(
             same(&[value], &[value2]),
             "the Rust and the second reading differ: the groups of {:?}",
@@ -342,7 +343,8 @@ fn grouped(out: &mut Vec<u8>, buffer: usize, evaluation: &Evaluation) -> Result<
 }
 
 /// The Rust's value, on which 11 is still to be decided, and its table. That of a nuclear roll is
-/// multiplied by the charge of C, and the second reading must come to the same.
+/// multiplied by the charge of C, and the second reading must come to the same; of a Coulomb roll
+/// the s.
 fn value_and_table(
     header: &Header,
     terms: &[Term],
@@ -353,6 +355,15 @@ fn value_and_table(
     } = evaluation;
     second::check_evaluation(header, centres, *aux, boys)?;
     let table = table_of(header.kind, centres)?;
+    if header.kind == 4 {
+        let s = rust_side::s_of_product(*aux, centres);
+        let s2 = second::s_of_product(*aux, centres);
+        assert!(
+            same(&[s], &[s2]),
+            "the Rust and the second reading differ: s of {:?}",
+            evaluation
+        );
+    }
     let way = way(header, terms, centres, *aux);
     let value = rust_value(way, header, terms, centres, *aux, boys);
     if header.kind != 2 {
@@ -398,9 +409,8 @@ fn nuclei(out: &mut Vec<u8>, asked: &Nuclei) -> Result<(), Refusal> {
 /// The way of a contracted element, and the element of S or T as it comes: a zero may have the other
 /// sign, since the Rust's sums of iterators begin at -0.0 from some release on.
 pub fn rust_element(header: &Header, terms: &[Term], asked: &Contracted) -> (Way, f64) {
-    let own = |(centres, &aux): ([Centre; 4], &f64)| {
-        rust_side::aux(header.kind, &centres).to_bits() == aux.to_bits()
-    };
+    let own =
+        |(centres, &aux): ([Centre; 4], &f64)| rust_side::is_own_aux(header.kind, &centres, aux);
     let all_own = asked.centres().zip(&asked.host).all(own);
     if all_own && rust_side::is_own_list(header, terms) {
         return (Way::Unchanged, rust_side::element(header, asked));
@@ -437,6 +447,19 @@ fn write_value(out: &mut Vec<u8>, value: f64) -> Result<(), Refusal> {
     second::check_results(&[&[value]])?;
     write(out, "value ");
     parse::write_float(out, value);
+    Ok(())
+}
+
+/// The second reading's root; that of the machine, by which get_aux divides, must be the same.
+fn root(out: &mut Vec<u8>, x: f64) -> Result<(), Refusal> {
+    let root = second::root(x)?;
+    assert!(
+        same(&[x.sqrt()], &[root]),
+        "the machine and the second reading differ: the root of {:e}",
+        x
+    );
+    write(out, "root ");
+    parse::write_float(out, root);
     Ok(())
 }
 

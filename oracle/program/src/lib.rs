@@ -19,6 +19,7 @@ pub mod questions;
 pub mod random;
 pub mod requests;
 pub mod rolls;
+pub mod roots;
 pub mod runs;
 pub mod rust_side;
 pub mod salvage_rolls;

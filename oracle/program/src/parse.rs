@@ -39,6 +39,7 @@ pub struct Cursor {
 pub struct Evaluation {
     pub roll: Vec<u8>,
     pub centres: Box<[Centre; 4]>,
+    /// The host's number; of a Coulomb roll k1 k2.
     pub aux: f64,
     pub boys: Vec<f64>,
 }
@@ -170,6 +171,7 @@ pub enum Question {
     },
     Nuclei(Nuclei),
     Contracted(Contracted),
+    Root(f64),
     Table(u8, [Centre; 4]),
     JK {
         n: u64,
@@ -350,6 +352,7 @@ fn question(bytes: &[u8]) -> Option<Question> {
         },
         b"nuclei" => Question::Nuclei(nuclei(&mut words)?),
         b"contracted" => Question::Contracted(contracted(&mut words)?),
+        b"root" => Question::Root(words.float()?),
         b"table" => Question::Table(words.byte()?, words.centres()?),
         b"jk" => jk(&mut words)?,
         b"jkl" => jkl(&mut words)?,

@@ -9,11 +9,11 @@ use crate::parse::{LONGEST_LINE, MOST_BOYS, MOST_HOST};
 use crate::random::Random;
 use crate::second::{self, Form, NOW};
 use crate::{contracted, form2_rolls, matrices, nuclei, odd_lines, requests, rolls, runs};
-use crate::{rust_side, salvage_rolls};
+use crate::{roots, rust_side, salvage_rolls};
 use std::io::{self, Write};
 
 /// The kinds of question, as `oracle/ask-both` names them.
-pub const KINDS: [&str; 25] = [
+pub const KINDS: [&str; 26] = [
     "shell",
     "component",
     "expand",
@@ -36,6 +36,7 @@ pub const KINDS: [&str; 25] = [
     "grouped",
     "nuclei",
     "contracted",
+    "root",
     "table",
     "jk",
     "jkl",
@@ -162,6 +163,7 @@ fn question(random: &mut Random, kind: &str, at: u64) -> Vec<u8> {
         "grouped" => grouped(random),
         "nuclei" => nuclei::any(random),
         "contracted" => contracted::any(random),
+        "root" => roots::any(random),
         "table" => table(random),
         "jk" => jk(random, at),
         "jkl" => jkl(random, at),
@@ -361,16 +363,21 @@ fn grouped_of(random: &mut Random, roll: &[u8], taste: Taste, own: bool) -> Vec<
 }
 
 /// An evaluation of a roll, by the words before it, mostly with the Rust's own aux where that is
-/// wanted.
+/// wanted. One in three of a Coulomb roll has exponents with a sum out of the ordinary.
 fn evaluation(random: &mut Random, words: &str, roll: &[u8], taste: Taste, own: bool) -> Vec<u8> {
     let (kind, l) = match NOW.open(roll) {
         Ok(header) => (header.kind, header.l),
         Err(_) => (random.below(5) as u8, random.below(26) as u8),
     };
-    let centres = floats::centres_for(random, taste, kind);
-    let own_aux = rust_side::aux(kind, &centres);
-    let aux = if own && !random.once_in(5) {
-        own_aux
+    let mut centres = floats::centres_for(random, taste, kind);
+    let for_the_root = kind == 4 && random.once_in(3);
+    if for_the_root {
+        roots::exponents(random, &mut centres);
+    }
+    let aux = if for_the_root && !random.once_in(4) {
+        roots::product(random, &centres)
+    } else if own && !random.once_in(5) {
+        rust_side::aux(kind, &centres)
     } else {
         floats::float(random, taste)
     };

@@ -93,17 +93,51 @@ pub fn is_own_list(header: &Header, list: &[Term]) -> bool {
         && terms(header.kind, &header.orders) == list
 }
 
-/// The Rust's own aux (Coulomb: s) for these centres.
+/// os86.rs once more, unchanged, for get_k, which is private there.
+mod pairs {
+    #![allow(dead_code, clippy::all)]
+
+    include!("../../rust/src/integrals/os86.rs");
+
+    /// k1 k2 as get_aux has it.
+    pub fn product(z: [f64; 4], r: &[[f64; 3]; 4]) -> f64 {
+        let k1 = get_k(z[0], z[1], &r[0], &r[1]);
+        let k2 = get_k(z[2], z[3], &r[2], &r[3]);
+        k1 * k2
+    }
+}
+
+/// The Rust's own aux (Coulomb: k1 k2) for these centres.
 pub fn aux(kind: u8, centres: &[Centre; 4]) -> f64 {
-    let [a, b, c, d] = centres;
+    let [a, b, c, _] = centres;
     match kind {
         2 => {
             boys::lend(&[1.0]);
             os86::get_nuclear(a.z, b.z, &a.r, &b.r, &c.r, &[0; 6])
         }
-        4 => os86::aux([a.z, b.z, c.z, d.z], &[a.r, b.r, c.r, d.r]),
+        4 => pairs::product(centres.map(|c| c.z), &centres.map(|c| c.r)),
         _ => os86::get_overlap(a.z, b.z, &a.r, &b.r, &[0; 6]),
     }
+}
+
+/// The Rust's own s for these centres.
+pub fn own_s(centres: &[Centre; 4]) -> f64 {
+    os86::aux(centres.map(|c| c.z), &centres.map(|c| c.r))
+}
+
+/// The s that the host's k1 k2 gives: get_aux's last line with that in place of its own product.
+pub fn s_of_product(product: f64, centres: &[Centre; 4]) -> f64 {
+    let [za, zb, zc, zd] = centres.map(|c| c.z);
+    product / (za + zb + zc + zd).sqrt()
+}
+
+/// Is the host's number the Rust's own for these centres? That of Coulomb counts by its s.
+pub fn is_own_aux(kind: u8, centres: &[Centre; 4], host: f64) -> bool {
+    let (own, given) = match kind {
+        4 => (own_s(centres), s_of_product(host, centres)),
+        _ => (aux(kind, centres), host),
+    };
+    own.to_bits() == given.to_bits()
 }
 
 /// The value by the unchanged get_ function, which expands by itself and works out its aux.
@@ -124,7 +158,8 @@ pub fn value(header: &Header, centres: &[Centre; 4], numbers: &[f64]) -> f64 {
     }
 }
 
-/// The value by the Rust's sum loops, fed with terms and aux.
+/// The value by the Rust's sum loops, fed with terms and aux; Coulomb: with s, the host's number
+/// divided.
 pub fn value_of_terms(
     header: &Header,
     list: &[Term],
@@ -140,6 +175,10 @@ pub fn value_of_terms(
         boys: term.boys,
         prefactors: term.prefactors.iter().map(|&p| p.into()).collect(),
     });
+    let aux = match header.kind {
+        4 => s_of_product(aux, centres),
+        _ => aux,
+    };
     given::give(list.collect(), aux);
     boys::lend(numbers);
     match header.kind {
@@ -159,7 +198,8 @@ fn moment_orders(header: &Header) -> ([u8; 6], [u8; 3]) {
     ([o[0], o[1], o[2], o[3], o[4], o[5]], [o[6], o[7], o[8]])
 }
 
-/// Geometry numbers and prefactor table as the Rust's own lines work them out.
+/// Geometry numbers and prefactor table as the Rust's own lines work them out; after the geometry
+/// numbers of Coulomb the sum of exponents, as get_aux adds them.
 pub fn geometry_and_table(kind: u8, centres: &[Centre; 4]) -> (Vec<f64>, Vec<f64>) {
     let empty = Header {
         kind,
@@ -169,7 +209,12 @@ pub fn geometry_and_table(kind: u8, centres: &[Centre; 4]) -> (Vec<f64>, Vec<f64
         place: 0,
     };
     value_of_terms(&empty, &[], centres, 0.0, &[0.0]);
-    given::kept()
+    let (mut geometry, table) = given::kept();
+    if kind == 4 {
+        let [za, zb, zc, zd] = centres.map(|c| c.z);
+        geometry.push(za + zb + zc + zd);
+    }
+    (geometry, table)
 }
 
 /// The element of S or T for two contracted functions, by the unchanged get_ functions.

@@ -94,14 +94,15 @@ fn one_pass_has_the_same_bits() {
         let (header, terms) = coulomb(&mut random, at);
         let taste = floats::taste(&mut random);
         let centres = floats::centres(&mut random, taste);
-        let s = floats::float(&mut random, taste);
+        let product = floats::float(&mut random, taste);
+        let s = rust_side::s_of_product(product, &centres);
         let boys = floats::boys(&mut random, taste, usize::from(header.l) + 1);
         let (_, table) = second::geometry_and_table(4, &centres);
         let mut entries = second::grouped(header.l, &terms);
         let sum = |entries: &[Entry]| second::sum_of_groups(entries, &table, s, &boys);
         let value = sum(&entries);
         let outer = outer_loop(header.l, &terms, &table, s, &boys);
-        let rust = rust_side::value_of_terms(&header, &terms, &centres, s, &boys);
+        let rust = rust_side::value_of_terms(&header, &terms, &centres, product, &boys);
         assert!(same(&[value, value], &[outer, rust]), "{:?}", header);
         if value.is_finite() {
             finite += 1;
@@ -151,6 +152,7 @@ const MINUS_ZERO: &str = "8000000000000000";
 const MOST: &str = "7fefffffffffffff";
 
 /// `grouped` with this exponent on D, the others 1.0, all at the origin; aux and Boys numbers follow.
+/// With 1.0 on D the root of a Coulomb roll is 2.0.
 fn asked(buffer: usize, roll: &str, exponent: &str, rest: &str) -> String {
     let centre = format!("0 0 0 {} 1", ONE);
     let centres = format!("{} {} {} 0 0 0 {} 1", centre, centre, centre, exponent);
@@ -163,7 +165,7 @@ fn refusals_of_grouped() {
     let good = format!("{} {}", ONE, ONE);
     let wrong = format!("{} {}", ONE, INFINITE);
     let large = format!("{} {}", MOST, MOST);
-    let value = format!("value {}", ONE);
+    let value = "value 3fe0000000000000".to_string();
     let cases = [
         (40, s, ONE, good.as_str(), value.as_str()),
         (41, s, ONE, &good, &value),

@@ -6,14 +6,14 @@ use oracle::diff::class;
 use oracle::form2_rolls;
 use oracle::form2_runs::{self, Asked};
 use oracle::parse::LONGEST_LINE;
-use oracle::parse::{self, write_roll, Contracted, Line, Nuclei, Primitive, Question};
+use oracle::parse::{self, write_roll, Contracted, Evaluation, Line, Nuclei, Primitive, Question};
 use oracle::questions::{write_all, KINDS};
 use oracle::requests;
 use oracle::rolls::{to_be_cut, tried_one_by_one};
 use oracle::runs;
 use oracle::salvage_rolls;
-use oracle::second::{Form, NOW};
-use std::collections::BTreeSet;
+use oracle::second::{self, Form, NOW};
+use std::collections::{BTreeMap, BTreeSet};
 use std::io::{self, Write};
 
 fn questions(kind: &str, count: u64, seed: u64) -> Vec<u8> {
@@ -138,6 +138,7 @@ fn every_kind_of_answer_comes_up() {
                 "refused 15",
                 "refused 16",
             ],
+            "root" => &["root", "refused  8", "refused 18"],
             "table" => &[
                 "table",
                 "refused  1",
@@ -223,6 +224,99 @@ fn matrices_of_every_sort() {
             assert!(told.contains(&expected), "{}: {}", kind, expected);
         }
         assert!(all.contains("infinite") && all.contains("no number"));
+    }
+}
+
+/// What a root was asked of.
+fn sort_of_root(x: f64) -> Vec<String> {
+    let mut found = vec![sort(&x).to_string()];
+    if x.is_subnormal() && x > 0.0 {
+        found.push(format!("length {}", 64 - x.to_bits().leading_zeros()));
+    }
+    let root = x.sqrt();
+    if root > 0.0 && root * root == x && root.to_bits() % (1 << 26) == 0 {
+        found.push("square".to_string());
+    }
+    if x < 0.0 && x.is_finite() {
+        found.push("below 0".to_string());
+    }
+    found
+}
+
+/// Subnormals of each length, squares, zeros, and floats of each refusal; every exponent.
+#[test]
+fn roots_of_every_sort() {
+    let asked = questions("root", 50_000, 1);
+    let (mut found, mut exponents) = (BTreeSet::new(), BTreeSet::new());
+    for question in lines(&asked) {
+        if let Line::Asks(Question::Root(x)) = parse::line(question) {
+            found.extend(sort_of_root(x));
+            exponents.insert(x.to_bits() >> 52);
+        }
+    }
+    let lengths = (1..=52).map(|length| format!("length {}", length));
+    let sorts = "0.0,-0.0,subnormal,normal,infinite,no number,square,below 0";
+    for expected in lengths.chain(sorts.split(',').map(String::from)) {
+        assert!(found.contains(&expected), "{}", expected);
+    }
+    assert!((0..=2_047).all(|exponent| exponents.contains(&exponent)));
+}
+
+/// What there is to find in a Coulomb evaluation that is answered by a value or by 11.
+fn sorts_of_quotient(asked: &Evaluation, is_value: bool) -> Vec<&'static str> {
+    let [a, b, c, d] = asked.centres.map(|centre| centre.z);
+    let sum = ((a + b) + c) + d;
+    let s = asked.aux / sum.sqrt();
+    let others = [
+        asked.aux / ((a + b) + (c + d)).sqrt(),
+        asked.aux / (a + (b + (c + d))).sqrt(),
+    ];
+    let (_, table) = second::geometry_and_table(4, &asked.centres);
+    let is_finite = table.iter().all(|x| x.is_finite());
+    let sorts = [
+        (is_value && others[0] != s, "not by pairs"),
+        (is_value && others[1] != s, "not from the right"),
+        (
+            is_value && asked.aux * (1.0 / sum.sqrt()) != s,
+            "no inverse",
+        ),
+        (is_value && s.is_subnormal(), "subnormal quotient"),
+        (is_value && s == 0.0 && asked.aux != 0.0, "quotient of 0.0"),
+        (is_value && sum > 1e305, "large sum"),
+        (is_value && sum < 1e-100, "small sum"),
+        (
+            !is_value && s.is_infinite() && is_finite,
+            "infinite quotient",
+        ),
+        (!is_value && sum.is_infinite(), "infinite sum"),
+        (!is_value && sum.is_subnormal(), "subnormal sum"),
+    ];
+    let found = sorts.iter().filter(|(is_so, _)| *is_so);
+    found.map(|(_, sort)| *sort).collect()
+}
+
+/// Sums that depend on the order, large and small ones, and quotients that are large and small.
+#[test]
+fn quotients_of_every_sort() {
+    for kind in ["eval", "grouped"] {
+        let asked = questions(kind, 20_000, 1);
+        let answered = answers(&asked);
+        let mut counts = BTreeMap::new();
+        for (question, answer) in lines(&asked).into_iter().zip(lines(&answered)) {
+            let evaluation = match parse::line(question) {
+                Line::Asks(Question::Eval(evaluation)) => evaluation,
+                Line::Asks(Question::Grouped { evaluation, .. }) => evaluation,
+                _ => continue,
+            };
+            let is_value = answer.starts_with(b"value");
+            if evaluation.roll.first() == Some(&4) && (is_value || answer == b"refused 11") {
+                for sort in sorts_of_quotient(&evaluation, is_value) {
+                    *counts.entry(sort).or_insert(0) += 1;
+                }
+            }
+        }
+        assert_eq!(counts.len(), 10, "{}: {:?}", kind, counts);
+        assert!(counts.values().all(|&count| count >= 5), "{:?}", counts);
     }
 }
 

@@ -246,6 +246,17 @@ pub fn check_table(kind: u8, centres: &[Centre; 4]) -> Result<(), Refusal> {
     check_exponents(kind, centres)
 }
 
+/// Root: 8 for what is not finite, then 18 for what is below 0, which -0.0 is not.
+pub fn check_root(x: f64) -> Result<(), Refusal> {
+    if !x.is_finite() {
+        return Err(refusal(8));
+    }
+    if x < 0.0 {
+        return Err(refusal(18));
+    }
+    Ok(())
+}
+
 /// 11: something worked out is not finite.
 pub fn check_results(lists: &[&[f64]]) -> Result<(), Refusal> {
     if lists.iter().all(|list| list.iter().all(|x| x.is_finite())) {

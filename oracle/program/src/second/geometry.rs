@@ -15,7 +15,14 @@ fn distance_squared(r1: &[f64; 3], r2: &[f64; 3]) -> f64 {
     square(r1[0] - r2[0]) + square(r1[1] - r2[1]) + square(r1[2] - r2[2])
 }
 
-/// Geometry numbers and table of a kind, in the order in which the build script keeps them.
+/// What the root of a Coulomb roll is taken of: added from the left.
+pub fn sum_of_exponents(centres: &[Centre; 4]) -> f64 {
+    let [a, b, c, d] = centres;
+    ((a.z + b.z) + c.z) + d.z
+}
+
+/// Geometry numbers and table of a kind, in the order in which the build script keeps them; after
+/// those of Coulomb the sum of exponents.
 pub fn geometry_and_table(kind: u8, centres: &[Centre; 4]) -> (Vec<f64>, Vec<f64>) {
     let [a, b, c, d] = centres;
     let z = a.z + b.z;
@@ -80,5 +87,7 @@ fn coulomb_table(
         -0.5 * rho / (n * n),
         0.5 / (z + n),
     ]);
-    ([&[z, n, rho, t][..], &rp, &rq, &rw].concat(), table)
+    let sum = sum_of_exponents(centres);
+    let numbers = [&[z, n, rho, t][..], &rp, &rq, &rw, &[sum]];
+    (numbers.concat(), table)
 }

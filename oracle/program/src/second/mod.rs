@@ -3,7 +3,7 @@
 //! Everything that os86.rs, shell.rs and basis.rs do not know stands here: limits and
 //! refusals, the roll in its two forms, the reader and the cursor, the moves, what is left of a
 //! damaged roll, the listing, the comparison of two rolls, the capped count of histories, the checks of an evaluation, the
-//! grouping of terms, the charges and lists of nuclei, and contracted functions. Nothing here calls the unchanged Rust. The step rules, the geometry and the
+//! grouping of terms, the charges and lists of nuclei, contracted functions, and the root over whole numbers. Nothing here calls the unchanged Rust. The step rules, the geometry and the
 //! sums of J and K are here too, so that the two can be held against each other.
 
 mod census;
@@ -20,6 +20,7 @@ mod moves;
 mod nuclei;
 mod refusal;
 mod roll;
+mod root;
 mod salvage;
 mod steps;
 mod totals;
@@ -32,7 +33,7 @@ pub use checks::{check_table, check_total, BYTES_OF_AN_ENTRY};
 pub use compare::{compared, Side};
 pub use contracted::{element, Element};
 pub use form::{shared_length, Form};
-pub use geometry::geometry_and_table;
+pub use geometry::{geometry_and_table, sum_of_exponents};
 pub use grouping::{grouped, sum_of_groups, Entry};
 pub use limits::{orders_used, table_size, Limits, BEFORE, NOW};
 pub use listing::listing;
@@ -42,6 +43,7 @@ pub use nuclei::{sum_of_nuclei, value_of_nucleus};
 pub use refusal::{refusal, Refusal};
 pub use roll::{fresh_roll, measure, write_number, write_roll, write_roll_in};
 pub use roll::{read_number, Header, Step, Unread};
+pub use root::{root, s_of_product};
 pub use salvage::{salvaged, Salvaged};
 pub use steps::{count_histories, terms, Term};
 pub use totals::{by_hand, is_claimed, scales, total};
