@@ -50,6 +50,7 @@ static void accept(uint8_t refusal, size_t place)
         [15] = "a contracted function is not of 1 to 10 primitives",
         [16] = "host numbers are not one for each pair of primitives",
         [17] = "a nucleus' charge is above 118, or a list is not of 1 to 32 nuclei",
+        [18] = "a float below 0 has no root",
     };
     if (refusal == 0) return;
     fprintf(stderr, "water: refused %d, place %zu: %s\n", refusal, place, words[refusal]);
@@ -103,7 +104,7 @@ static double primitive(int kind, const uint8_t *roll, size_t length, const xew_
         xew_centre q = product(c[2], c[3], &other);
         double rho = p.exponent * q.exponent / (p.exponent + q.exponent);
         boys_numbers(l, rho * squared_distance(p, q), boys);
-        aux *= 2 * sqrt(rho / PI) * other;
+        aux *= 2 * sqrt(p.exponent * q.exponent / PI) * other; /* k1*k2; the library divides by the root of the exponents' sum */
     }
     size_t count = kind == COULOMB ? l + 1 : 0;
     answer = xew_evaluate_grouped(roll, length, c[0], c[1], c[2], c[3], aux, boys, count, buffer, room);

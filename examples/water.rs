@@ -77,7 +77,8 @@ fn primitive(kind: u8, roll: &[u8], c: [Centre; 4], l: usize) -> Result<f64, Ref
         COULOMB => {
             let (q, other) = product(c[2], c[3]);
             let rho = p.exponent * q.exponent / (p.exponent + q.exponent);
-            (2.0 * (rho / PI).sqrt() * overlap * other, boys_numbers(l, rho * squared_distance(p, q)))
+            // k1·k2, which the library divides by the root of the exponents' sum
+            (2.0 * (p.exponent * q.exponent / PI).sqrt() * overlap * other, boys_numbers(l, rho * squared_distance(p, q)))
         }
         _ => (overlap, vec![]),
     };

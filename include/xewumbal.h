@@ -28,10 +28,11 @@
  *   15  a contracted function is not of 1 to 10 primitives
  *   16  host numbers are not one for each pair of primitives
  *   17  a nucleus' charge is above 118, or a list is not of 1 to 32 nuclei
+ *   18  a float below 0 has no root
  *
  * These are the words of docs/01-scope.md, which has the rules of a roll, for 14 of docs/requests/Q-5.md, for 2 and 4
- * of docs/requests/Q-6.md, which has the limits, for 15 and 16 of docs/requests/Q-1.md and for 1, 10 and 17 of
- * docs/requests/Q-10.md; the listing is not exported.
+ * of docs/requests/Q-6.md, which has the limits, for 15 and 16 of docs/requests/Q-1.md, for 1, 10 and 17 of
+ * docs/requests/Q-10.md and for 18 of docs/requests/Q-12.md; the listing is not exported.
  *
  * Kinds: 0 overlap, 1 kinetic, 2 nuclear, 3 moment, 4 Coulomb. Orders stand by centre, x y z each: A, B; for kind 3
  * then the operator; for kind 4 then C, D. L is the sum of all orders. docs/01-scope.md defines terms and rolls.
@@ -53,7 +54,7 @@ extern "C" {
 #endif
 
 /* Raised when a struct, a meaning or an answer changes. */
-#define XEW_VERSION 3
+#define XEW_VERSION 4
 
 #define XEW_KINDS 5               /* kinds are 0 to 4 */
 #define XEW_ORDERS 12             /* orders of a request */
@@ -108,6 +109,11 @@ typedef struct {
     size_t place;
     uint8_t refusal;
 } xew_value;
+
+typedef struct {
+    double root;
+    uint8_t refusal;
+} xew_rooted;
 
 /* The orders of a pair of shells (zeros after them) or of four, x y z each. */
 typedef struct {
@@ -321,8 +327,14 @@ xew_scales xew_roll_total(const uint8_t *roll, size_t roll_len);
 /* The prefactor table of a kind, as the sums use it. Refusals: 1, 8, 9, 11. */
 xew_table xew_prefactors(uint8_t kind, xew_centre a, xew_centre b, xew_centre c, xew_centre d);
 
-/* The integral over a roll, which is judged whole first. aux is the factor of every term (Coulomb: s); boys are F(0) to
- * F(L) for kinds 2 and 4, and none for the others. The nuclear value is C's charge times the integral, so charge 0 times an
+/* The root of a finite float of 0 or above, subnormals included: the nearest float to the exact root, and the same bits on
+ * every machine; the root of -0.0 is -0.0. Refusals: 8 for a float that is not finite, 18 for one below 0. */
+xew_rooted xew_root(double x);
+
+/* The integral over a roll, which is judged whole first. aux is the factor of every term; for Coulomb it is k1*k2, and the
+ * library divides it by the root of the four exponents' sum, ((za + zb) + zc) + zd, as xew_root gives it. Up to version 3 a host
+ * divided itself: an s that is handed in as aux now is not refused, and gives wrong values. boys are F(0) to F(L) for kinds 2
+ * and 4, and none for the others. The nuclear value is C's charge times the integral, so charge 0 times an
  * integral below 0 is -0.0. Refusals: 7 or 14, 17 (kind 2), 8, 9, 10, 11. */
 xew_value xew_evaluate(const uint8_t *roll, size_t roll_len, xew_centre a, xew_centre b, xew_centre c, xew_centre d,
                        double aux, const double *boys, size_t boys_len);

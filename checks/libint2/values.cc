@@ -110,7 +110,7 @@ HostNumbers host_numbers(Kind kind, int l, const std::array<xew_centre, 4> &at) 
     }
     const Product q = product(at[2], at[3]);
     const Real both = p.exponent + q.exponent, times = p.exponent * q.exponent;
-    const Real aux = 2 * std::pow(pi, 2.5L) / (times * std::sqrt(both)) * p.factor * q.factor;
+    const Real aux = 2 * std::pow(pi, 2.5L) / times * p.factor * q.factor; // k1*k2: the library divides by the root of `both`
     return {static_cast<double>(aux), boys(l, times / both * squared_distance(p.centre, q.centre))};
 }
 

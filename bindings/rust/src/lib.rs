@@ -30,7 +30,7 @@ pub use raw::{Centre, Contraction, Cursor, Cursor2, Nuclei, Pair, Primitive};
 pub use refusal::Refusal;
 
 /// The version of include/xewumbal.h.
-pub const VERSION: u32 = 3;
+pub const VERSION: u32 = 4;
 
 /// Kinds are 0 to 4.
 pub const KINDS: u8 = 5;
@@ -500,8 +500,27 @@ pub fn prefactors(kind: u8, a: Centre, b: Centre, c: Centre, d: Centre) -> Table
     }
 }
 
-/// The integral over a roll, which is judged whole first. `aux` is the factor of every term (Coulomb: s); `boys` are
-/// F(0) to F(L) for kinds 2 and 4, and none for the others. The nuclear value is C's charge times the integral.
+/// The answer of [`root`].
+#[derive(Clone, Copy, Debug, PartialEq)]
+pub enum Root {
+    /// The nearest f64 to the exact root.
+    Is(f64),
+    /// By 8 or 18.
+    Refused(Refusal),
+}
+
+/// The root of a finite float of 0 or above: the nearest f64 to the exact root; the root of −0.0 is −0.0.
+pub fn root(x: f64) -> Root {
+    let answer = raw::root(x);
+    match Refusal::of(answer.refusal, 0) {
+        Some(refusal) => Root::Refused(refusal),
+        None => Root::Is(answer.root),
+    }
+}
+
+/// The integral over a roll, which is judged whole first. `aux` is the factor of every term; for Coulomb it is k1·k2, which the
+/// library divides by the root of the sum of the four exponents. `boys` are F(0) to F(L) for kinds 2 and 4, and none for the
+/// others. The nuclear value is C's charge times the integral.
 pub fn evaluate(roll: &[u8], a: Centre, b: Centre, c: Centre, d: Centre, aux: f64, boys: &[f64]) -> Value {
     let answer = raw::evaluate(roll, a, b, c, d, aux, boys);
     match Refusal::of(answer.refusal, answer.place) {

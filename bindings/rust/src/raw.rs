@@ -66,6 +66,12 @@ pub struct Value {
 }
 
 #[repr(C)]
+pub struct Rooted {
+    pub root: f64,
+    pub refusal: u8,
+}
+
+#[repr(C)]
 pub struct Component {
     pub orders: [u8; ORDERS],
     pub refusal: u8,
@@ -217,6 +223,7 @@ pub struct Scales {
 
 // The sizes that a C compiler gives the structs.
 const _: () = assert!(size_of::<Centre>() == 40 && size_of::<Nuclei>() == 1288 && size_of::<Cursor>() == 16);
+const _: () = assert!(size_of::<Rooted>() == 16);
 const _: () = assert!(size_of::<Primitive>() == 56 && size_of::<Contraction>() == 568);
 const _: () = assert!(size_of::<Written>() == 16 && size_of::<Value>() == 24);
 const _: () = assert!(size_of::<Component>() == 13 && size_of::<Table>() == 192);
@@ -250,6 +257,7 @@ extern "C" {
     fn xew_scale_total(kind: u8, orders: *const [u8; ORDERS]) -> Total;
     fn xew_roll_total(roll: *const u8, roll_len: usize) -> Scales;
     fn xew_prefactors(kind: u8, a: Centre, b: Centre, c: Centre, d: Centre) -> Table;
+    fn xew_root(x: f64) -> Rooted;
     fn xew_evaluate(roll: *const u8, roll_len: usize, a: Centre, b: Centre, c: Centre, d: Centre,
                     aux: f64, boys: *const f64, boys_len: usize) -> Value;
     fn xew_nuclear(roll: *const u8, roll_len: usize, a: Centre, b: Centre, nuclei: Nuclei,
@@ -341,6 +349,10 @@ pub fn roll_total(roll: &[u8]) -> Scales {
 
 pub fn prefactors(kind: u8, a: Centre, b: Centre, c: Centre, d: Centre) -> Table {
     unsafe { xew_prefactors(kind, a, b, c, d) }
+}
+
+pub fn root(x: f64) -> Rooted {
+    unsafe { xew_root(x) }
 }
 
 pub fn evaluate(roll: &[u8], a: Centre, b: Centre, c: Centre, d: Centre, aux: f64, boys: &[f64]) -> Value {

@@ -27,6 +27,7 @@ pub enum Refusal {
     PrimitiveCount,
     HostCount,
     Nuclei,
+    BelowZero,
 }
 
 impl Refusal {
@@ -63,6 +64,7 @@ impl Refusal {
             Refusal::PrimitiveCount => (15, "a contracted function is not of 1 to 10 primitives"),
             Refusal::HostCount => (16, "host numbers are not one for each pair of primitives"),
             Refusal::Nuclei => (17, "a nucleus' charge is above 118, or a list is not of 1 to 32 nuclei"),
+            Refusal::BelowZero => (18, "a float below 0 has no root"),
         }
     }
 
@@ -87,6 +89,7 @@ impl Refusal {
             15 => Refusal::PrimitiveCount,
             16 => Refusal::HostCount,
             17 => Refusal::Nuclei,
+            18 => Refusal::BelowZero,
             _ => panic!("libxewumbal.a is not of this binding's version: refusal {number}"),
         })
     }
