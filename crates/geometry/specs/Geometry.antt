@@ -55,7 +55,7 @@ rhoOf a b c d = zOf a b ⊗ zOf c d ⊘ (zOf a b ⊕ zOf c d)
 abbrev pub tOf : Centre → Centre → Centre → Centre → Float
 tOf a b c d = rhoOf a b c d ⊗ r12Squared (rpOf a b) (rpOf c d)
 
--- 02, Q-12: the sum of exponents, as get_aux adds them
+-- 02, Q-12: the sum of exponents, as get_aux adds them; it counts as a geometry number (D-115)
 abbrev pub exponentSum : Centre → Centre → Centre → Centre → Float
 exponentSum a b c d = ((a .exponent ⊕ b .exponent) ⊕ c .exponent) ⊕ d .exponent
 

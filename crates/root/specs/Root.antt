@@ -49,7 +49,7 @@ rounded x = nearest (kept x) (compare (4 * x) (square ((2 * kept x + 1) * 2 ^ dr
 unfoldable pub nearestRoot : ℕ → Float
 nearestRoot n = let x = n * unitsInOne in units binary64 false (rounded x) (dropped x)
 
--- the root of −0.0 is −0.0; where no root is asked for it is what IEEE 754 says
+-- the root of −0.0 is −0.0; where no root is asked for it is what IEEE 754 says (D-113)
 unfoldable pub rootOf : Float → Float
 rootOf nan = nan
 rootOf (inf s) = cond s nan (inf s)

@@ -1,4 +1,4 @@
-// The root of an f64, the nearest f64 to the exact root: by whole numbers of 64 bits, and without a loop.
+// The root of an f64, the nearest f64 to the exact root: by whole numbers of 64 bits, and without a loop (D-114).
 ghost use Prim.Native.Nat.{_+_, _-_, _*_, _^_, _≤_, _<_};
 ghost use mathlib.Core.Path.{_≡_};
 ghost use Rattle.root.specs.Root.{unitsInOne, rootOf, rootedOf};
