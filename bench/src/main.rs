@@ -19,6 +19,7 @@ mod picture;
 #[path = "../../bindings/rust/src/raw.rs"]
 mod raw;
 mod requests;
+mod root;
 mod rust_side;
 mod salvage;
 mod same;
@@ -79,6 +80,7 @@ fn run(words: &[&str]) -> Result<(), String> {
         }
         ["nuclei"] => return table::print_lists(),
         ["contracted"] => return table::print_elements(),
+        ["root"] => return table::print_roots(),
         ["native"] => return table::print(&rows()?, true),
         ["emulated"] => return table::print(&rows()?, false),
         ["picture"] => picture::print(&rows()?),

@@ -18,7 +18,21 @@ fn place(centre: &Centre) -> [f64; 3] {
     [centre.x, centre.y, centre.z]
 }
 
-/// The aux (Coulomb: s) that the get_ function of this kind works out for these centres.
+/// os86.rs once more, unchanged, for get_k, which is private there.
+mod pairs {
+    #![allow(dead_code, clippy::all)]
+
+    include!("../../oracle/rust/src/integrals/os86.rs");
+
+    /// k1 k2 as get_aux has it.
+    pub fn product(z: [f64; 4], r: &[[f64; 3]; 4]) -> f64 {
+        let k1 = get_k(z[0], z[1], &r[0], &r[1]);
+        let k2 = get_k(z[2], z[3], &r[2], &r[3]);
+        k1 * k2
+    }
+}
+
+/// The aux that the get_ function of this kind works out for these centres; for Coulomb the k1 k2 that get_aux divides.
 pub fn aux(kind: u8, centres: &[Centre; 4]) -> f64 {
     let [a, b, c, d] = centres;
     let (za, zb) = (a.exponent, b.exponent);
@@ -27,7 +41,7 @@ pub fn aux(kind: u8, centres: &[Centre; 4]) -> f64 {
             boys::lend(&[1.0]);
             os86::get_nuclear(za, zb, &place(a), &place(b), &place(c), &[0; 6])
         }
-        4 => os86::aux(
+        4 => pairs::product(
             [za, zb, c.exponent, d.exponent],
             &[place(a), place(b), place(c), place(d)],
         ),

@@ -9,6 +9,7 @@ use crate::matrices::{self, SIZES};
 use crate::measure::Row;
 use crate::contracted::{self, ELEMENT};
 use crate::nuclei::{self, LIST};
+use crate::root;
 use crate::totals;
 use std::fmt::Display;
 use std::time::Duration;
@@ -251,6 +252,23 @@ fn print_totals() -> Result<(), String> {
     Ok(())
 }
 
+/// A root of ours is worked out in whole numbers, the machine's by one instruction.
+pub fn print_roots() -> Result<(), String> {
+    heading("root | inputs | xew_root, ns a call | f64::sqrt, ns a call | xew_root through f64::sqrt");
+    for (name, inputs) in root::lists() {
+        let [ours, machine] = root::times(name, &inputs, Duration::from_millis(100))?;
+        println!(
+            "| {} | {} | {:.1} | {:.1} | {:.1} |",
+            name,
+            inputs.len(),
+            ours,
+            machine,
+            ours / machine
+        );
+    }
+    Ok(())
+}
+
 /// A move may take three times the time of xew_check of the roll in form 1; the writer of form 2 no longer than form 1's. Beside
 /// it stands xew_check2, the judge of the roll that the way back moves.
 fn print_forms(rows: &[&Row]) -> Result<(), String> {
@@ -333,6 +351,7 @@ pub fn print(rows: &[Row], has_goals: bool) -> Result<(), String> {
     print_compare(&accepted)?;
     table.print_nuclei()?;
     table.print_contracted()?;
+    print_roots()?;
     print_totals()
 }
 
