@@ -336,6 +336,53 @@ fn values() {
     assert_eq!((j, k), ([1.5], [1.5]));
 }
 
+/// The bits of the roots of 2 and 3: 1.41421356.. and 1.73205080..
+const ROOT_OF_2: u64 = 0x3ff6a09e667f3bcd;
+const ROOT_OF_3: u64 = 0x3ffbb67ae8584caa;
+
+#[test]
+fn roots() {
+    let of = |x| match root(x) {
+        Root::Is(root) => root.to_bits(),
+        refused => panic!("{refused:?}"),
+    };
+    assert_eq!(of(4.0), 2f64.to_bits());
+    assert_eq!(of(2.0), ROOT_OF_2);
+    assert_eq!(of(3.0), ROOT_OF_3);
+    // The smallest subnormal is 2^-1074.
+    assert_eq!(of(f64::from_bits(1)), f64::from_bits((1023 - 537) << 52).to_bits());
+    assert_eq!(of(0.0), 0);
+    assert_eq!(of(-0.0), 1 << 63);
+    for below in [-1.0, -f64::from_bits(1), f64::MIN] {
+        assert_eq!(root(below), Root::Refused(Refusal::BelowZero));
+    }
+    for odd in [f64::NAN, -f64::NAN, f64::INFINITY, f64::NEG_INFINITY] {
+        assert_eq!(root(odd), Root::Refused(Refusal::InputNotFinite));
+    }
+}
+
+/// The roll of Coulomb s,s,s,s: its one term has no prefactor, so the integral is F(0) times s, where s is aux divided by the
+/// root of the sum of exponents.
+const COULOMB_S: [u8; 17] = [4, 0, 0, 0, 0, 0, 0, 0, 0, 0, 0, 0, 0, 1, 1, 0, 0];
+
+#[test]
+fn aux_of_coulomb_is_divided_by_the_root() {
+    let both = |exponents: [f64; 4], aux| {
+        let [a, b, c, d] = exponents.map(|exponent| Centre { exponent, ..UNIT });
+        let mut buffer = [UNTOUCHED; ENTRY];
+        let value = evaluate(&COULOMB_S, a, b, c, d, aux, &[0.5]);
+        assert_eq!(evaluate_grouped(&COULOMB_S, a, b, c, d, aux, &[0.5], &mut buffer), value);
+        value
+    };
+    assert_eq!(both([1.0; 4], 3.0), Value::Is(0.75));
+    assert_eq!(both([0.5; 4], 1.0), Value::Is(0.5 * (1.0 / f64::from_bits(ROOT_OF_2))));
+    // Added one after the other these are 3; two by two they would be more, with another root.
+    assert_eq!(both([3.0, f64::EPSILON, f64::EPSILON, f64::EPSILON], f64::from_bits(ROOT_OF_3)), Value::Is(0.5));
+    // A sum that is not finite, and a quotient.
+    assert_eq!(both([f64::MAX / 2.0; 4], 1.0), Value::Refused(Refusal::ResultNotFinite));
+    assert_eq!(both([1e-300; 4], f64::MAX), Value::Refused(Refusal::ResultNotFinite));
+}
+
 /// The roll of nuclear s,s: its one term has no prefactor, so the integral is aux times F(0).
 const NUCLEAR_S: [u8; 11] = [2, 0, 0, 0, 0, 0, 0, 1, 1, 0, 0];
 
@@ -747,7 +794,7 @@ macro_rules! refusal {
 }
 
 /// A call for each refusal.
-fn refusals() -> [(u8, Refusal); 17] {
+fn refusals() -> [(u8, Refusal); 18] {
     let mut room = [UNTOUCHED; 10];
     let mut request = |kind, orders, start| refusal!(Expanded, expand(kind, &orders, &mut room, start));
     let sum = |roll, a, boys| refusal!(Value, evaluate(roll, a, UNIT, UNIT, UNIT, 1.0, boys));
@@ -769,6 +816,7 @@ fn refusals() -> [(u8, Refusal); 17] {
         (15, refusal!(Value, contracted(&ROLL, units(&[]), units(&[]), &[]))),
         (16, refusal!(Value, contracted(&ROLL, units(&[[1.0; 2]]), units(&[[1.0; 2]]), &[]))),
         (17, refusal!(Value, nuclear(&NUCLEAR_S, UNIT, UNIT, nuclei(&[119]), 1.0, &[1.0]))),
+        (18, refusal!(Root, root(-1.0))),
     ];
     assert_eq!(room, [UNTOUCHED; 10]);
     found
