@@ -267,6 +267,7 @@ int main(int words, char **word)
         call.scene = strtoull(word[4], NULL, 10) - 1;
     do {
         seed_random(seed, ++call.scene);
+        uint64_t before = call.number;
         bool is_large = large_scene() <= LARGEST;
         alarm(is_large ? 120 : 10);
         if (is_large)
@@ -285,6 +286,8 @@ int main(int words, char **word)
             }
         else
             play();
+        play_quotients();
+        play_roots(ROOTS_A_CALL * (call.number - before));
     } while (words == 4 && call.number < calls);
     return words == 5 || report() ? 0 : 1;
 }

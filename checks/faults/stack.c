@@ -318,6 +318,16 @@ CALLER void grouped_term(void)
     note(xew_grouped_term(buffer, sizeof buffer, cursor.l, cursor.left, cursor.left).refusal);
 }
 
+CALLER void roots(void)
+{
+    FROM_HERE;
+    note(xew_root(2).refusal);
+    note(xew_root(0x1.fffffffffffffp1023).refusal);
+    note(xew_root(0x1p-1074).refusal);
+    note(xew_root(-0.0).refusal);
+    note(xew_root(-1).refusal);
+}
+
 CALLER void jk(void)
 {
     FROM_HERE;
@@ -399,6 +409,7 @@ int main(int words, char **word)
     row("xew_scale_total, each kind", scale_total);
     row("xew_roll_total, the most terms of each kind", roll_total);
     row("xew_prefactors, each kind", prefactors);
+    row("xew_root, normal, subnormal, -0.0, below 0", roots);
     row("xew_evaluate, the most terms of each kind", evaluate);
     row("xew_evaluate_grouped, the same", evaluate_grouped);
     row("xew_grouped_term, the last of the most", grouped_term);

@@ -29,6 +29,7 @@ static const struct {
     [SCALE_TOTAL] = { "xew_scale_total", { 1, 2, 3 } },
     [ROLL_TOTAL] = { "xew_roll_total", { 7, 14 } },
     [PREFACTORS] = { "xew_prefactors", { 1, 8, 9, 11 } },
+    [ROOT] = { "xew_root", { 8, 18 } },
     [EVALUATE] = { "xew_evaluate", { 7, 14, 17, 8, 9, 10, 11 } },
     [NUCLEAR] = { "xew_nuclear", { 7, 14, 1, 17, 8, 9, 10, 11 } },
     [CONTRACTED] = { "xew_contracted", { 15, 16, 7, 14, 1, 8, 9, 11 } },
@@ -85,7 +86,7 @@ static const struct {
     { "895 terms", 10458 },       { "10,265 terms", 127541 },      { "380,480 terms", 4665226 },
     { "185,377 terms", 2971075 }, { "1,048,572 terms", 14908072 }, { "15,001,920 bytes", 15001920 },
 };
-enum { REFUSALS = 18, LARGE = sizeof large / sizeof *large }; /* no refusal, and 1 to 17 */
+enum { REFUSALS = 19, LARGE = sizeof large / sizeof *large }; /* no refusal, and 1 to 18 */
 
 static const char *const fault_names[FAULTS] = { "", "shares beyond", "too many", "not the longest" };
 static const char *const disorder_names[DISORDERS] = { "", "L beyond", "another number", "Boys order falls",
@@ -107,6 +108,7 @@ static const char *const met_names[5] = { "refused", "both", "left", "right", "e
 
 uint64_t further_calls;
 static uint64_t answers[FUNCTIONS][REFUSALS], found[FUNCTIONS][3], faults[FAULTS], rolls[LARGE], empties[EMPTIES];
+static uint64_t minus_zeros, exponents[2048], lengths[53]; /* roots of -0.0, of floats with an exponent, of subnormals with so many digits */
 static uint64_t disorders[DISORDERS], tolds[TOLD], lists[LISTS], elements[ELEMENTS], mets[5], left[REFUSALS], just_over, most_histories;
 
 void begin(enum function f, const char *labels, size_t words_count, const uint64_t *words)
@@ -157,7 +159,7 @@ void count(enum function f, uint8_t refusal, int again)
         return;
     }
     answers[f][refusal]++;
-    call.number++;
+    call.number += f != ROOT;
 }
 
 void count_found(enum function f, uint8_t which)
@@ -201,6 +203,20 @@ void count_element(uint32_t left_count, uint32_t right_count, bool only_negative
     elements[PARTS_NEGATIVE] += only_negative;
 }
 
+void count_root(uint64_t bits)
+{
+    if (bits >> 63) {
+        minus_zeros += bits << 1 == 0;
+        return;
+    }
+    exponents[bits >> 52]++;
+    int digits = 0;
+    while (bits >> digits)
+        digits++;
+    if (digits <= 52)
+        lengths[digits]++;
+}
+
 void count_left(uint8_t refusal)
 {
     left[refusal]++;
@@ -229,6 +245,14 @@ void maybe_null(struct slice *slice, enum empty which)
 bool same_written(xew_written a, xew_written b)
 {
     return a.length == b.length && a.terms == b.terms && a.refusal == b.refusal;
+}
+
+static uint64_t least_of(const uint64_t *times, size_t count)
+{
+    uint64_t least = times[0];
+    for (size_t i = 1; i < count; i++)
+        least = times[i] < least ? times[i] : least;
+    return least;
 }
 
 static bool complete;
@@ -274,6 +298,11 @@ bool report(void)
             show(name, list_names[i], lists[i]);
         for (int i = 0; f == CONTRACTED && i < ELEMENTS; i++)
             show(name, element_names[i], elements[i]);
+        if (f == ROOT) {
+            show(name, "-0.0", minus_zeros);
+            show(name, "each exponent", least_of(exponents, 2047));
+            show(name, "each length of a subnormal", least_of(lengths, 53));
+        }
         if (f == EVALUATE_GROUPED)
             show(name, "grouped", left[0]);
         for (const uint8_t *refusal = functions[f].refusals; *refusal; refusal++) {

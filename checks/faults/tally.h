@@ -6,8 +6,8 @@
 
 enum function {
     EXPAND, MEASURE, EXPAND2, SHELL_LIST, SHELL2, SHELL4, OPEN, CHECK, NEXT, OPEN2, CHECK2, NEXT2, TO_FORM2, TO_FORM1,
-    SALVAGE, COMPARE, COMPARE_NEXT, SCALE_TOTAL, ROLL_TOTAL, PREFACTORS, EVALUATE, NUCLEAR, CONTRACTED, EVALUATE_GROUPED,
-    GROUPED_TERM, JK,
+    SALVAGE, COMPARE, COMPARE_NEXT, SCALE_TOTAL, ROLL_TOTAL, PREFACTORS, ROOT, EVALUATE, NUCLEAR, CONTRACTED,
+    EVALUATE_GROUPED, GROUPED_TERM, JK,
     FUNCTIONS
 };
 
@@ -32,7 +32,8 @@ void with_centres(const xew_centre *centres, size_t count); /* after those that 
 void with_primitives(const xew_primitive *primitives, size_t count); /* likewise */
 void with_aux(double aux);
 void hold(bool good, const char *what);
-void count(enum function f, uint8_t refusal, int again); /* again: 1 for the second call with the same arguments */
+/* again: 1 for the second call with the same arguments. Roots are not counted as calls that are drawn. */
+void count(enum function f, uint8_t refusal, int again);
 void count_found(enum function f, uint8_t found); /* of xew_next or xew_next2 */
 void count_fault(enum fault met); /* of a form 2 roll */
 void count_disorder(enum disorder met); /* of a grouping */
@@ -41,6 +42,7 @@ void count_met(uint8_t found); /* of xew_compare_next */
 void count_list(uint32_t nuclei, bool only_negative); /* nuclei of a total, and whether each value of theirs is -0.0 */
 /* Primitives of the two functions of an element, and whether each right one's part is -0.0. */
 void count_element(uint32_t left, uint32_t right, bool only_negative);
+void count_root(uint64_t bits); /* of the float whose root is asked */
 void count_left(uint8_t refusal); /* a grouping left in its buffer beside a value, or beside a refusal */
 void count_roll(xew_written written);
 void count_histories(uint64_t histories); /* of a request over the cap */
@@ -96,6 +98,11 @@ void play_nuclear(uint8_t *bytes);
 /* contracted.c: calls on two contracted functions, each made twice */
 void try_contracted(struct slice roll, xew_opened checked);
 void play_contracted(uint8_t *bytes);
+
+/* root.c: roots, each asked twice, and quotients of Coulomb values */
+enum { ROOTS_A_CALL = 10 }; /* roots for each other call that is drawn */
+void play_roots(uint64_t least);
+void play_quotients(void);
 
 /* compare.c: calls on two rolls, each made twice */
 void play_compare(uint8_t *bytes);

@@ -94,6 +94,26 @@ xew_written __wrap_xew_expand(uint8_t kind, const uint8_t (*orders)[12], uint8_t
     return written;
 }
 
+xew_rooted __real_xew_root(double x);
+xew_rooted __wrap_xew_root(double x)
+{
+    xew_rooted answer = __real_xew_root(x);
+    if (is("rounds-the-root-down") && !answer.refusal && fma(answer.root, answer.root, -x) > 0)
+        answer.root = nextafter(answer.root, 0);
+    if (is("roots-minus-zero-to-zero") && answer.root == 0)
+        answer.root = 0;
+    return answer;
+}
+
+/* An aux whose quotient is about the aux that was lent: as a host of version 3 means it. */
+static double undivided(const uint8_t *roll, size_t roll_len, const xew_centre c[4], double aux)
+{
+    if (!is("does-not-divide") || roll_len == 0 || *roll != 4)
+        return aux;
+    double sum = ((c[0].exponent + c[1].exponent) + c[2].exponent) + c[3].exponent, product = aux * sqrt(sum > 0 ? sum : 1);
+    return isfinite(product) ? product : aux;
+}
+
 xew_value __real_xew_evaluate(const uint8_t *roll, size_t roll_len, xew_centre a, xew_centre b, xew_centre c,
                               xew_centre d, double aux, const double *boys, size_t boys_len);
 xew_value __wrap_xew_evaluate(const uint8_t *roll, size_t roll_len, xew_centre a, xew_centre b, xew_centre c,
@@ -106,6 +126,7 @@ xew_value __wrap_xew_evaluate(const uint8_t *roll, size_t roll_len, xew_centre a
         c.charge = 1;
     if (is("judges-the-charge-first") && c.charge > XEW_MOST_CHARGE && roll_len > 0 && *roll == 2)
         return (xew_value){ 0, 0, 17 };
+    aux = undivided(roll, roll_len, (xew_centre[]){ a, b, c, d }, aux);
     xew_value value = __real_xew_evaluate(roll, roll_len, a, b, c, d, aux, boys, boys_len);
     if (is("remembers") && ++calls % 100 == 0 && !value.refusal)
         value.value += 1;
@@ -295,6 +316,7 @@ xew_value __wrap_xew_evaluate_grouped(const uint8_t *roll, size_t roll_len, xew_
         abort();
     if (buffer_len > 0)
         memcpy(before, buffer, buffer_len);
+    aux = undivided(roll, roll_len, (xew_centre[]){ a, b, c, d }, aux);
     xew_value value = __real_xew_evaluate_grouped(roll, roll_len, a, b, c, d, aux, boys, boys_len, buffer, buffer_len);
     size_t size = is_grouped ? grouping_size(opened, roll_len) : 0;
     if (is("leaves-no-grouping-beside-10") && value.refusal == 10 && is_grouped)
