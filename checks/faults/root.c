@@ -1,5 +1,5 @@
-/* Roots, each asked twice and held to C's sqrt bit for bit, which gives the nearest float on the machines that this runs on, and to
- * refusals 8 and 18 of document 02 (Q-12); and the quotient of a Coulomb value. */
+/* Roots, each asked twice and held to C's sqrt bit for bit, which gives the nearest float on the machines that this runs
+ * on, and to refusals 8 and 18 of document 02 (Q-12); and the quotient of a Coulomb value. */
 #include "tally.h"
 #include <math.h>
 #include <string.h>
@@ -62,12 +62,12 @@ static uint64_t any_square(void)
     return bits_of(ldexp(whole * whole, 2 * power));
 }
 
-/* The square of a float of 53 digits, rounded, and of one that lies between two floats: roots that are hard to round. */
+/* The square of a float of 53 digits, rounded, or of what lies half-way to the next: the roots that are hardest to round. */
 static uint64_t any_rounded_square(void)
 {
-    double float_ = of_bits(((512 + below(1023)) << 52) | (bits() & FRACTION));
-    long double half = (long double)float_ * (1 + 0x1p-53L);
-    return bits_of((double)(once_in(2) ? (long double)float_ * float_ : half * half));
+    uint64_t its = ((512 + below(1023)) << 52) | (bits() & FRACTION);
+    long double root = of_bits(its), half = (root + of_bits(its + 1)) / 2;
+    return bits_of((double)(once_in(2) ? root * root : half * half));
 }
 
 /* A subnormal of so many digits. */
@@ -96,8 +96,8 @@ static void try_zeros_and_no_numbers(void)
     try_root(any_nan());
 }
 
-/* At least so many roots: zeros and what is no number; then, from an exponent on by the number of the scene, each exponent and each
- * length of a subnormal in turn, and beside them floats of every sort. */
+/* At least so many roots: zeros and what is no number; then exponents and lengths of subnormals in turn, from one on that
+ * goes by the number of the scene, and beside them floats of every sort. */
 void play_roots(uint64_t least)
 {
     try_zeros_and_no_numbers();
@@ -129,7 +129,8 @@ static void hold_quotient(const xew_centre c[4], double aux, double boys, bool m
     xew_value value = xew_evaluate(roll.lent, roll.length, c[0], c[1], c[2], c[3], aux, f.lent, f.length);
     if (may_refuse && value.refusal)
         return;
-    hold(same_value(value, (xew_value){ 0.0 + boys * s, 0, 0 }), "xew_evaluate: s,s,s,s is not F(0) times aux divided by the root");
+    hold(same_value(value, (xew_value){ 0.0 + boys * s, 0, 0 }),
+         "xew_evaluate: s,s,s,s is not F(0) times aux divided by the root");
 }
 
 /* One quotient with numbers that do not change, and some with any. */

@@ -108,7 +108,8 @@ static const char *const met_names[5] = { "refused", "both", "left", "right", "e
 
 uint64_t further_calls;
 static uint64_t answers[FUNCTIONS][REFUSALS], found[FUNCTIONS][3], faults[FAULTS], rolls[LARGE], empties[EMPTIES];
-static uint64_t minus_zeros, exponents[2048], lengths[53]; /* roots of -0.0, of floats with an exponent, of subnormals with so many digits */
+/* Roots of -0.0; of floats not below 0 by their exponents, and of subnormals among them by their digits. */
+static uint64_t minus_zeros, exponents[2048], lengths[53];
 static uint64_t disorders[DISORDERS], tolds[TOLD], lists[LISTS], elements[ELEMENTS], mets[5], left[REFUSALS], just_over, most_histories;
 
 void begin(enum function f, const char *labels, size_t words_count, const uint64_t *words)
