@@ -47,10 +47,10 @@ static void accept(uint8_t refusal, size_t place)
         [12] = "matrix size out of range, or a slice length wrong for it",
         [13] = "component number not below the count",
         [14] = "the roll ends before a number does; carries the place",
-        [15] = "a contracted function is not of 1 to 10 primitives",
-        [16] = "host numbers are not one for each pair of primitives",
-        [17] = "a nucleus' charge is above 118, or a list is not of 1 to 32 nuclei",
-        [18] = "a float below 0 has no root",
+        [15] = "primitive count outside 1 to 10",
+        [16] = "host list length wrong for the primitives",
+        [17] = "charge above 118, or nucleus count outside 1 to 32",
+        [18] = "root of a number below 0",
     };
     if (refusal == 0) return;
     fprintf(stderr, "water: refused %d, place %zu: %s\n", refusal, place, words[refusal]);

@@ -25,10 +25,10 @@
  *   12  matrix size out of range, or a slice length wrong for it
  *   13  component number not below the count
  *   14  the roll ends before a number does; carries the place
- *   15  a contracted function is not of 1 to 10 primitives
- *   16  host numbers are not one for each pair of primitives
- *   17  a nucleus' charge is above 118, or a list is not of 1 to 32 nuclei
- *   18  a float below 0 has no root
+ *   15  primitive count outside 1 to 10
+ *   16  host list length wrong for the primitives
+ *   17  charge above 118, or nucleus count outside 1 to 32
+ *   18  root of a number below 0
  *
  * These are the words of docs/01-scope.md, which has the rules of a roll, for 14 of docs/requests/Q-5.md, for 2 and 4
  * of docs/requests/Q-6.md, which has the limits, for 15 and 16 of docs/requests/Q-1.md, for 1, 10 and 17 of
@@ -54,7 +54,7 @@ extern "C" {
 #endif
 
 /* Raised when a struct, a meaning or an answer changes. */
-#define XEW_VERSION 4
+#define XEW_VERSION 2
 
 #define XEW_KINDS 5               /* kinds are 0 to 4 */
 #define XEW_ORDERS 12             /* orders of a request */
@@ -332,7 +332,7 @@ xew_table xew_prefactors(uint8_t kind, xew_centre a, xew_centre b, xew_centre c,
 xew_rooted xew_root(double x);
 
 /* The integral over a roll, which is judged whole first. aux is the factor of every term; for Coulomb it is k1*k2, and the
- * library divides it by the root of the four exponents' sum, ((za + zb) + zc) + zd, as xew_root gives it. Up to version 3 a host
+ * library divides it by the root of the four exponents' sum, ((za + zb) + zc) + zd, as xew_root gives it. In version 1 a host
  * divided itself: an s that is handed in as aux now is not refused, and gives wrong values. boys are F(0) to F(L) for kinds 2
  * and 4, and none for the others. The nuclear value is C's charge times the integral, so charge 0 times an
  * integral below 0 is -0.0. Refusals: 7 or 14, 17 (kind 2), 8, 9, 10, 11. */

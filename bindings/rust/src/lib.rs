@@ -30,7 +30,7 @@ pub use raw::{Centre, Contraction, Cursor, Cursor2, Nuclei, Pair, Primitive};
 pub use refusal::Refusal;
 
 /// The version of include/xewumbal.h.
-pub const VERSION: u32 = 4;
+pub const VERSION: u32 = 2;
 
 /// Kinds are 0 to 4.
 pub const KINDS: u8 = 5;

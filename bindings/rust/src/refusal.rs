@@ -61,10 +61,10 @@ impl Refusal {
             Refusal::MatrixSize => (12, "matrix size out of range, or a slice length wrong for it"),
             Refusal::ComponentNumber => (13, "component number not below the count"),
             Refusal::CutRoll { .. } => (14, "the roll ends before a number does; carries the place"),
-            Refusal::PrimitiveCount => (15, "a contracted function is not of 1 to 10 primitives"),
-            Refusal::HostCount => (16, "host numbers are not one for each pair of primitives"),
-            Refusal::Nuclei => (17, "a nucleus' charge is above 118, or a list is not of 1 to 32 nuclei"),
-            Refusal::BelowZero => (18, "a float below 0 has no root"),
+            Refusal::PrimitiveCount => (15, "primitive count outside 1 to 10"),
+            Refusal::HostCount => (16, "host list length wrong for the primitives"),
+            Refusal::Nuclei => (17, "charge above 118, or nucleus count outside 1 to 32"),
+            Refusal::BelowZero => (18, "root of a number below 0"),
         }
     }
 

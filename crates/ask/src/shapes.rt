@@ -81,7 +81,7 @@ fn item(mark: u8, line: &[u8], a: Asked, bytes: &mut [u8], floats: &mut [f64]) -
 fn most(mark: u8) -> u64 {
     match mark {
         b'B' | b'+' => 255,
-        b'W' => 4294967295,
+        b'W' => words::MOST_WORD,
         b'L' => lent::LARGE as u64,
         b'G' => lent::LARGEST as u64,
         _ => u64::MAX,

@@ -10,10 +10,10 @@ use text::Parsed;
 pub(crate) const CURSOR: usize = 4;
 // The most numbers of a question: those of a cursor, and the prefactors of the term before.
 pub(crate) const NUMBERS: usize = CURSOR + Kind::PREFACTORS;
-// The most host numbers that a question has, and the most that its charge says.
-const MOST_HOST: u64 = 128;
+// The most of a number of 32 bits, as a charge is, and the most host numbers that a question has.
+pub(crate) const MOST_WORD: u64 = 4294967295;
 
-const MOST_CHARGE: u64 = 4294967295;
+const MOST_HOST: u64 = 128;
 
 // What is read of a line: its question's number, whether that is found, and a number for each word that the shape asks for. A
 // roll's bytes and floats stand at the front of what was lent for them.
@@ -189,7 +189,7 @@ fn charge(line: &[u8], a: Asked, room: &mut [f64]) -> Asked {
     let b = letter(line, a, b' ');
     match text::read_decimal(line, b.at) {
         Parsed::Is(n, end) => {
-            if MOST_CHARGE < n {
+            if MOST_WORD < n {
                 return misfit(b);
             }
             added(b, floats::of_bits(n), end, room)

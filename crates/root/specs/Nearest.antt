@@ -29,7 +29,7 @@ negative nan = false
 negative (inf s) = s
 negative (fin s m e) = s
 
--- The f64 r is nearer to the root of x than every other f64: none is as near, so no tie is left to settle. It has the sign of x, so the root of
+-- The f64 r is nearer to the root of x than every other f64 of its sign: none is as near, so no tie is left to settle. It has the sign of x, so the root of
 -- −0.0 is −0.0
 pub record NearestTo (x r : Float) : Type 0 where
   pub held : T (fits binary64 r)

@@ -9,7 +9,7 @@ ghost use Rattle.xewumbal.specs.Answers.{scaleTotalAnswer, rollTotalAnsw
 use kind::Kind;
 
 // Raised when a struct, a meaning or an answer changes. The header and the binding have the same (D-85).
-pub const VERSION: u32 = 4;
+pub const VERSION: u32 = 2;
 
 // Centres and lists of them go in as the crates below have them (D-109).
 pub type xew_centre = geometry::Centre;
