@@ -331,11 +331,13 @@ xew_table xew_prefactors(uint8_t kind, xew_centre a, xew_centre b, xew_centre c,
  * every machine; the root of -0.0 is -0.0. Refusals: 8 for a float that is not finite, 18 for one below 0. */
 xew_rooted xew_root(double x);
 
-/* The integral over a roll, which is judged whole first. aux is the factor of every term; for Coulomb it is k1*k2, and the
- * library divides it by the root of the four exponents' sum, ((za + zb) + zc) + zd, as xew_root gives it. In version 1 a host
- * divided itself: an s that is handed in as aux now is not refused, and gives wrong values. boys are F(0) to F(L) for kinds 2
- * and 4, and none for the others. The nuclear value is C's charge times the integral, so charge 0 times an
- * integral below 0 is -0.0. Refusals: 7 or 14, 17 (kind 2), 8, 9, 10, 11. */
+/* The integral over a roll, which is judged whole first. aux is the factor of every term, with z = za + zb and the squared
+ * distance AB (docs/AUX.md): for kinds 0, 1 and 3 exp(-za*zb/z*AB) * (pi/z)^1.5; for nuclear -2*sqrt(z/pi) times that; for
+ * Coulomb k1*k2, k1 being sqrt(2) * pi^1.25 / z * exp(-za*zb/z*AB) and k2 the same of C and D. The library divides k1*k2 by the
+ * root of ((za + zb) + zc) + zd, as xew_root gives it; in version 1 a host divided itself, and an s that is handed in now is
+ * not refused and gives wrong values. boys are F(0) to F(L) for kinds 2 and 4, and none for the others. The nuclear value is
+ * C's charge times the integral, so charge 0 times an integral below 0 is -0.0. Refusals: 7 or 14, 17 (kind 2), 8, 9, 10,
+ * 11. */
 xew_value xew_evaluate(const uint8_t *roll, size_t roll_len, xew_centre a, xew_centre b, xew_centre c, xew_centre d,
                        double aux, const double *boys, size_t boys_len);
 
@@ -355,13 +357,14 @@ xew_value xew_nuclear(const uint8_t *roll, size_t roll_len, xew_centre a, xew_ce
 xew_value xew_contracted(const uint8_t *roll, size_t roll_len, xew_contraction left, xew_contraction right,
                          const double *host, size_t host_len);
 
-/* The same integral as xew_evaluate's, bit for bit, lent a buffer in which a Coulomb roll's terms are grouped by Boys order and then summed
- * in one pass: for large rolls it is quicker. The buffer needs XEW_ENTRY bytes for each term of a Coulomb roll; for other
- * kinds it is not looked at. Refusals: 7 or 14; for a Coulomb roll 6 when the buffer is shorter; then 17 (kind 2), 8, 9, 10, 11. Once 6
- * is passed the grouping stands in the front of the buffer and stays there whatever is answered: the one case in which a
- * refusal changes lent bytes. It takes at most XEW_ENTRY bytes a term; everything behind it is as it was. An entry is the
- * term's number in the roll, counted from 1, as a number of a roll, then the term as the roll has it; the groups stand in
- * the order of their Boys orders, and within a group the entries in the order of the roll. */
+/* The same integral as xew_evaluate's, bit for bit, lent a buffer in which a Coulomb roll's terms are grouped by Boys
+ * order and then summed in one pass: for large rolls it is quicker. The buffer needs XEW_ENTRY bytes for each term of a
+ * Coulomb roll; for other kinds it is not looked at. Refusals: 7 or 14; for a Coulomb roll 6 when the buffer is shorter;
+ * then 17 (kind 2), 8, 9, 10, 11. Once 6 is passed the grouping stands in the front of the buffer and stays there whatever
+ * is answered: the one case in which a refusal changes lent bytes. It takes at most XEW_ENTRY bytes a term; everything
+ * behind it is as it was. An entry is the term's number in the roll, counted from 1, as a number of a roll, then the term
+ * as the roll has it; the groups stand in the order of their Boys orders, and within a group the entries in the order of
+ * the roll. */
 xew_value xew_evaluate_grouped(const uint8_t *roll, size_t roll_len, xew_centre a, xew_centre b, xew_centre c,
                                xew_centre d, double aux, const double *boys, size_t boys_len, uint8_t *buffer,
                                size_t buffer_len);

@@ -518,8 +518,9 @@ pub fn root(x: f64) -> Root {
     }
 }
 
-/// The integral over a roll, which is judged whole first. `aux` is the factor of every term; for Coulomb it is k1·k2, which the
-/// library divides by the root of the sum of the four exponents. `boys` are F(0) to F(L) for kinds 2 and 4, and none for the
+/// The integral over a roll, which is judged whole first. `aux` is the factor of every term (docs/AUX.md); for Coulomb it is
+/// k1·k2, which the library divides by the root of the sum of the four exponents: an s that was divided already, as in version
+/// 1, is not refused and gives wrong values. `boys` are F(0) to F(L) for kinds 2 and 4, and none for the
 /// others. The nuclear value is C's charge times the integral.
 pub fn evaluate(roll: &[u8], a: Centre, b: Centre, c: Centre, d: Centre, aux: f64, boys: &[f64]) -> Value {
     let answer = raw::evaluate(roll, a, b, c, d, aux, boys);
@@ -550,10 +551,10 @@ pub fn contracted(roll: &[u8], left: Contraction, right: Contraction, host: &[f6
     }
 }
 
-/// The same integral as [`evaluate`]'s, bit for bit, lent a buffer in which a Coulomb roll's terms are grouped by Boys order and then summed in
-/// one pass. The buffer needs [`ENTRY`] bytes for each term of a Coulomb roll, else the roll is refused 6 once it has been
-/// read; for other kinds it is not looked at. Once 6 is passed the grouping stays in the front of the buffer, whatever is
-/// answered; everything behind it is as it was.
+/// The same integral as [`evaluate`]'s, bit for bit, lent a buffer in which a Coulomb roll's terms are grouped by Boys
+/// order and then summed in one pass. The buffer needs [`ENTRY`] bytes for each term of a Coulomb roll, else the roll
+/// is refused 6 once it has been read; for other kinds it is not looked at. Once 6 is passed the grouping stays in the
+/// front of the buffer, whatever is answered; everything behind it is as it was.
 #[rustfmt::skip]
 #[allow(clippy::too_many_arguments)]
 pub fn evaluate_grouped(roll: &[u8], a: Centre, b: Centre, c: Centre, d: Centre, aux: f64, boys: &[f64], buffer: &mut [u8]) -> Value {
