@@ -38,6 +38,19 @@ impl Random {
         list[self.index(list.len())]
     }
 
+    /// Faults put into a question: mostly none, often one, at times two to five that meet.
+    pub fn put_faults<T>(&mut self, faults: &[fn(&mut Random, &mut T)], asked: &mut T) {
+        let count = match self.below(20) {
+            0..=10 => 0,
+            11..=16 => 1,
+            _ => self.from_to(2, 5),
+        };
+        for _ in 0..count {
+            let fault = self.one_of(faults);
+            fault(self, asked);
+        }
+    }
+
     /// At least 0.0 and below 1.0.
     pub fn fraction(&mut self) -> f64 {
         (self.bits() >> 11) as f64 / (1_u64 << 53) as f64

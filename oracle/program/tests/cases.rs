@@ -1,14 +1,10 @@
 //! Document 01's cases, those of 02, and the lines that are no question.
 
-use oracle::answer::answer_line;
+mod shared;
+
 use oracle::rolls;
 use oracle::second::{read_number, Unread, NOW};
-
-fn ask(question: &str) -> String {
-    let mut answer = Vec::new();
-    answer_line(question.as_bytes(), &mut answer);
-    String::from_utf8(answer).expect("answers are text")
-}
+use shared::ask;
 
 /// Expands, then lists the roll: the terms as the listing writes them.
 fn terms(request: &str) -> String {

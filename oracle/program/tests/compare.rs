@@ -1,19 +1,15 @@
 //! which terms of two rolls differ, by cases that are worked out from the papers by hand and by
 //! what holds of every two rolls.
 
-use oracle::answer::answer_line;
+mod shared;
+
 use oracle::compare_rolls;
 use oracle::parse::{write_roll, LONGEST_LINE};
 use oracle::random::Random;
 use oracle::second::{compared, moved, Form, Side};
 use oracle::{form2_rolls, rust_side};
 use std::collections::BTreeMap;
-
-fn ask(question: &str) -> String {
-    let mut answer = Vec::new();
-    answer_line(question.as_bytes(), &mut answer);
-    String::from_utf8(answer).expect("answers are text")
-}
+use shared::ask;
 
 /// Digits with blanks between the parts of a roll.
 fn joined(digits: &str) -> String {

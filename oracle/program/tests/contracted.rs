@@ -1,24 +1,13 @@
 //! the element of two contracted functions, and the question `contracted`.
 
-use oracle::answer::{answer_line, rust_element, same, Way};
+mod shared;
+
+use oracle::answer::{rust_element, same, Way};
 use oracle::parse::{self, Centre, Contracted, Counted, Line, Primitive, Question};
 use oracle::questions::write_all;
 use oracle::rust_side;
 use oracle::second::{self, NOW};
-
-fn ask(question: &str) -> String {
-    let mut answer = Vec::new();
-    answer_line(question.as_bytes(), &mut answer);
-    String::from_utf8(answer).expect("answers are text")
-}
-
-fn bits(float: f64) -> String {
-    format!("{:016x}", float.to_bits())
-}
-
-fn value(float: f64) -> String {
-    format!("value {}", bits(float))
-}
+use shared::{ask, bits, value};
 
 /// Overlap s,s: the value of a pair is its host number.
 const SS: &str = "0000000000000001010000";

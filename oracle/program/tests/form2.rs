@@ -1,14 +1,10 @@
 //! form 2 of a roll, by cases that are worked out from documents 01 and 02 by hand.
 
-use oracle::answer::answer_line;
+mod shared;
+
 use oracle::second::{Form, Term, BEFORE, NOW};
 use std::collections::HashSet;
-
-fn ask(question: &str) -> String {
-    let mut answer = Vec::new();
-    answer_line(question.as_bytes(), &mut answer);
-    String::from_utf8(answer).expect("answers are text")
-}
+use shared::ask;
 
 /// Digits with blanks between the parts of a roll.
 fn joined(digits: &str) -> String {

@@ -1,6 +1,8 @@
 //! terms laid out by Boys order, their sum in one pass, and the question `grouped`.
 
-use oracle::answer::{answer_line, same};
+mod shared;
+
+use oracle::answer::same;
 use oracle::floats;
 use oracle::odd_lines::most_grouped;
 use oracle::parse::{self, Line, Question, LONGEST_LINE};
@@ -8,12 +10,7 @@ use oracle::questions::write_all;
 use oracle::random::Random;
 use oracle::second::{self, Entry, Header, Term, NOW};
 use oracle::{rolls, rust_side};
-
-fn ask(question: &str) -> String {
-    let mut answer = Vec::new();
-    answer_line(question.as_bytes(), &mut answer);
-    String::from_utf8(answer).expect("answers are text")
-}
+use shared::ask;
 
 /// A Coulomb roll that reads: an expansion, one in another order, or any terms; now and then a
 /// long one.

@@ -1,25 +1,14 @@
 //! a charge in each centre, and the question `nuclei`.
 
-use oracle::answer::{answer_line, same};
+mod shared;
+
+use oracle::answer::same;
 use oracle::parse::{self, Centre, Line, Nuclei, Question, LONGEST_LINE};
 use oracle::questions::write_all;
 use oracle::random::Random;
 use oracle::second::{self, NOW};
 use oracle::{floats, rolls, rust_side};
-
-fn ask(question: &str) -> String {
-    let mut answer = Vec::new();
-    answer_line(question.as_bytes(), &mut answer);
-    String::from_utf8(answer).expect("answers are text")
-}
-
-fn bits(float: f64) -> String {
-    format!("{:016x}", float.to_bits())
-}
-
-fn value(float: f64) -> String {
-    format!("value {}", bits(float))
-}
+use shared::{ask, bits, value};
 
 /// Nuclear s,s: the value is aux times F(0).
 const SS: &str = "0200000000000001010000";

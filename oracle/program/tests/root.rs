@@ -1,20 +1,13 @@
 //! the root over whole numbers, the question `root`, and Coulomb evaluations whose aux is k1 k2.
 
-use oracle::answer::{answer_line, same};
+mod shared;
+
+use oracle::answer::same;
 use oracle::floats;
 use oracle::parse::Centre;
 use oracle::random::Random;
 use oracle::{roots, rust_side, second};
-
-fn ask(question: &str) -> String {
-    let mut answer = Vec::new();
-    answer_line(question.as_bytes(), &mut answer);
-    String::from_utf8(answer).expect("answers are text")
-}
-
-fn bits(x: f64) -> String {
-    format!("{:016x}", x.to_bits())
-}
+use shared::{ask, bits};
 
 #[test]
 fn roots_by_hand() {

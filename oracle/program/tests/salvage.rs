@@ -1,18 +1,14 @@
 //! what is left of a damaged roll, by cases that are worked out from the papers by hand and by
 //! what holds of every roll.
 
-use oracle::answer::answer_line;
+mod shared;
+
 use oracle::parse::{write_roll, Cursor, LONGEST_LINE};
 use oracle::random::Random;
 use oracle::salvage_rolls;
 use oracle::second::{self, salvaged, Form, Header, Salvaged, Step, Term, NOW};
 use oracle::{form2_rolls, requests, rust_side};
-
-fn ask(question: &str) -> String {
-    let mut answer = Vec::new();
-    answer_line(question.as_bytes(), &mut answer);
-    String::from_utf8(answer).expect("answers are text")
-}
+use shared::ask;
 
 /// Digits with blanks between the parts of a roll.
 fn joined(digits: &str) -> String {

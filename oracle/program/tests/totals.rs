@@ -1,17 +1,13 @@
 //! The scales added up: 02's examples, its rule, and the kinds of which it claims nothing.
 
-use oracle::answer::answer_line;
+mod shared;
+
 use oracle::parse::write_roll;
 use oracle::random::Random;
 use oracle::second::{self, Term, NOW};
 use oracle::{requests, rolls, rust_side};
 use std::collections::BTreeMap;
-
-fn ask(question: &str) -> String {
-    let mut answer = Vec::new();
-    answer_line(question.as_bytes(), &mut answer);
-    String::from_utf8(answer).expect("answers are text")
-}
+use shared::ask;
 
 fn ask_scales(roll: &[u8]) -> String {
     let mut line = b"scales ".to_vec();
