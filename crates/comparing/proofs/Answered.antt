@@ -17,7 +17,8 @@ use Rattle.comparing.specs.declared.differ.Compared.{Compared}
 use Rattle.comparing.specs.declared.differ.Outcome.the-variants as outcome
 use Rattle.comparing.specs.declared.pair.Pair.{Pair}
 use Rattle.comparing.specs.Sides.{sideAt, openSide, checkSide}
-use Rattle.comparing.specs.Text.{sameNumbers, differences, kindsDiffer, ordersDiffer, termsDiffer}
+use Rattle.laws.specs.Same.{sameNumbers}
+use Rattle.comparing.specs.Text.{differences, kindsDiffer, ordersDiffer, termsDiffer}
 use Rattle.comparing.specs.Pairs.{linesOf}
 use Rattle.comparing.specs.Answers.{refusedCompared, firstPair, comparedAs, comparedOf, usedAs, usedOf}
 use Rattle.comparing.specs.inner.Sided.{Sided}

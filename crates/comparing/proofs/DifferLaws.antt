@@ -22,7 +22,7 @@ use Rattle.comparing.specs.declared.pair.Line.the-variants as line
 use Rattle.comparing.specs.declared.pair.Pair.{Pair}
 use Rattle.comparing.specs.declared.pair.Met.{Met}
 use Rattle.comparing.specs.Sides.{stepSide}
-use Rattle.comparing.specs.Text.{sameNumbers}
+use Rattle.laws.specs.Same.{sameNumbers}
 use Rattle.comparing.specs.Pairs.{noPair, turnAs, turnOf, metFrom, nextOf, isLine, termsLeft, linesFrom, linesOf}
 use Rattle.comparing.specs.Answers.{refusedCompared, usedAs, usedOf}
 use Rattle.comparing.proofs.SidesLaws.{step-falls}

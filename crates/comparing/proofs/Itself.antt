@@ -8,19 +8,21 @@ use lib.ListN.{length}
 use Rattle.kind.specs.Kinds.{numberOf}
 use Rattle.kind.specs.declared.Kind.{Kind}
 use Rattle.kind.specs.declared.Kind.the-variants.{Overlap, Kinetic, Nuclear, Moment, Coulomb}
+use Rattle.laws.proofs.SameLaws.{same-numbers}
+use Rattle.term.proofs.SameTerms.{term-same}
 use Rattle.term.specs.Terms.{Term}
 use Rattle.number.specs.Numbers.{groups, bytesOf, Bytes}
 use Rattle.roll.specs.Bytes.{rollBytes}
 use Rattle.roll.specs.Reading.{got, Roll, rollAt}
 use Rattle.form2.specs.Bytes.{formTwo, rollBytes2}
 use Rattle.form2.specs.Moves.{inForm1, inForm2}
+use Rattle.form2.specs.Header.{isForm2}
 use Rattle.form2.specs.Reading.{rollAt2}
 use Rattle.form2.proofs.Forms.{form2-and-back, form1-and-back}
 use Rattle.text.specs.Digits.{glyph, decimalOf}
 use Rattle.listing.specs.Text.{feed}
-use Rattle.comparing.specs.Sides.{isForm2, sideAt}
+use Rattle.comparing.specs.Sides.{sideAt}
 use Rattle.comparing.specs.Text.{differences, differWord, countLine, pairLine, ordersLine, headText, linesText, compareText, saidOf}
-use Rattle.comparing.proofs.Same.{numbers-same, term-same}
 
 pub none-differ : (n : ℕ) (ts : List Term) → differences n ts ts ≡ []
 unfolding differences
@@ -31,7 +33,7 @@ none-differ n (t ∷ ts) = rw (term-same t t refl) (none-differ (n + 1) ts)
 pub nothing-else : (r : Roll) → compareText r r ≡ countLine 0
 unfolding compareText headText linesText pairLine ordersLine
 nothing-else r =
-    rw (none-differ 1 (r .terms), eq-eqb (numberOf (r .kind)) (numberOf (r .kind)) refl, numbers-same (r .orders) (r .orders) refl, eq-eqb (length (r .terms)) (length (r .terms)) refl)
+    rw (none-differ 1 (r .terms), eq-eqb (numberOf (r .kind)) (numberOf (r .kind)) refl, same-numbers (r .orders) (r .orders) refl, eq-eqb (length (r .terms)) (length (r .terms)) refl)
     (append-nil _ ∙ append-nil _ ∙ append-nil (countLine 0))
 
 -- which is `0 differ`, and a line feed

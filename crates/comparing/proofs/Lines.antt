@@ -8,7 +8,7 @@ use lib.ListN.{length}
 use Rattle.kind.specs.Limits.{mostTerms}
 use Rattle.laws.proofs.Cases.{tested}
 use Rattle.term.specs.declared.Term.{Term as Held}
-use Rattle.term.specs.Terms.{Term, held}
+use Rattle.term.specs.Terms.{Term, held, sameTerm}
 use Rattle.roll.specs.declared.cursor.Found.{Found}
 use Rattle.roll.specs.declared.cursor.Found.the-variants as found
 use Rattle.roll.specs.inner.Held.{fromHeld}
@@ -19,7 +19,7 @@ use Rattle.comparing.specs.declared.pair.Pair.{Pair}
 use Rattle.comparing.specs.declared.pair.Met.{Met}
 use Rattle.comparing.specs.declared.pair.Turn.{Turn}
 use Rattle.comparing.specs.Sides.{stepSide}
-use Rattle.comparing.specs.Text.{sameTerm, Difference, both, left, right, differences}
+use Rattle.comparing.specs.Text.{Difference, both, left, right, differences}
 use Rattle.comparing.specs.Pairs.{numberAfter, sameHeld, last, metBy, staying, listed, turnAs, turnOf, nextOf, isLine, linesOf}
 use Rattle.comparing.specs.inner.Sided.{Gives}
 use Rattle.comparing.proofs.PairLaws.{number-more, turn-by, turn-next, turn-over}

@@ -7,7 +7,7 @@ use native.Mathlib.Omega.{arith}
 use lib.ListN.{length}
 use Rattle.kind.specs.Limits.{mostTerms}
 use Rattle.laws.proofs.Cases.{tested}
-use Rattle.term.specs.Terms.{Term}
+use Rattle.term.specs.Terms.{Term, sameTerm}
 use Rattle.roll.specs.declared.cursor.Found.the-variants as found
 use Rattle.roll.specs.inner.Held.{fromHeld}
 use Rattle.form2.specs.declared.header.Opened2.{Opened2}
@@ -16,7 +16,7 @@ use Rattle.comparing.specs.declared.pair.Pair.{Pair}
 use Rattle.comparing.specs.declared.pair.Met.{Met}
 use Rattle.comparing.specs.declared.pair.Turn.{Turn}
 use Rattle.comparing.specs.Sides.{stepSide}
-use Rattle.comparing.specs.Text.{sameTerm, both, left, right, differences}
+use Rattle.comparing.specs.Text.{both, left, right, differences}
 use Rattle.comparing.specs.Pairs.{numberAfter, sameHeld, withoutTerms, last, metBy, staying, listed, turnOf, nextOf, isLine}
 use Rattle.comparing.specs.Answers.{firstPair}
 use Rattle.comparing.specs.inner.Sided.{Gives, Sided}

@@ -26,7 +26,7 @@ use Rattle.comparing.specs.declared.pair.Pair.{Pair}
 use Rattle.comparing.specs.declared.pair.Met.{Met}
 use Rattle.comparing.specs.declared.pair.Turn.{Turn}
 use Rattle.comparing.specs.Sides.{stepSide}
-use Rattle.comparing.specs.Text.{sameNumbers}
+use Rattle.laws.specs.Same.{sameNumbers}
 use Rattle.comparing.specs.Pairs.{numberAfter, sameHeld, noPair, last, metBy, staying, listed, turnAs, turnFrom, turnOf, metFrom, nextOf}
 use Rattle.comparing.proofs.SidesLaws.{step-falls}
 

@@ -6,9 +6,9 @@ use mathlib.Core.List.{List, [], _∷_, List·Memᴰ, List·Memᴰ·head, List·
 use mathlib.Core.Logic.{_⊎_, inl, inr}
 use native.Mathlib.Omega.{arith}
 use Rattle.laws.proofs.Cases.{clash, tested}
-use Rattle.term.specs.Terms.{Term}
-use Rattle.comparing.specs.Text.{sameTerm, Difference, both, left, right, differences}
-use Rattle.comparing.proofs.Same.{term-same, term-equal}
+use Rattle.term.specs.Terms.{Term, sameTerm}
+use Rattle.comparing.specs.Text.{Difference, both, left, right, differences}
+use Rattle.term.proofs.SameTerms.{term-same, term-equal}
 
 -- what stands at a place of a list, counted from 0
 pub data Entry : Type 0 where

@@ -1,19 +1,17 @@
 -- One side: which form it has, and that the answers of both forms are those of the definition.
-use Prim.Native.Nat.{ℕ, _+_, _-_, _≤_, _<_}
+use Prim.Native.Nat.{ℕ, _-_, _<_}
 use mathlib.Core.Path.{_≡_, refl, sym, ap, _∙_}
 use mathlib.Core.Bool.{Bool, true, false, cond, _||_}
 use mathlib.Core.List.{List}
 use native.Mathlib.Omega.{arith}
-use borrow.Author.Tests.{le-leb, lt-leb, eqb-false}
-use lib.Dec.{eqb, leb}
-use lib.ListN.{length, getD}
-use Rattle.kind.specs.Kinds.{kindOf, numberOf}
+use borrow.Author.Tests.{eqb-false}
+use lib.Dec.{eqb}
+use lib.ListN.{length}
+use Rattle.kind.specs.Kinds.{kindOf}
 use Rattle.kind.specs.declared.Kind.{Kind}
-use Rattle.kind.specs.declared.Kind.the-variants.{Coulomb}
 use Rattle.kind.specs.declared.Named.{Named}
 use Rattle.kind.specs.declared.Named.the-variants as named
 use Rattle.laws.proofs.Cases.{clash, tested}
-use Rattle.laws.proofs.Lists.{length-zero}
 use Rattle.term.specs.Terms.{Term}
 use Rattle.roll.specs.declared.cursor.Cursor.{Cursor}
 use Rattle.roll.specs.declared.cursor.Step.{Step}
@@ -25,25 +23,10 @@ use Rattle.roll.specs.Header.{checkOf}
 use Rattle.form2.specs.declared.cursor.Cursor2.{Cursor2}
 use Rattle.form2.specs.declared.cursor.Step2.{Step2}
 use Rattle.form2.specs.declared.header.Opened2.{Opened2}
-use Rattle.form2.specs.Bytes.{formTwo}
 use Rattle.form2.specs.Cursor.{earlierOf, refusedStep2, endStep2, steppedAfter, stepWith2, forgedEarlier, stepAs2, step2Of}
-use Rattle.form2.specs.Header.{firstCursor, begun, check2Of}
+use Rattle.form2.specs.Header.{firstCursor, begun, isForm2, check2Of}
 use Rattle.form2.specs.Reading.{termAfter}
-use Rattle.comparing.specs.Sides.{isForm2, checkSide, asStep2, stepSide}
-
--- ---- the first byte
-
-pub form2-empty : (s : List ℕ) → length s ≡ 0 → false ≡ isForm2 s
-unfolding isForm2
-form2-empty s none = let is = length-zero s none in rw is refl
-
-pub form2-low : (s : List ℕ) (b : ℕ) → b ≡ getD s 0 0 → b < formTwo → false ≡ isForm2 s
-unfolding isForm2
-form2-low s b is low = let off : leb formTwo (getD s 0 0) ≡ false = lt-leb formTwo (getD s 0 0) (omega arith) in rw off refl
-
-pub form2-high : (s : List ℕ) (b n : ℕ) → b ≡ getD s 0 0 → formTwo ≤ b → n ≡ numberOf Coulomb → leb b (formTwo + n) ≡ isForm2 s
-unfolding isForm2
-form2-high s b n is low most = let on : leb formTwo (getD s 0 0) ≡ true = le-leb formTwo (getD s 0 0) (omega arith) in rw (on, is, most) refl
+use Rattle.comparing.specs.Sides.{checkSide, asStep2, stepSide}
 
 -- ---- the answers
 

@@ -27,13 +27,13 @@ use Rattle.form2.specs.declared.cursor.Cursor2.{Cursor2}
 use Rattle.form2.specs.declared.cursor.Step2.{Step2}
 use Rattle.form2.specs.declared.header.Opened2.{Opened2}
 use Rattle.form2.specs.Cursor.{step2Of, gathered2}
-use Rattle.form2.specs.Header.{firstCursor, begun, open2Of, judged2, check2Of}
+use Rattle.form2.specs.Header.{isForm2, firstCursor, begun, open2Of, judged2, check2Of}
 use Rattle.form2.specs.Reading.{headerAt2, termsAfter, rollAt2}
 use Rattle.form2.proofs.Checked.{reads-checked2, checked-reads2, checked-refused2}
 use Rattle.form2.proofs.Inside.{header-read2}
 use Rattle.form2.proofs.Steps.{header-steps2}
 use Rattle.form2.proofs.Written.{terms-count2}
-use Rattle.comparing.specs.Sides.{isForm2, sideAt, openSide, checkSide, asStep2, stepSide}
+use Rattle.comparing.specs.Sides.{sideAt, openSide, checkSide, asStep2, stepSide}
 use Rattle.comparing.specs.inner.Sided.{Gives, Sided}
 
 -- ---- the terms that steps gather are the terms that they give

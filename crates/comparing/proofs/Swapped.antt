@@ -8,14 +8,17 @@ use lib.Dec.{eqb}
 use lib.ListN.{length, length-map}
 use Rattle.kind.specs.Kinds.{numberOf}
 use Rattle.laws.proofs.Cases.{tested}
-use Rattle.term.specs.Terms.{Term}
+use Rattle.term.specs.Terms.{Term, sameTerm}
 use Rattle.roll.specs.Reading.{got, Roll}
 use Rattle.listing.specs.Text.{kindWord}
 use Rattle.comparing.specs.declared.differ.Compared.{Compared}
 use Rattle.comparing.specs.Sides.{sideAt}
 use Rattle.comparing.specs.Answers.{comparedOf}
-use Rattle.comparing.specs.Text.{sameNumbers, sameTerm, Difference, both, left, right, differences, termsWord, countLine, pairLine, ordersLine, kindsDiffer, ordersDiffer, termsDiffer, headText, linesText, compareText}
-use Rattle.comparing.proofs.Same.{alike, numbers-same, numbers-equal, term-same, term-equal}
+use Rattle.laws.specs.Same.{sameNumbers}
+use Rattle.comparing.specs.Text.{Difference, both, left, right, differences, termsWord, countLine, pairLine, ordersLine, kindsDiffer, ordersDiffer, termsDiffer, headText, linesText, compareText}
+use Rattle.laws.proofs.SameLaws.{same-numbers, same-numbers-is}
+use Rattle.term.proofs.SameTerms.{term-same, term-equal}
+use Rattle.comparing.proofs.Same.{alike}
 
 abbrev pub swap : Difference → Difference
 swap (both n l r) = both n r l
@@ -44,7 +47,7 @@ eqb-swapped : (n m : ℕ) → eqb n m ≡ eqb m n
 eqb-swapped n m = alike (eqb n m) (eqb m n) (λ e. eq-eqb m n (sym (eqb-true n m e))) (λ e. eq-eqb n m (sym (eqb-true m n e)))
 
 numbers-swapped : (l r : List ℕ) → sameNumbers l r ≡ sameNumbers r l
-numbers-swapped l r = alike (sameNumbers l r) (sameNumbers r l) (λ e. numbers-same r l (sym (numbers-equal l r e))) (λ e. numbers-same l r (sym (numbers-equal r l e)))
+numbers-swapped l r = alike (sameNumbers l r) (sameNumbers r l) (λ e. same-numbers r l (sym (same-numbers-is l r e))) (λ e. same-numbers l r (sym (same-numbers-is r l e)))
 
 -- the whole text with the sides swapped: the same count, the same lines, each with its sides swapped
 pub swapped-text : (l r : Roll) → compareText r l ≡

@@ -10,8 +10,9 @@ use Rattle.kind.specs.declared.Named.the-variants.{Is}
 use Rattle.kind.specs.Kinds.{kindOf, numberOf}
 use Rattle.kind.proofs.KindNumber.{kind-number}
 use Rattle.roll.specs.Reading.{Roll}
-use Rattle.comparing.specs.Text.{sameNumbers, kindsDiffer, ordersDiffer, termsDiffer}
-use Rattle.comparing.proofs.Same.{numbers-equal}
+use Rattle.laws.specs.Same.{sameNumbers}
+use Rattle.comparing.specs.Text.{kindsDiffer, ordersDiffer, termsDiffer}
+use Rattle.laws.proofs.SameLaws.{same-numbers-is}
 
 pub kinds-unsaid : (l r : Roll) → kindsDiffer l r ≡ false → l .kind ≡ r .kind
 kinds-unsaid l r e =
@@ -20,7 +21,7 @@ kinds-unsaid l r e =
     cc
 
 pub orders-unsaid : (l r : Roll) → ordersDiffer l r ≡ false → l .orders ≡ r .orders
-orders-unsaid l r e = numbers-equal (l .orders) (r .orders) (not-false (sameNumbers (l .orders) (r .orders)) e)
+orders-unsaid l r e = same-numbers-is (l .orders) (r .orders) (not-false (sameNumbers (l .orders) (r .orders)) e)
 
 pub terms-unsaid : (l r : Roll) → termsDiffer l r ≡ false → length (l .terms) ≡ length (r .terms)
 terms-unsaid l r e = eqb-true (length (l .terms)) (length (r .terms)) (not-false (eqb (length (l .terms)) (length (r .terms))) e)

@@ -4,11 +4,12 @@ use mathlib.Core.Path.{_≡_, refl}
 use mathlib.Core.List.{List, [], _∷_, _++_}
 use Rattle.kind.specs.declared.Kind.{Kind}
 use Rattle.kind.specs.declared.Kind.the-variants.{Overlap, Kinetic, Moment}
-use Rattle.term.specs.Terms.{Term}
+use Rattle.term.specs.Terms.{Term, sameTerm}
 use Rattle.text.specs.Digits.{glyph, decimalOf}
 use Rattle.roll.specs.Reading.{Roll, got, refused}
 use Rattle.listing.specs.Text.{afterBlanks}
-use Rattle.comparing.specs.Text.{sameNumbers, sameTerm, differences, countLine, pairLine, ordersLine, headText, readingText, numberedText, oneLine, lineText, linesText, compareText, refusedText, saidOf}
+use Rattle.laws.specs.Same.{sameNumbers}
+use Rattle.comparing.specs.Text.{differences, countLine, pairLine, ordersLine, headText, readingText, numberedText, oneLine, lineText, linesText, compareText, refusedText, saidOf}
 
 abbrev term : List ℕ → Term
 term ps = record { scale = 1; boys = 0; prefactors = ps }

@@ -18,7 +18,7 @@ use Rattle.comparing.specs.declared.pair.Pair.{Pair}
 use Rattle.comparing.specs.declared.pair.Met.{Met}
 use Rattle.comparing.specs.declared.pair.Turn.{Turn}
 use Rattle.comparing.specs.Sides.{stepSide}
-use Rattle.comparing.specs.Text.{sameNumbers}
+use Rattle.laws.specs.Same.{sameNumbers}
 
 -- the number of the next position; a forged one beyond the most terms stays
 abbrev pub numberAfter : ℕ → ℕ

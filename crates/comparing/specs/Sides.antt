@@ -1,11 +1,7 @@
 -- 02, Q-4: one side of a comparison is a roll of either form, told by its first byte.
-use Prim.Native.Nat.{ℕ, _+_}
-use mathlib.Core.Bool.{Bool, cond, _&&_}
+use Prim.Native.Nat.{ℕ}
+use mathlib.Core.Bool.{cond}
 use mathlib.Core.List.{List}
-use lib.Dec.{leb}
-use lib.ListN.{getD}
-use Rattle.kind.specs.Kinds.{numberOf}
-use Rattle.kind.specs.declared.Kind.the-variants.{Coulomb}
 use Rattle.roll.specs.declared.cursor.Step.{Step}
 use Rattle.roll.specs.Reading.{Reading, Roll, rollAt}
 use Rattle.roll.specs.Cursor.{stepOf}
@@ -13,14 +9,9 @@ use Rattle.roll.specs.Header.{openOf, checkOf}
 use Rattle.form2.specs.declared.cursor.Cursor2.{Cursor2}
 use Rattle.form2.specs.declared.cursor.Step2.{Step2}
 use Rattle.form2.specs.declared.header.Opened2.{Opened2}
-use Rattle.form2.specs.Bytes.{formTwo}
 use Rattle.form2.specs.Cursor.{step2Of}
-use Rattle.form2.specs.Header.{firstCursor, begun, open2Of, check2Of}
+use Rattle.form2.specs.Header.{firstCursor, begun, isForm2, open2Of, check2Of}
 use Rattle.form2.specs.Reading.{rollAt2}
-
--- form 2 begins with kind + 16, which is 16 to 20; all else is read as form 1
-unfoldable pub isForm2 : List ℕ → Bool
-isForm2 s = leb formTwo (getD s 0 0) && leb (getD s 0 0) (formTwo + numberOf Coulomb)
 
 -- what the roll says, or its refusal with the place
 unfoldable pub sideAt : List ℕ → Reading Roll

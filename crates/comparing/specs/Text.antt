@@ -1,26 +1,17 @@
 -- 02, Q-4: where two rolls differ, and the text that says so, in ASCII.
 use Prim.Native.Nat.{ℕ, _+_}
-use mathlib.Core.Bool.{Bool, true, false, cond, not, _&&_}
+use mathlib.Core.Bool.{Bool, cond, not}
 use mathlib.Core.List.{List, [], _∷_, _++_}
 use lib.Dec.{eqb}
 use lib.ListN.{length}
+use Rattle.laws.specs.Same.{sameNumbers}
 use Rattle.kind.specs.Kinds.{numberOf}
-use Rattle.term.specs.Terms.{Term}
+use Rattle.term.specs.Terms.{Term, sameTerm}
 use Rattle.text.specs.Digits.{decimalOf}
 use Rattle.roll.specs.Reading.{Reading, got, refused, Roll}
 use Rattle.listing.specs.Text.{blank, colon, feed, kindWord, refusedWord, atWord, afterBlanks}
 
 -- ---- where two rolls differ
-
-unfoldable pub sameNumbers : List ℕ → List ℕ → Bool
-sameNumbers [] [] = true
-sameNumbers [] (r ∷ rs) = false
-sameNumbers (l ∷ ls) [] = false
-sameNumbers (l ∷ ls) (r ∷ rs) = eqb l r && sameNumbers ls rs
-
--- two terms differ in scale, Boys order or prefactors
-unfoldable pub sameTerm : Term → Term → Bool
-sameTerm l r = eqb (l .scale) (r .scale) && (eqb (l .boys) (r .boys) && sameNumbers (l .prefactors) (r .prefactors))
 
 -- a position whose terms differ, or which exists on one side only, with its number
 pub data Difference : Type 0 where

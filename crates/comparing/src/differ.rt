@@ -4,7 +4,7 @@ ghost use Prim.Native.Nat.{_≤_, _*_};
 ghost use mathlib.Core.Bool.{not};
 ghost use lib.ListN.{length, take};
 ghost use Rattle.kind.specs.Limits.{mostTerms};
-ghost use Rattle.comparing.specs.Text.{sameNumbers};
+ghost use Rattle.laws.specs.Same.{sameNumbers};
 ghost use Rattle.comparing.specs.Pairs.{isLine, termsLeft, linesOf};
 ghost use Rattle.comparing.specs.Answers.{refusedCompared, comparedOf, usedOf};
 ghost use Rattle.comparing.specs.inner.Sided.{Sided};

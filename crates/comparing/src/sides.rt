@@ -1,33 +1,17 @@
 // One side of a comparison: a roll of either form, told by its first byte.
 ghost use mathlib.Core.Path.{_≡_};
 ghost use Rattle.form2.specs.Header.{firstCursor, begun};
-ghost use Rattle.comparing.specs.Sides.{isForm2, checkSide, asStep2, stepSide};
+ghost use Rattle.comparing.specs.Sides.{checkSide, asStep2, stepSide};
 use form2::Cursor2;
 use form2::Opened2;
 use form2::Step2;
 use form2::check2;
+use form2::is_form2;
 use kind::Kind;
-use number::wide;
 use roll::Cursor;
 use roll::Opened;
 use roll::Step;
 use roll::check;
-
-// What form 2 adds to the kind's number.
-const FORM_TWO: u32 = 16;
-
-fn is_form2(roll: &[u8]) -> bool
-    ensures { λ r. ⌜ r ≡ isForm2 (now (roll .entry)) ⌝ }
-{
-    if roll.len() == 0 {
-        return false;
-    }
-    let first = wide(roll[0]);
-    if first < FORM_TWO {
-        return false;
-    }
-    first <= FORM_TWO + Kind::Coulomb.number() as u32
-}
 
 // A cursor with no term before.
 pub(crate) fn alone(cursor: Cursor) -> Cursor2

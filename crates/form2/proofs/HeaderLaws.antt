@@ -1,7 +1,13 @@
 -- The functions of src/header.rt: a law for each way out.
-use Prim.Native.Nat.{ℕ, _+_, _-_}
+use Prim.Native.Nat.{ℕ, _+_, _-_, _≤_, _<_}
 use mathlib.Core.Path.{_≡_, refl, sym, ap, _∙_}
+use mathlib.Core.Bool.{true, false}
 use mathlib.Core.List.{List}
+use native.Mathlib.Omega.{arith}
+use borrow.Author.Tests.{le-leb, lt-leb}
+use lib.Dec.{leb}
+use lib.ListN.{length, getD}
+use Rattle.laws.proofs.Lists.{length-zero}
 use Rattle.kind.specs.Kinds.{kindOf, numberOf}
 use Rattle.kind.specs.declared.Kind.{Kind}
 use Rattle.kind.specs.declared.Kind.the-variants.{Coulomb}
@@ -16,7 +22,23 @@ use Rattle.form2.specs.declared.cursor.Cursor2.{Cursor2}
 use Rattle.form2.specs.declared.header.Opened2.{Opened2}
 use Rattle.form2.specs.Bytes.{formTwo}
 use Rattle.form2.specs.Reading.{headerAt2}
-use Rattle.form2.specs.Header.{firstCursor, begun, open2Of}
+use Rattle.form2.specs.Header.{firstCursor, begun, isForm2, open2Of}
+
+-- ---- the first byte
+
+pub form2-empty : (s : List ℕ) → length s ≡ 0 → false ≡ isForm2 s
+unfolding isForm2
+form2-empty s none = let is = length-zero s none in rw is refl
+
+pub form2-low : (s : List ℕ) (b : ℕ) → b ≡ getD s 0 0 → b < formTwo → false ≡ isForm2 s
+unfolding isForm2
+form2-low s b is low = let off : leb formTwo (getD s 0 0) ≡ false = lt-leb formTwo (getD s 0 0) (omega arith) in rw off refl
+
+pub form2-high : (s : List ℕ) (b n : ℕ) → b ≡ getD s 0 0 → formTwo ≤ b → n ≡ numberOf Coulomb → leb b (formTwo + n) ≡ isForm2 s
+unfolding isForm2
+form2-high s b n is low most = let on : leb formTwo (getD s 0 0) ≡ true = le-leb formTwo (getD s 0 0) (omega arith) in rw (on, is, most) refl
+
+-- ---- the header
 
 module _ (s : List ℕ) (q : ℕ) (x : Field) (limit : q ≡ numberOf Coulomb) (is : x ≡ withinAt s 0 formTwo (formTwo + q)) where
   first : withinAt s 0 formTwo (formTwo + numberOf Coulomb) ≡ x

@@ -7,10 +7,11 @@ use Rattle.roll.specs.Reading.{rollAt}
 use Rattle.form2.specs.declared.cursor.Cursor2.{Cursor2}
 use Rattle.form2.specs.declared.moves.Moved.{Moved}
 use Rattle.form2.specs.Cursor.{step2Of}
-use Rattle.form2.specs.Header.{open2Of, check2Of}
+use Rattle.form2.specs.Header.{isForm2, open2Of, check2Of}
 use Rattle.form2.specs.Moves.{inForm1, inForm2, movedOf, outOf}
 use Rattle.form2.specs.Reading.{rollAt2}
 use Rattle.form2.proofs.cursor.Cursor2.next.Reads.{Post as Next}
+use Rattle.form2.proofs.header.is_form2.Reads.{Post as IsForm2}
 use Rattle.form2.proofs.header.open2.Reads.{Post as Open2}
 use Rattle.form2.proofs.judge.check2.Reads.{Post as Check2}
 use Rattle.form2.proofs.longer.to_form1.Reads.{Post as ToForm1}
@@ -19,6 +20,9 @@ use Rattle.form2.proofs.shorter.to_form2.Reads.{Post as ToForm2}
 module _ (κs : Lfts 1) (roll : Lent ℕ) where
   pub next-only : (c : Cursor2) → let g = c ▸ roll ▸ end in Alone (λ r. Next κs g r g) (step2Of c (roll .now))
   next-only c = alone (λ r p. p)
+
+  pub is-form2-only : let g = roll ▸ end in Alone (λ r. IsForm2 κs g r g) (isForm2 (roll .now))
+  is-form2-only = alone (λ r p. p)
 
   pub open2-only : let g = roll ▸ end in Alone (λ r. Open2 κs g r g) (open2Of (roll .now))
   open2-only = alone (λ r p. p)

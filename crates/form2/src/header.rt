@@ -2,11 +2,12 @@
 ghost use mathlib.Core.Path.{_≡_};
 ghost use Rattle.roll.specs.Header.{heldHeader};
 ghost use Rattle.form2.specs.Reading.{headerAt2};
-ghost use Rattle.form2.specs.Header.{begun, open2Of};
+ghost use Rattle.form2.specs.Header.{begun, isForm2, open2Of};
 use crate::cursor::Cursor2;
 use crate::cursor::first_cursor;
 use kind::Kind;
 use kind::Named;
+use number::wide;
 use roll::Field;
 use roll::Opened;
 use roll::Opening;
@@ -16,6 +17,20 @@ use roll::within;
 
 // What form 2 adds to the kind's number.
 pub(crate) const FORM_TWO: u32 = 16;
+
+// Whether a roll is of form 2, by its first byte.
+pub fn is_form2(roll: &[u8]) -> bool
+    ensures { λ r. ⌜ r ≡ isForm2 (now (roll .entry)) ⌝ }
+{
+    if roll.len() == 0 {
+        return false;
+    }
+    let first = wide(roll[0]);
+    if first < FORM_TWO {
+        return false;
+    }
+    first <= FORM_TWO + Kind::Coulomb.number() as u32
+}
 
 // A roll's orders and the cursor at its first term; zeros beside a refusal.
 pub struct Opened2 {

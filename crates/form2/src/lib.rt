@@ -12,6 +12,7 @@ mod terms;
 pub use cursor::Cursor2;
 pub use cursor::Step2;
 pub use header::Opened2;
+pub use header::is_form2;
 pub use header::open2;
 pub use judge::check2;
 pub use longer::to_form1;

@@ -1,3 +1,4 @@
 pub mod Placed
+pub mod Same
 pub mod Total
 pub mod Unless

@@ -1,19 +1,18 @@
 -- The functions of src/forms.rt: a law for each way out.
 use Prim.Native.Nat.{ℕ, _+_, _≤_, _<_}
-use mathlib.Core.Path.{_≡_, refl, ap}
-use mathlib.Core.Bool.{Bool, true, false, cond, _&&_}
+use mathlib.Core.Path.{_≡_, refl, sym, ap, _∙_}
+use mathlib.Core.Bool.{true, false}
 use mathlib.Core.List.{List}
-use native.Mathlib.Omega.{arith}
-use borrow.Author.Tests.{le-leb, lt-leb}
-use lib.Dec.{leb}
-use lib.ListN.{length, getD, List·getD-eq-default}
+use borrow.Author.Tests.{le-leb}
+use lib.ListN.{getD}
 use Rattle.kind.specs.Kinds.{numberOf}
 use Rattle.kind.specs.declared.Kind.the-variants.{Coulomb}
 use Rattle.roll.specs.declared.header.Opened.{Opened}
 use Rattle.roll.specs.Header.{heldHeader, openOf}
 use Rattle.form2.specs.Bytes.{formTwo}
 use Rattle.form2.specs.Reading.{headerAt2}
-use Rattle.form2.specs.Header.{open2Of}
+use Rattle.form2.specs.Header.{isForm2, open2Of}
+use Rattle.form2.proofs.HeaderLaws.{form2-low, form2-high}
 use Rattle.form2.specs.declared.header.Opened2.{Opened2}
 use Rattle.expansion.specs.declared.Expanded.{Expanded}
 use Rattle.expansion.specs.Expanding.{rollOf, rollOf2, FormTold}
@@ -23,24 +22,19 @@ use Rattle.salvaging.specs.Salvage.{formOf, headerIn, rollIn}
 
 -- ---- the form by the first byte
 
-by-tests : (a b : Bool) (s : List ℕ) → leb formTwo (getD s 0 0) ≡ a → leb (getD s 0 0) (formTwo + numberOf Coulomb) ≡ b → cond (a && b) Two One ≡ formOf s
+pub form-two : (s : List ℕ) → isForm2 s ≡ true → Two ≡ formOf s
 unfolding formOf
-by-tests a b s e f = rw (e, f)
+form-two s is = rw is
+
+pub form-one : (s : List ℕ) → isForm2 s ≡ false → One ≡ formOf s
+unfolding formOf
+form-one s is = rw is
 
 pub second-form : (s : List ℕ) → formTwo ≤ getD s 0 0 → getD s 0 0 ≤ formTwo + numberOf Coulomb → Two ≡ formOf s
-second-form s low high = by-tests true true s (le-leb formTwo (getD s 0 0) low) (le-leb (getD s 0 0) (formTwo + numberOf Coulomb) high)
-
-pub form-two : (s : List ℕ) (n : ℕ) → n ≡ numberOf Coulomb → formTwo ≤ getD s 0 0 → getD s 0 0 ≤ formTwo + n → Two ≡ formOf s
-form-two s n is low high = second-form s low (omega (arith, is))
+second-form s low high = form-two s (sym (form2-high s (getD s 0 0) (numberOf Coulomb) refl low refl) ∙ le-leb (getD s 0 0) (formTwo + numberOf Coulomb) high)
 
 pub form-below : (s : List ℕ) → getD s 0 0 < formTwo → One ≡ formOf s
-form-below s low = by-tests false (leb (getD s 0 0) (formTwo + numberOf Coulomb)) s (lt-leb formTwo (getD s 0 0) low) refl
-
-pub form-above : (s : List ℕ) (n : ℕ) → n ≡ numberOf Coulomb → formTwo ≤ getD s 0 0 → formTwo + n < getD s 0 0 → One ≡ formOf s
-form-above s n is low high = by-tests true false s (le-leb formTwo (getD s 0 0) low) (lt-leb (getD s 0 0) (formTwo + numberOf Coulomb) (omega (arith, is)))
-
-pub form-none : (s : List ℕ) → length s ≤ 0 → One ≡ formOf s
-form-none s none = let zero : getD s 0 0 ≡ 0 = List·getD-eq-default s 0 {n = 0} none in form-below s (omega arith)
+form-below s low = form-one s (sym (form2-low s (getD s 0 0) refl low))
 
 -- ---- the header
 

@@ -2,7 +2,7 @@
 use Prim.Native.Nat.{ℕ, zero, suc, zero-le, _+_, _≤_}
 use mathlib.Core.Path.{_≡_, refl, sym, ap, _∙_}
 use mathlib.Core.Logic.{_⊎_, inl, inr}
-use mathlib.Core.Bool.{Bool, true, false, cond, _&&_}
+use mathlib.Core.Bool.{Bool, true, false, cond}
 use mathlib.Core.List.{List, [], _∷_, _++_}
 use native.Mathlib.Omega.{arith}
 use borrow.Author.Tests.{ltb-true, ltb-false, eq-eqb, eqb-true}
@@ -10,52 +10,21 @@ use lib.Dec.{eqb, ltb}
 use lib.ListN.{length, take, drop, length-append, length-drop}
 use Rattle.kind.specs.Kinds.{mostL}
 use Rattle.kind.specs.declared.Kind.{Kind}
-use Rattle.laws.proofs.Cases.{clash, and-true-both}
+use Rattle.laws.proofs.Cases.{clash}
 use Rattle.laws.proofs.Lists.{drop-after}
 use Rattle.number.specs.Numbers.{Bytes}
-use Rattle.term.specs.Terms.{Term}
+use Rattle.term.specs.Terms.{Term, sameTerm}
+use Rattle.term.proofs.SameTerms.{term-same, term-equal}
 use Rattle.roll.specs.Reading.{Reading, got, refused, before}
 use Rattle.roll.specs.Fits.{TermsFit}
 use Rattle.roll.proofs.Filling.{before-is, andThen-is}
 use Rattle.form2.specs.Bytes.{shared}
 use Rattle.salvaging.specs.declared.forms.Form.{Form}
-use Rattle.salvaging.specs.Salvage.{termIn, sameNumbers, sameTerm, Leading, noneFrom, oneAnd, whereEqual, leading, termsFrom}
+use Rattle.salvaging.specs.Salvage.{termIn, Leading, noneFrom, oneAnd, whereEqual, leading, termsFrom}
 use Rattle.salvaging.specs.inner.Ends.{behind, endAt, Whole, endsWithin}
 use Rattle.salvaging.specs.inner.Forms.{termBytesIn, termsBytesIn}
 use Rattle.salvaging.proofs.EndsLaws.{turn, none-left, none-shared, shared-heads}
 use Rattle.salvaging.proofs.InForms.{term-there, term-only, term-within, terms-next, terms-none, term-end}
-
--- ---- equal terms
-
-numbers-equal : (ps qs : List ℕ) → sameNumbers ps qs ≡ true → ps ≡ qs
-numbers-equal [] [] e = refl
-numbers-equal [] (q ∷ qs) e = absurd (clash (cc))
-numbers-equal (p ∷ ps) [] e = absurd (clash (cc))
-numbers-equal (p ∷ ps) (q ∷ qs) e =
-    let b = and-true-both (eqb p q) (sameNumbers ps qs) e in
-    let one : p ≡ q = eqb-true p q (b .0) in
-    let rest : ps ≡ qs = numbers-equal ps qs (b .1) in
-    cc (one, rest)
-
-numbers-same : (ps : List ℕ) → sameNumbers ps ps ≡ true
-numbers-same [] = refl
-numbers-same (p ∷ ps) = rw (eq-eqb p p refl, numbers-same ps) refl
-
--- the test says that two terms are equal exactly where they are
-pub term-equal : (t u : Term) → sameTerm t u ≡ true → t ≡ u
-term-equal t u e =
-    let a = and-true-both (eqb (t .scale) (u .scale)) (eqb (t .boys) (u .boys) && sameNumbers (t .prefactors) (u .prefactors)) e in
-    let b = and-true-both (eqb (t .boys) (u .boys)) (sameNumbers (t .prefactors) (u .prefactors)) (a .1) in
-    let scale : t .scale ≡ u .scale = eqb-true (t .scale) (u .scale) (a .0) in
-    let boys : t .boys ≡ u .boys = eqb-true (t .boys) (u .boys) (b .0) in
-    let ps : t .prefactors ≡ u .prefactors = numbers-equal (t .prefactors) (u .prefactors) (b .1) in
-    made (t .scale) (u .scale) (t .boys) (u .boys) (t .prefactors) (u .prefactors) scale boys ps
-  where
-    made : (a b c d : ℕ) (ps qs : List ℕ) → a ≡ b → c ≡ d → ps ≡ qs → _≡_ {A = Term} (record { scale = a; boys = c; prefactors = ps }) (record { scale = b; boys = d; prefactors = qs })
-    made a b c d ps qs p q r = rw (p, q, r) refl
-
-pub term-same : (t : Term) → sameTerm t t ≡ true
-term-same t = rw (eq-eqb (t .scale) (t .scale) refl, eq-eqb (t .boys) (t .boys) refl, numbers-same (t .prefactors)) refl
 
 -- ---- one turn
 
@@ -65,7 +34,7 @@ module _ (f : Form) (s : List ℕ) (at : ℕ) (k : Kind) (l : ℕ) (earlier : Li
   unfolding leading
   lead-more next e =
       ap (λ (r : Reading Term). whereEqual at r t (λ m. leading f s m k l (t .prefactors) ts)) e
-      ∙ ap (λ (b : Bool). cond b (oneAnd (leading f s next k l (t .prefactors) ts)) (noneFrom at)) (term-same t)
+      ∙ ap (λ (b : Bool). cond b (oneAnd (leading f s next k l (t .prefactors) ts)) (noneFrom at)) (term-same t t refl)
 
   -- one that does not
   pub record Stops : Type 0 where
@@ -99,7 +68,7 @@ module _ (f : Form) (s : List ℕ) (at : ℕ) (k : Kind) (l : ℕ) (earlier : Li
                 reads-not = λ m is.
                     let both : got u next ≡ got t m = sym e ∙ is in
                     let same : u ≡ t = cc in
-                    let yes : sameTerm u t ≡ true = ap (λ (v : Term). sameTerm v t) same ∙ term-same t in
+                    let yes : sameTerm u t ≡ true = ap (λ (v : Term). sameTerm v t) same ∙ term-same t t refl in
                     clash (cc (yes, other));
                 none =
                     ap (λ (r : Reading Term). whereEqual at r t (λ m. leading f s m k l (t .prefactors) ts)) e

@@ -92,10 +92,10 @@ cases =
     ∷ []
 
 pub computed : map (λ (c : Case). salvagedOf (c .roll) (replicate (c .room) 0) (c .start)) cases ≡ map (λ (c : Case). c .answer) cases
-unfolding salvagedOf salvagedIn toldOf leadingOf leading freshRoll freshTerms requestOf formOf rollOf rollOf2 rollBytes rollBytes2 termsBytes termsBytes2 termBytes termBytes2 shared furtherOf numbersBytes bytesOf groups chosen firstAxis branches times lowered total step turns nexts depth inTurn walk expand headerAt headerAt2 ordersAt countedAt withinAt readAt readFrom higher termAt boysAt countAt prefactorsAt termAfter frontAt boysAt2 sharedAt furtherCountAt furtherAt
+unfolding salvagedOf salvagedIn toldOf leadingOf leading freshRoll freshTerms requestOf formOf isForm2 sameTerm sameNumbers rollOf rollOf2 rollBytes rollBytes2 termsBytes termsBytes2 termBytes termBytes2 shared furtherOf numbersBytes bytesOf groups chosen firstAxis branches times lowered total step turns nexts depth inTurn walk expand headerAt headerAt2 ordersAt countedAt withinAt readAt readFrom higher termAt boysAt countAt prefactorsAt termAfter frontAt boysAt2 sharedAt furtherCountAt furtherAt
 computed = refl
 
 -- the output then holds the fresh roll, and all else is as it was
 pub written : outOf (head 1 ++ (0x01 ∷ 0x00 ∷ [])) (replicate 20 0xa5) 2 ≡ (0xa5 ∷ 0xa5 ∷ []) ++ head 2 ++ terms ++ (0xa5 ∷ [])
-unfolding outOf salvagedOf salvagedIn toldOf leadingOf leading freshRoll freshTerms requestOf formOf rollOf rollBytes termsBytes termBytes numbersBytes bytesOf groups chosen firstAxis branches times lowered total step turns nexts depth inTurn walk expand headerAt ordersAt countedAt withinAt readAt readFrom higher termAt boysAt countAt prefactorsAt
+unfolding outOf salvagedOf salvagedIn toldOf leadingOf leading freshRoll freshTerms requestOf formOf isForm2 sameTerm sameNumbers rollOf rollBytes termsBytes termBytes numbersBytes bytesOf groups chosen firstAxis branches times lowered total step turns nexts depth inTurn walk expand headerAt ordersAt countedAt withinAt readAt readFrom higher termAt boysAt countAt prefactorsAt
 written = refl

@@ -1,19 +1,17 @@
 -- 02, Q-8: the salvage of a damaged roll, in the paper's order: the header, the expansion worked out afresh, what is told of both, the refusals.
 use Prim.Native.Nat.{ℕ, zero, suc, _+_, _-_}
 use mathlib.Core.Path.{_≡_}
-use mathlib.Core.Bool.{Bool, true, false, cond, not, _&&_}
+use mathlib.Core.Bool.{cond, not}
 use mathlib.Core.List.{List, [], _∷_, _++_}
-use lib.Dec.{leb, eqb}
-use lib.ListN.{length, getD, replicate}
+use lib.Dec.{eqb}
+use lib.ListN.{length, replicate}
 use Rattle.laws.specs.Placed.{placed}
 use Rattle.laws.specs.Total.{total}
 use Rattle.kind.specs.Limits.{requestOrders}
-use Rattle.kind.specs.Kinds.{numberOf}
 use Rattle.kind.specs.declared.Kind.{Kind}
-use Rattle.kind.specs.declared.Kind.the-variants.{Coulomb}
-use Rattle.term.specs.Terms.{Term}
+use Rattle.term.specs.Terms.{Term, sameTerm}
 use Rattle.roll.specs.Reading.{Reading, got, refused, andThen, before, Header, headerAt, termAt}
-use Rattle.form2.specs.Bytes.{formTwo}
+use Rattle.form2.specs.Header.{isForm2}
 use Rattle.form2.specs.Reading.{headerAt2, termAfter}
 use Rattle.expansion.specs.Expanding.{_exceeds_, tooMany, termsOf, rollOf, rollOf2}
 use Rattle.salvaging.specs.declared.forms.Form.{Form}
@@ -26,9 +24,9 @@ use Rattle.salvaging.specs.declared.Salvaged.the-variants as answer
 
 -- ---- "If the header reads, whichever form": "The header is kind, orders and term count."
 
--- form 2 begins with kind + 16; all else is read as form 1, which gives 7 or 14 to what is neither (D-99; proofs/FirstByte.antt)
+-- told by the first byte; all that is not form 2 is read as form 1, which gives 7 or 14 to what is neither (D-99; proofs/FirstByte.antt)
 unfoldable pub formOf : List ℕ → Form
-formOf s = cond (leb formTwo (getD s 0 0) && leb (getD s 0 0) (formTwo + numberOf Coulomb)) Two One
+formOf s = cond (isForm2 s) Two One
 
 abbrev pub headerIn : Form → List ℕ → Reading Header
 headerIn One s = headerAt s
@@ -57,15 +55,6 @@ unfoldable pub freshRoll : Form → Header → List ℕ
 freshRoll f h = rollIn f (h .kind) (requestOf h)
 
 -- ---- "how many leading terms of the damaged roll read and equal the fresh ones"
-
-abbrev pub sameNumbers : List ℕ → List ℕ → Bool
-sameNumbers [] [] = true
-sameNumbers [] (q ∷ qs) = false
-sameNumbers (p ∷ ps) [] = false
-sameNumbers (p ∷ ps) (q ∷ qs) = eqb p q && sameNumbers ps qs
-
-abbrev pub sameTerm : Term → Term → Bool
-sameTerm t u = eqb (t .scale) (u .scale) && (eqb (t .boys) (u .boys) && sameNumbers (t .prefactors) (u .prefactors))
 
 -- how many, and the place behind them
 pub record Leading : Type 0 where

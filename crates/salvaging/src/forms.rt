@@ -14,20 +14,12 @@ pub(crate) enum Form {
     Two,
 }
 
-// What form 2 adds to the kind's number.
-const FORM_TWO: u8 = 16;
-
 // Form 2 begins with kind + 16; all else is read as form 1.
 pub(crate) fn form_of(roll: &[u8]) -> Form
     ensures { λ r. ⌜ r ≡ formOf (now (roll .entry)) ⌝ }
 {
-    if 0 < roll.len() {
-        let first = roll[0];
-        if FORM_TWO <= first {
-            if first <= FORM_TWO + Kind::Coulomb.number() {
-                return Form::Two;
-            }
-        }
+    if form2::is_form2(roll) {
+        return Form::Two;
     }
     Form::One
 }

@@ -1,7 +1,10 @@
 -- A term: its scale, its Boys order and its prefactors in listed order.
 use Prim.Native.Nat.{ℕ, _-_}
+use mathlib.Core.Bool.{Bool, _&&_}
 use mathlib.Core.List.{List, [], _++_}
+use lib.Dec.{eqb}
 use lib.ListN.{length, replicate}
+use Rattle.laws.specs.Same.{sameNumbers}
 use Rattle.kind.specs.Limits.{mostL·any}
 use Rattle.term.specs.declared.Term.{Term as Held}
 
@@ -9,6 +12,10 @@ pub record Term : Type 0 where
   pub scale : ℕ
   pub boys : ℕ
   pub prefactors : List ℕ
+
+-- two terms differ in scale, Boys order or prefactors
+unfoldable pub sameTerm : Term → Term → Bool
+sameTerm t u = eqb (t .scale) (u .scale) && (eqb (t .boys) (u .boys) && sameNumbers (t .prefactors) (u .prefactors))
 
 -- a term as the code holds it: its prefactors beside their count, zeros after them (D-40)
 abbrev pub held : Term → Held

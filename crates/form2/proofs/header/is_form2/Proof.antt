@@ -1,8 +1,8 @@
 -- `is_form2` meets its contract: by the first byte. Assumes nothing.
-use Rattle.comparing.proofs.SidesLaws.{form2-empty, form2-low, form2-high}
+use Rattle.form2.proofs.HeaderLaws.{form2-empty, form2-low, form2-high}
 use borrow.Author.Needs.{needs}
-use Rattle.comparing.proofs.sides.is_form2.Statement.{statement}
-use Rattle.comparing.proofs.sides.is_form2.Tie as tie
+use Rattle.form2.proofs.header.is_form2.Statement.{statement}
+use Rattle.form2.proofs.header.is_form2.Tie as tie
 
 returns : tie.Need-returns
 returns c = search form2-empty
