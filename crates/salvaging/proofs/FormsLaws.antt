@@ -1,9 +1,10 @@
 -- The functions of src/forms.rt: a law for each way out.
 use Prim.Native.Nat.{ℕ, _+_, _≤_, _<_}
 use mathlib.Core.Path.{_≡_, refl, sym, ap, _∙_}
-use mathlib.Core.Bool.{true, false}
+use mathlib.Core.Bool.{Bool, true, false}
 use mathlib.Core.List.{List}
 use borrow.Author.Tests.{le-leb}
+use lib.Dec.{leb}
 use lib.ListN.{getD}
 use Rattle.kind.specs.Kinds.{numberOf}
 use Rattle.kind.specs.declared.Kind.the-variants.{Coulomb}
@@ -22,19 +23,19 @@ use Rattle.salvaging.specs.Salvage.{formOf, headerIn, rollIn}
 
 -- ---- the form by the first byte
 
-pub form-two : (s : List ℕ) → isForm2 s ≡ true → Two ≡ formOf s
+pub form-two : (s : List ℕ) (b : Bool) → b ≡ isForm2 s → b ≡ true → Two ≡ formOf s
 unfolding formOf
-form-two s is = rw is
+form-two s b is on = rw (sym is ∙ on) refl
 
-pub form-one : (s : List ℕ) → isForm2 s ≡ false → One ≡ formOf s
+pub form-one : (s : List ℕ) (b : Bool) → b ≡ isForm2 s → b ≡ false → One ≡ formOf s
 unfolding formOf
-form-one s is = rw is
+form-one s b is off = rw (sym is ∙ off) refl
 
 pub second-form : (s : List ℕ) → formTwo ≤ getD s 0 0 → getD s 0 0 ≤ formTwo + numberOf Coulomb → Two ≡ formOf s
-second-form s low high = form-two s (sym (form2-high s (getD s 0 0) (numberOf Coulomb) refl low refl) ∙ le-leb (getD s 0 0) (formTwo + numberOf Coulomb) high)
+second-form s low high = form-two s (leb (getD s 0 0) (formTwo + numberOf Coulomb)) (form2-high s (getD s 0 0) (numberOf Coulomb) refl low refl) (le-leb (getD s 0 0) (formTwo + numberOf Coulomb) high)
 
 pub form-below : (s : List ℕ) → getD s 0 0 < formTwo → One ≡ formOf s
-form-below s low = form-one s (sym (form2-low s (getD s 0 0) refl low))
+form-below s low = form-one s false (form2-low s (getD s 0 0) refl low) refl
 
 -- ---- the header
 

@@ -4,15 +4,18 @@ use mathlib.Core.Path.{_≡_, refl}
 use mathlib.Core.Bool.{Bool, true, false}
 use mathlib.Core.List.{List, [], _∷_, _++_, map}
 use lib.ListN.{replicate}
+use Rattle.laws.specs.Same.{sameNumbers}
 use Rattle.laws.specs.Total.{total}
 use Rattle.number.specs.Numbers.{groups, bytesOf, higher, readFrom, readAt}
 use Rattle.steps.specs.Choice.{chosen, firstAxis}
 use Rattle.steps.specs.Steps.{branches, times, lowered}
 use Rattle.steps.specs.States.{step, turns, nexts}
 use Rattle.histories.specs.History.{depth, inTurn, walk, expand}
+use Rattle.term.specs.Terms.{sameTerm}
 use Rattle.roll.specs.Bytes.{numbersBytes, termBytes, termsBytes, rollBytes}
 use Rattle.roll.specs.Reading.{withinAt, ordersAt, countedAt, headerAt, prefactorsAt, countAt, boysAt, termAt}
 use Rattle.form2.specs.Bytes.{shared, furtherOf, termBytes2, termsBytes2, rollBytes2}
+use Rattle.form2.specs.Header.{isForm2}
 use Rattle.form2.specs.Reading.{headerAt2, furtherCountAt, sharedAt, boysAt2, frontAt, furtherAt, termAfter}
 use Rattle.expansion.specs.Expanding.{rollOf, rollOf2}
 use Rattle.salvaging.specs.declared.After.{After}
