@@ -1,5 +1,6 @@
 pub mod AtMost
 pub mod Back
+pub mod BesideLaws
 pub mod Checked
 pub mod CursorLaws
 pub mod CutOrWrong

@@ -1,4 +1,5 @@
 // A roll of form 2, which says of each term what it does not share with the one before: its reader, and the moves between the two forms.
+mod beside;
 mod cursor;
 mod header;
 mod judge;
@@ -9,6 +10,7 @@ mod quick;
 mod shorter;
 mod terms;
 
+pub use beside::alike;
 pub use cursor::Cursor2;
 pub use cursor::Step2;
 pub use header::Opened2;

@@ -1,64 +1,17 @@
 -- The functions of src/ends.rt: a law for each loop's first turn, its further turns and its ends.
-use Prim.Native.Nat.{ℕ, zero, suc, zero-le, _+_, _-_, _≤_, _<_, min}
+use Prim.Native.Nat.{ℕ, zero, suc, zero-le, _+_, _-_, _≤_, _<_}
 use mathlib.Core.Path.{_≡_, refl, ap, ap₂, _∙_}
 use mathlib.Core.Bool.{Bool, true, false, cond}
-use mathlib.Core.List.{List, [], _∷_}
+use mathlib.Core.List.{List, _∷_}
 use native.Mathlib.Omega.{arith}
-use borrow.Author.Tests.{lt-ltb, le-ltb, eq-eqb, ne-eqb, leb-true, leb-false}
-use lib.Dec.{eqb, leb, ltb}
-use lib.ListN.{length, getD, drop, drop-of-length-le}
+use borrow.Author.Tests.{lt-ltb, le-ltb}
+use lib.Dec.{ltb}
+use lib.ListN.{length, getD, drop}
 use Rattle.laws.proofs.Counting.{left-one, left-none}
 use Rattle.laws.proofs.Lists.{drop-head}
 use Rattle.form2.specs.Bytes.{shared}
-use Rattle.form2.proofs.Sharing.{shared-none}
 use Rattle.salvaging.specs.declared.forms.Form.{Form}
 use Rattle.salvaging.specs.inner.Ends.{behind, untilLast, countAt, endAt, Whole, endsWithin}
-
--- ---- bytes that two slices begin with
-
-pub shared-heads : (p q : ℕ) (ps qs : List ℕ) (b : Bool) → eqb p q ≡ b → shared (p ∷ ps) (q ∷ qs) ≡ cond b (suc (shared ps qs)) 0
-unfolding shared
-shared-heads p q ps qs b e = rw e
-
-pub none-shared : (qs : List ℕ) → shared [] qs ≡ 0
-unfolding shared
-none-shared qs = refl
-
--- so many are shared, and those behind them
-pub record Beside (a b : List ℕ) (i : ℕ) : Type 0 where
-  pub same : shared a b ≡ i + shared (drop i a) (drop i b)
-
-pub beside-first : (a b : List ℕ) → Beside a b 0
-beside-first a b = record { same = omega arith }
-
-module _ (a b : List ℕ) (most i : ℕ) (limit : most ≡ min (length a) (length b)) (beside : Beside a b i) where
-  two-heads : i < most → shared (drop i a) (drop i b) ≡ shared (getD a i 0 ∷ drop (i + 1) a) (getD b i 0 ∷ drop (i + 1) b)
-  two-heads less = ap₂ shared (drop-head a i (getD a i 0) (omega arith) refl) (drop-head b i (getD b i 0) (omega arith) refl)
-
-  pub beside-more : i < most → getD a i 0 ≡ getD b i 0 → Beside a b (i + 1)
-  beside-more less equal =
-      let one = two-heads less ∙ shared-heads (getD a i 0) (getD b i 0) (drop (i + 1) a) (drop (i + 1) b) true (eq-eqb (getD a i 0) (getD b i 0) equal) in
-      record { same = omega (arith, beside .same, one) }
-
-  pub beside-differ : i < most → (getD a i 0 ≡ getD b i 0 → ⊥) → i ≡ shared a b
-  beside-differ less differ =
-      let one = two-heads less ∙ shared-heads (getD a i 0) (getD b i 0) (drop (i + 1) a) (drop (i + 1) b) false (ne-eqb (getD a i 0) (getD b i 0) differ) in
-      omega (arith, beside .same, one)
-
-  pub beside-done : most ≤ i → i ≡ shared a b
-  beside-done done = by (leb (length a) (length b)) refl
-    where
-      by : (v : Bool) → leb (length a) (length b) ≡ v → i ≡ shared a b
-      by true e =
-          let less = leb-true (length a) (length b) e in
-          let none : drop i a ≡ [] = drop-of-length-le a {i = i} (omega arith) in
-          let nothing : shared (drop i a) (drop i b) ≡ 0 = ap (λ (l : List ℕ). shared l (drop i b)) none ∙ none-shared (drop i b) in
-          omega (arith, beside .same, nothing)
-      by false e =
-          let more = leb-false (length a) (length b) e in
-          let none : drop i b ≡ [] = drop-of-length-le b {i = i} (omega arith) in
-          let nothing : shared (drop i a) (drop i b) ≡ 0 = ap (λ (l : List ℕ). shared (drop i a) l) none ∙ shared-none (drop i a) in
-          omega (arith, beside .same, nothing)
 
 -- ---- a term's end
 

@@ -19,11 +19,12 @@ use Rattle.roll.specs.Reading.{Reading, got, refused, before}
 use Rattle.roll.specs.Fits.{TermsFit}
 use Rattle.roll.proofs.Filling.{before-is, andThen-is}
 use Rattle.form2.specs.Bytes.{shared}
+use Rattle.form2.proofs.BesideLaws.{none-shared, shared-heads}
 use Rattle.salvaging.specs.declared.forms.Form.{Form}
 use Rattle.salvaging.specs.Salvage.{termIn, Leading, noneFrom, oneAnd, whereEqual, leading, termsFrom}
 use Rattle.salvaging.specs.inner.Ends.{behind, endAt, Whole, endsWithin}
 use Rattle.salvaging.specs.inner.Forms.{termBytesIn, termsBytesIn}
-use Rattle.salvaging.proofs.EndsLaws.{turn, none-left, none-shared, shared-heads}
+use Rattle.salvaging.proofs.EndsLaws.{turn, none-left}
 use Rattle.salvaging.proofs.InForms.{term-there, term-only, term-within, terms-next, terms-none, term-end}
 
 -- ---- one turn

@@ -1,39 +1,15 @@
 // How many terms of a fresh roll end within the bytes that another roll begins with too.
 ghost use mathlib.Core.Path.{_≡_};
-ghost use Prim.Native.Nat.{_≤_, min};
+ghost use Prim.Native.Nat.{_≤_};
 ghost use lib.ListN.{length};
 ghost use Rattle.form2.specs.Bytes.{shared};
 ghost use Rattle.salvaging.specs.inner.Ends.{behind, endAt, Whole, endsWithin};
 use crate::forms::Form;
+use form2::alike;
 use number::wide;
 
 // Bytes of a number before its last are not below this.
 const HIGH: u8 = 128;
-
-// The smaller of two numbers.
-fn least(a: usize, b: usize) -> usize
-    ensures { λ r. ⌜ r ≡ min a b ⌝ }
-{
-    if a <= b {
-        return a;
-    }
-    b
-}
-
-// How many bytes two slices begin alike.
-fn alike(a: &[u8], b: &[u8]) -> usize
-    ensures { λ r. ⌜ r ≡ shared (now (a .entry)) (now (b .entry)) ⌝ }
-{
-    let most = least(a.len(), b.len());
-    let mut i = 0;
-    while i < most {
-        if a[i] != b[i] {
-            return i;
-        }
-        i += 1;
-    }
-    i
-}
 
 // How far behind the last byte of a term's scale the number of its bytes stands: a Boys order stands between them, in form 2 a shared length too.
 fn behind(form: Form) -> usize

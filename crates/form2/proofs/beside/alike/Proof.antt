@@ -1,9 +1,9 @@
 -- `alike` meets its contract. The loop's invariant is `Beside`: so many are shared, and those behind them. Assumes nothing.
 use borrow.Author.Needs.{needs}
 use Prim.Native.Nat.{_-_}
-use Rattle.salvaging.proofs.EndsLaws.{Beside, beside-first, beside-more, beside-differ, beside-done}
-use Rattle.salvaging.proofs.ends.alike.Statement.{statement}
-use Rattle.salvaging.proofs.ends.alike.Tie as tie
+use Rattle.form2.proofs.BesideLaws.{Beside, beside-first, beside-more, beside-differ, beside-done}
+use Rattle.form2.proofs.beside.alike.Statement.{statement}
+use Rattle.form2.proofs.beside.alike.Tie as tie
 
 abbrev Inv-loop : tie.InvT-loop
 Inv-loop a b most i₀ i = Beside a b i
