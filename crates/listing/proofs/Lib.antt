@@ -2,7 +2,6 @@ pub mod Lines
 pub mod Only
 pub mod Rolls
 pub mod Room
-pub mod Saying
 pub mod Telling
 pub mod Terms
 pub mod Unchanged

@@ -1,13 +1,11 @@
 -- The pieces of a line, said in their order, are the line.
-use Prim.Native.Nat.{ℕ, _+_, _-_, _≤_, _<_}
-use native.Mathlib.Numerals.{add-one}
+use Prim.Native.Nat.{ℕ, _-_}
 use native.Mathlib.Omega.{arith}
-use mathlib.Core.Path.{_≡_, refl, sym, _∙_}
+use mathlib.Core.Path.{_≡_, refl, ap, sym, _∙_}
 use mathlib.Core.Bool.{Bool, true, false}
-use mathlib.Core.List.{List, _++_}
+use mathlib.Core.List.{List, [], _∷_, _++_}
 use borrow.Author.Tests.{eq-eqb, ne-eqb}
-use lib.ListN.{length, getD, take, drop, drop-of-length-le}
-use lib.Seq.{drop-cons}
+use lib.ListN.{take, drop}
 use Rattle.kind.specs.declared.Kind.{Kind}
 use Rattle.kind.specs.Kinds.{numberOf}
 use Rattle.term.specs.declared.Term.{Term as Held}
@@ -15,31 +13,22 @@ use Rattle.text.specs.declared.Written.{Written}
 use Rattle.text.specs.declared.Written.the-variants.{To}
 use Rattle.text.specs.Digits.{decimalOf}
 use Rattle.roll.specs.inner.Held.{fromHeld}
+use Rattle.saying.specs.Said.{Said, eachAfter}
+use Rattle.saying.proofs.SaidLaws.{said-both}
 use Rattle.listing.specs.Text.{blank, colon, feed, kindWord, ordersWord, termsWord, refusedWord, atWord, afterBlanks, kindText, headLine, termNumbers, termLine, carriesPlace, refusalText}
-use Rattle.listing.specs.inner.Saying.{Said}
-use Rattle.listing.proofs.Saying.{Saying, said-both, saying-more, saying-done}
-
-pub named-said : (room n : ℕ) (name a b c : List ℕ) (w q r : Written) → Said room a w name q b → Said room b q (decimalOf n) r c → Said room a w (name ++ decimalOf n) r c
-named-said room n name a b c w q r first second = said-both first second
 
 -- ---- a row
 
-row-turn : (values : List ℕ) (i : ℕ) → i < length values → afterBlanks (drop i values) ≡ (blank ++ decimalOf (getD values i 0)) ++ afterBlanks (drop (i + 1) values)
-unfolding afterBlanks
-row-turn values i h = rw (drop-cons values i 0 h, add-one)
-
-pub row-more : (room : ℕ) (a b c whole values : List ℕ) (i : ℕ) (w q r : Written) → Saying room a w whole b q (afterBlanks (drop i values)) → i < length values → Said room b q (blank ++ decimalOf (getD values i 0)) r c → Saying room a w whole c r (afterBlanks (drop (i + 1) values))
-row-more room a b c whole values i w q r s h one = saying-more (rw (row-turn values i h) at s) one
-
-pub row-done : (room : ℕ) (a b whole values : List ℕ) (i : ℕ) (w q : Written) → Saying room a w whole b q (afterBlanks (drop i values)) → length values ≤ i → Said room a w whole q b
-unfolding afterBlanks
-row-done room a b whole values i w q s h = saying-done (rw (drop-of-length-le values {i = i} h) at s)
+pub each-blanks : (ns : List ℕ) → afterBlanks ns ≡ eachAfter blank ns
+unfolding afterBlanks eachAfter
+each-blanks [] = refl
+each-blanks (n ∷ ns) = ap ((blank ++ decimalOf n) ++_) (each-blanks ns)
 
 -- ---- the lines
 
-pub kind-said : (room : ℕ) (k : Kind) (orders : List ℕ) (n : ℕ) (a b c d : List ℕ) (p q r : Written) → n ≡ numberOf k → Said room a (To 0) (kindWord ++ decimalOf n) p b → Said room b p ordersWord q c → Said room c q (afterBlanks orders) r d → Said room a (To 0) (kindText k orders) r d
+pub kind-said : (room : ℕ) (k : Kind) (orders : List ℕ) (n : ℕ) (a b c d : List ℕ) (p q r : Written) → n ≡ numberOf k → Said room a (To 0) (kindWord ++ decimalOf n) p b → Said room b p ordersWord q c → Said room c q (eachAfter blank orders) r d → Said room a (To 0) (kindText k orders) r d
 unfolding kindText
-kind-said room k orders n a b c d p q r is one two three = rw (← is) (said-both one (said-both two three))
+kind-said room k orders n a b c d p q r is one two three = rw (← is, each-blanks orders) (said-both one (said-both two three))
 
 pub head-said : (room : ℕ) (k : Kind) (orders : List ℕ) (terms : ℕ) (a b c d : List ℕ) (p q r : Written) → Said room a (To 0) (kindText k orders) p b → Said room b p (termsWord ++ decimalOf terms) q c → Said room c q feed r d → Said room a (To 0) (headLine k orders terms) r d
 unfolding headLine
@@ -49,9 +38,11 @@ pub numbers-said : (room number scale boys : ℕ) (a b c d e : List ℕ) (w p q 
 unfolding termNumbers
 numbers-said room number scale boys a b c d e w p q r s one two three four = said-both one (said-both two (said-both three four))
 
-pub term-said : (room number : ℕ) (t : Held) (a b c d : List ℕ) (w p q r : Written) → Said room a w (termNumbers number (t .scale) (t .boys)) p b → Said room b p (afterBlanks (take (t .count - 0) (drop 0 (t .prefactors)))) q c → Said room c q feed r d → Said room a w (termLine number (fromHeld t)) r d
+pub term-said : (room number : ℕ) (t : Held) (a b c d : List ℕ) (w p q r : Written) → Said room a w (termNumbers number (t .scale) (t .boys)) p b → Said room b p (eachAfter blank (take (t .count - 0) (drop 0 (t .prefactors)))) q c → Said room c q feed r d → Said room a w (termLine number (fromHeld t)) r d
 unfolding termLine
-term-said room number t a b c d w p q r one two three = let all : t .count - 0 ≡ t .count = omega arith in said-both one (said-both (rw all at two) three)
+term-said room number t a b c d w p q r one two three =
+    let all : t .count - 0 ≡ t .count = omega arith in
+    rw (each-blanks (take (t .count) (t .prefactors))) (said-both one (said-both (rw all at two) three))
 
 -- ---- a refusal
 

@@ -23,9 +23,10 @@ use Rattle.roll.proofs.Checked.{checked-judged, checked-refused, judged-named, 
 use Rattle.listing.specs.declared.Listed.{Listed}
 use Rattle.listing.specs.declared.Listed.the-variants.{Refused}
 use Rattle.listing.specs.Text.{headLine, termLines, listingText}
-use Rattle.listing.specs.inner.Saying.{Said, readText, textOf}
+use Rattle.saying.specs.Said.{Said}
+use Rattle.listing.specs.inner.Whole.{readText, textOf}
 use Rattle.listing.specs.Answers.{TextTold, listingAt, listingOut, ListingTold}
-use Rattle.listing.proofs.Saying.{said-both}
+use Rattle.saying.proofs.SaidLaws.{said-both}
 
 -- ---- a judged roll
 

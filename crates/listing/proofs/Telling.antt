@@ -12,9 +12,9 @@ use Rattle.laws.proofs.Parts.{no-room-placed, part-all, part-put}
 use Rattle.text.specs.declared.Written.{Written}
 use Rattle.text.specs.declared.Written.the-variants.{To, NoRoom}
 use Rattle.listing.specs.declared.Listed.the-variants.{Text, Refused}
-use Rattle.listing.specs.inner.Saying.{Said}
+use Rattle.saying.specs.Said.{Said}
 use Rattle.listing.specs.Answers.{textAt, TextTold}
-use Rattle.listing.proofs.Saying.{advanced-is, advanced-not}
+use Rattle.saying.proofs.SaidLaws.{advanced-is, advanced-not}
 
 pub told-beyond : (text out : List ℕ) (start : ℕ) → length out < start → TextTold text out start (Refused 5 0) out
 unfolding textAt

@@ -16,8 +16,8 @@ use Rattle.roll.specs.inner.Judged.{leftOf, Readable}
 use Rattle.roll.proofs.JudgeLaws.{terms-none, none-left}
 use Rattle.roll.proofs.Steps.{from-held, held-count, step-gives, left-terms}
 use Rattle.listing.specs.Text.{termLine, termLines}
-use Rattle.listing.specs.inner.Saying.{Said, Kept}
-use Rattle.listing.proofs.Saying.{Saying, saying-all, saying-more, saying-done}
+use Rattle.saying.specs.Said.{Said, Kept}
+use Rattle.saying.proofs.SaidLaws.{Saying, saying-all, saying-more, saying-done}
 
 pub record Listing (room : ℕ) (a : List ℕ) (w : Written) (s : List ℕ) (start : Cursor) (b : List ℕ) (said : Written) (c : Cursor) (number : ℕ) : Type 0 where
   pub readable : Readable c s

@@ -7,7 +7,7 @@ use native.Mathlib.Omega.{arith}
 use borrow.Author.Tests.{le-ltb, leb-true}
 use lib.Dec.{ltb, leb}
 use lib.ListN.{length}
-use Rattle.laws.specs.Placed.{placed}
+use Rattle.laws.specs.Placed.{placed, placedWhereFits}
 use Rattle.kind.specs.Limits.{mostListed}
 use Rattle.roll.specs.Reading.{Reading, got, refused, Roll, rollAt}
 use Rattle.listing.specs.declared.Listed.{Listed}
@@ -23,13 +23,16 @@ text-kept text out start true room some =
     absurd (omega (arith, rw (inside, whole) at some))
 text-kept text out start false full some = refl
 
+pub placed-kept : (text out : List ℕ) (start : ℕ) → 0 < refusalOf (textAt text out start) → placedWhereFits out start text ≡ out
+placed-kept text out start some = text-kept text out start (leb (start + length text) (length out)) refl some
+
 read-kept : (x : Reading Roll) (out : List ℕ) (start : ℕ) → 0 < refusalOf (readAnswer x out start) → readOut x out start ≡ out
-read-kept (got r end) out start some = text-kept (listingText r) out start (leb (start + length (listingText r)) (length out)) refl some
+read-kept (got r end) out start some = placed-kept (listingText r) out start some
 read-kept (refused n place) out start some = refl
 
 pub refused-line-kept : (refusal place : ℕ) (before : List ℕ) (start : ℕ) (r : Listed) (after : List ℕ) → TextTold (refusalText refusal place) before start r after → 0 < refusalOf r → after ≡ before
 refused-line-kept refusal place before start r after told some =
-    told .out ∙ text-kept (refusalText refusal place) before start (leb (start + length (refusalText refusal place)) (length before)) refl (rw (told .answer) at some)
+    told .out ∙ placed-kept (refusalText refusal place) before start (rw (told .answer) at some)
 
 pub refused-kept : (roll before : List ℕ) (start : ℕ) (r : Listed) (after : List ℕ) → ListingTold roll before start r after → 0 < refusalOf r → after ≡ before
 unfolding listingAt listingOut

@@ -2,20 +2,23 @@
 //
 // The same functions measure a text and write it: lent no bytes, they only find out whether it has room (D-74).
 ghost use mathlib.Core.Path.{_≡_};
-ghost use mathlib.Core.List.{_++_};
 ghost use Prim.Native.Nat.{_≤_};
 ghost use lib.ListN.{length};
-ghost use Rattle.text.specs.Digits.{decimalOf};
 ghost use Rattle.roll.specs.inner.Held.{fromHeld};
 ghost use Rattle.roll.specs.inner.Judged.{Judged, leftOf, Readable};
-ghost use Rattle.listing.specs.Text.{afterBlanks, kindText, headLine, termNumbers, termLine, termLines, carriesPlace, refusalText};
-ghost use Rattle.listing.specs.inner.Saying.{advanced, Said, Kept, textOf};
+ghost use Rattle.saying.specs.Said.{Said, Kept};
+ghost use Rattle.listing.specs.Text.{kindText, headLine, termNumbers, termLine, termLines, carriesPlace, refusalText};
+ghost use Rattle.listing.specs.inner.Whole.{textOf};
 ghost use Rattle.listing.specs.Answers.{TextTold, ListingTold};
 use kind::Kind;
 use kind::Named;
 use roll::Cursor;
 use roll::Opened;
 use roll::Opening;
+use saying::say;
+use saying::say_each;
+use saying::say_named;
+use saying::say_number;
 use term::Term;
 use text::Written;
 
@@ -25,73 +28,13 @@ pub enum Listed {
     Refused(u8, usize),
 }
 
-// The place after `n` more bytes, where the room has them.
-fn advance(room: usize, at: usize, n: usize) -> Written
-    ensures { λ r. ⌜ r ≡ advanced room (Written.To at) n ⌝ }
-{
-    if room < at {
-        return Written::NoRoom;
-    }
-    if room - at < n {
-        return Written::NoRoom;
-    }
-    Written::To(at + n)
-}
-
-// Bytes after what was said. Where they don't fit into the bytes lent, those stay as they are.
-fn say(out: &mut [u8], room: usize, w: Written, bytes: &[u8]) -> Written
-    ensures { λ r. ⌜ Said room (now (out .entry)) w (now (bytes .entry)) r (now (out .exit)) ⌝ }
-{
-    match w {
-        Written::To(at) => {
-            text::put(out, at, bytes);
-            advance(room, at, bytes.len())
-        }
-        Written::NoRoom => Written::NoRoom,
-    }
-}
-
-fn say_number(out: &mut [u8], room: usize, w: Written, n: u64) -> Written
-    ensures { λ r. ⌜ Said room (now (out .entry)) w (decimalOf n) r (now (out .exit)) ⌝ }
-{
-    match w {
-        Written::To(at) => {
-            text::decimal(out, at, n);
-            advance(room, at, text::places(n))
-        }
-        Written::NoRoom => Written::NoRoom,
-    }
-}
-
-// Bytes, then a number.
-fn say_named(out: &mut [u8], room: usize, w: Written, name: &[u8], n: u64) -> Written
-    ensures { λ r. ⌜ Said room (now (out .entry)) w (now (name .entry) ++ decimalOf n) r (now (out .exit)) ⌝ }
-{
-    let named = say(out, room, w, name);
-    say_number(out, room, named, n)
-}
-
-// Numbers, each after a blank.
-fn say_row(out: &mut [u8], room: usize, w: Written, values: &[u8]) -> Written
-    requires { ⌜ Kept room w ⌝ }
-    ensures { λ r. ⌜ Said room (now (out .entry)) w (afterBlanks (now (values .entry))) r (now (out .exit)) ⌝ }
-{
-    let mut said = w;
-    let mut i = 0;
-    while i < values.len() {
-        said = say_named(out, room, said, b" ", values[i] as u64);
-        i += 1;
-    }
-    said
-}
-
 // The kind and its orders.
 fn say_kind(out: &mut [u8], room: usize, kind: Kind, orders: &[u8]) -> Written
     ensures { λ r. ⌜ Said room (now (out .entry)) (Written.To 0) (kindText kind (now (orders .entry))) r (now (out .exit)) ⌝ }
 {
     let named = say_named(out, room, Written::To(0), b"kind ", kind.number() as u64);
     let ordered = say(out, room, named, b" orders");
-    say_row(out, room, ordered, orders)
+    say_each(out, room, ordered, b" ", orders)
 }
 
 // The first line.
@@ -128,7 +71,7 @@ fn say_term(out: &mut [u8], room: usize, w: Written, number: u64, t: Term) -> Wr
     let prefactors = t.prefactors;
     let count = t.count as usize;
     let numbered = say_numbers(out, room, w, number, t.scale, t.boys);
-    let listed = say_row(out, room, numbered, &prefactors[0..count]);
+    let listed = say_each(out, room, numbered, b" ", &prefactors[0..count]);
     say(out, room, listed, b"\n")
 }
 

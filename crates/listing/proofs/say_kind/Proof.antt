@@ -1,5 +1,4 @@
 -- `say_kind` meets its contract: three pieces. Assumes nothing.
-use Rattle.listing.proofs.Saying.{said-kept}
 use Rattle.listing.proofs.Lines.{kind-said}
 use borrow.Author.Needs.{needs}
 use Rattle.listing.proofs.say_kind.Statement.{statement}
@@ -23,8 +22,11 @@ slice-aggregate-say c = search needs
 say-requires : tie.Need-say-requires
 say-requires c κs = search needs
 
-say-row-requires : tie.Need-say-row-requires
-say-row-requires c κs = said-kept _ _ _ _ _ _ (c .before .before .before .say .ensures)
+slice-aggregate-say-each : tie.Need-slice-aggregate-say-each
+slice-aggregate-say-each c = search needs
+
+say-each-requires : tie.Need-say-each-requires
+say-each-requires c κs = search needs
 
 same-length : tie.Need-same-length
 same-length c = search needs
@@ -42,6 +44,7 @@ say-kind-spec =
     say-named-requires
     slice-aggregate-say
     say-requires
-    say-row-requires
+    slice-aggregate-say-each
+    say-each-requires
     same-length
     returns)

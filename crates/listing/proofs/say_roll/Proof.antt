@@ -1,5 +1,5 @@
 -- `say_roll` meets its contract: the head line and the terms of a judged roll are its text. Assumes nothing.
-use Rattle.listing.proofs.Saying.{said-kept}
+use Rattle.saying.proofs.SaidLaws.{said-kept}
 use Rattle.roll.proofs.Checked.{judged-readable}
 use Rattle.listing.proofs.Rolls.{roll-orders, roll-said, roll-unknown}
 use borrow.Author.Needs.{needs}

@@ -1,5 +1,4 @@
 -- `say_term` meets its contract: three pieces. Assumes nothing.
-use Rattle.listing.proofs.Saying.{said-kept}
 use Rattle.listing.proofs.Lines.{term-said}
 use borrow.Author.Needs.{needs}
 use Rattle.listing.proofs.say_term.Statement.{statement}
@@ -11,17 +10,20 @@ cast-count c = search needs
 say-numbers-requires : tie.Need-say-numbers-requires
 say-numbers-requires c κs = search needs
 
-sub-say-row : tie.Need-sub-say-row
-sub-say-row c = search needs
+slice-aggregate-say-each : tie.Need-slice-aggregate-say-each
+slice-aggregate-say-each c = search needs
 
-part-say-row-start : tie.Need-part-say-row-start
-part-say-row-start c = search needs
+sub-say-each : tie.Need-sub-say-each
+sub-say-each c = search needs
 
-part-say-row-end : tie.Need-part-say-row-end
-part-say-row-end c = search needs
+part-say-each-start : tie.Need-part-say-each-start
+part-say-each-start c = search needs
 
-say-row-requires : tie.Need-say-row-requires
-say-row-requires c κs = search said-kept
+part-say-each-end : tie.Need-part-say-each-end
+part-say-each-end c = search needs
+
+say-each-requires : tie.Need-say-each-requires
+say-each-requires c κs = search needs
 
 slice-aggregate-say : tie.Need-slice-aggregate-say
 slice-aggregate-say c = search needs
@@ -41,10 +43,11 @@ say-term-spec =
     (tie.spec
     cast-count
     say-numbers-requires
-    sub-say-row
-    part-say-row-start
-    part-say-row-end
-    say-row-requires
+    slice-aggregate-say-each
+    sub-say-each
+    part-say-each-start
+    part-say-each-end
+    say-each-requires
     slice-aggregate-say
     say-requires
     same-length

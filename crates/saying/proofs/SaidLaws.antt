@@ -16,7 +16,7 @@ use Rattle.text.specs.declared.Written.{Written}
 use Rattle.text.specs.declared.Written.the-variants.{To, NoRoom}
 use Rattle.laws.specs.Placed.{roomFor}
 use Rattle.text.specs.Writing.{WrittenTold}
-use Rattle.listing.specs.inner.Saying.{advanced, Said, Kept}
+use Rattle.saying.specs.Said.{advanced, Said, Kept}
 
 -- ---- places
 
@@ -53,8 +53,6 @@ advanced-not room n at e =
     tested (leb (at + n) room)
     (λ t. let is : To (at + n) ≡ NoRoom = rw t at e in absurd (clash (cc)))
     (λ f. leb-false (at + n) room f)
-
--- ---- stores
 
 -- ---- one piece
 

@@ -1,8 +1,8 @@
 -- `advance` meets its contract: a law for each answer. Assumes nothing.
-use Rattle.listing.proofs.Saying.{advanced-past, advanced-none, advanced-to}
+use Rattle.saying.proofs.SaidLaws.{advanced-past, advanced-none, advanced-to}
 use borrow.Author.Needs.{needs}
-use Rattle.listing.proofs.advance.Statement.{statement}
-use Rattle.listing.proofs.advance.Tie as tie
+use Rattle.saying.proofs.advance.Statement.{statement}
+use Rattle.saying.proofs.advance.Tie as tie
 
 returns : tie.Need-returns
 returns c = search advanced-past

@@ -1,8 +1,8 @@
 -- `say` meets its contract: bytes put down where they have room are a piece said. Assumes nothing.
-use Rattle.listing.proofs.Saying.{said-piece, said-nothing}
+use Rattle.saying.proofs.Pieces.{piece-put, piece-none}
 use borrow.Author.Needs.{needs}
-use Rattle.listing.proofs.say.Statement.{statement}
-use Rattle.listing.proofs.say.Tie as tie
+use Rattle.saying.proofs.say.Statement.{statement}
+use Rattle.saying.proofs.say.Tie as tie
 
 enum-known-w : tie.Need-enum-known-w
 enum-known-w c = search needs
@@ -20,10 +20,10 @@ same-length : tie.Need-same-length
 same-length c = search needs
 
 returns : tie.Need-returns
-returns c = search said-piece
+returns c = search piece-put
 
 returns-2 : tie.Need-returns-2
-returns-2 c = search said-nothing
+returns-2 c = search piece-none
 
 pub say-spec : {M : Type 1} → statement M
 say-spec =

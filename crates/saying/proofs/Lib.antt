@@ -1,0 +1,3 @@
+pub mod Only
+pub mod Pieces
+pub mod SaidLaws
