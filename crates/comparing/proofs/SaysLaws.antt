@@ -17,9 +17,9 @@ use Rattle.text.specs.declared.Written.the-variants.{To}
 use Rattle.text.specs.Digits.{decimalOf}
 use Rattle.roll.specs.inner.Held.{fromHeld}
 use Rattle.listing.specs.Text.{blank, colon, feed, kindWord, refusedWord, atWord, afterBlanks}
-use Rattle.listing.specs.inner.Saying.{Said, Kept}
-use Rattle.listing.proofs.Saying.{Saying, said-both, said-none, said-kept, saying-all}
-use Rattle.listing.proofs.Lines.{row-done}
+use Rattle.saying.specs.Said.{Said, Kept, eachAfter}
+use Rattle.saying.proofs.SaidLaws.{said-both, said-none}
+use Rattle.listing.proofs.Lines.{each-blanks}
 use Rattle.comparing.specs.declared.differ.Compared.{Compared}
 use Rattle.comparing.specs.declared.differ.Outcome.{Outcome}
 use Rattle.comparing.specs.declared.differ.Outcome.the-variants as outcome
@@ -31,11 +31,8 @@ use Rattle.comparing.specs.inner.Sided.{shown}
 
 -- ---- a row
 
-pub row-first : (room : ℕ) (a b name whole : List ℕ) (w q : Written) → Said room a w name q b → Saying room b q whole b q whole
-row-first room a b name whole w q named = saying-all room b q whole (said-kept room a b name w q named)
-
-pub row-said : (room : ℕ) (a b c name values : List ℕ) (i : ℕ) (w q r : Written) → Said room a w name q b → Saying room b q (afterBlanks values) c r (afterBlanks (drop i values)) → length values ≤ i → Said room a w (name ++ afterBlanks values) r c
-row-said room a b c name values i w q r named s end = said-both named (row-done room b c (afterBlanks values) values i q r s end)
+pub row-said : (room : ℕ) (a b c name values : List ℕ) (w q r : Written) → Said room a w name q b → Said room b q (eachAfter blank values) r c → Said room a w (name ++ afterBlanks values) r c
+row-said room a b c name values w q r named row = rw (each-blanks values) (said-both named row)
 
 -- ---- a term
 

@@ -1,5 +1,5 @@
 // The pieces of a comparison's text, each into a lent buffer: the head, then the line of one position after the other.
-ghost use Rattle.listing.specs.inner.Saying.{Said};
+ghost use Rattle.saying.specs.Said.{Said};
 ghost use Rattle.listing.specs.Answers.{TextTold};
 ghost use Rattle.comparing.specs.Answers.{headOf, comparedText, metText};
 use crate::differ::Compared;

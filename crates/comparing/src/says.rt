@@ -1,76 +1,28 @@
-// Text said piece by piece, as the listing says it: the same functions measure a text and write it. Lent no bytes, they only find out whether it has room.
+// The lines of a comparison, said piece by piece as the listing's are: the same functions measure a text and write it.
 ghost use mathlib.Core.Path.{_≡_};
 ghost use mathlib.Core.List.{_++_};
 ghost use lib.ListN.{take};
-ghost use Rattle.text.specs.Digits.{decimalOf};
 ghost use Rattle.roll.specs.inner.Held.{fromHeld};
+ghost use Rattle.saying.specs.Said.{Said, Kept};
 ghost use Rattle.listing.specs.Text.{colon, kindWord, afterBlanks};
-ghost use Rattle.listing.specs.inner.Saying.{advanced, Said, Kept};
 ghost use Rattle.comparing.specs.Text.{both, readingText, numberedText, oneLine, lineText, countLine, pairLine, ordersLine, refusedText};
 ghost use Rattle.comparing.specs.Answers.{usedOf};
 ghost use Rattle.comparing.specs.inner.Sided.{shown};
 use crate::differ::used;
 use kind::Kind;
+use saying::say;
+use saying::say_each;
+use saying::say_named;
+use saying::say_number;
 use term::Term;
 use text::Written;
-
-// The place after `n` more bytes, where the room has them.
-fn advance(room: usize, at: usize, n: usize) -> Written
-    ensures { λ r. ⌜ r ≡ advanced room (Written.To at) n ⌝ }
-{
-    if room < at {
-        return Written::NoRoom;
-    }
-    if room - at < n {
-        return Written::NoRoom;
-    }
-    Written::To(at + n)
-}
-
-// Bytes after what was said. Where they don't fit into the bytes lent, those stay as they are.
-fn say(out: &mut [u8], room: usize, w: Written, bytes: &[u8]) -> Written
-    ensures { λ r. ⌜ Said room (now (out .entry)) w (now (bytes .entry)) r (now (out .exit)) ⌝ }
-{
-    match w {
-        Written::To(at) => {
-            text::put(out, at, bytes);
-            advance(room, at, bytes.len())
-        }
-        Written::NoRoom => Written::NoRoom,
-    }
-}
-
-fn say_number(out: &mut [u8], room: usize, w: Written, n: u64) -> Written
-    ensures { λ r. ⌜ Said room (now (out .entry)) w (decimalOf n) r (now (out .exit)) ⌝ }
-{
-    match w {
-        Written::To(at) => {
-            text::decimal(out, at, n);
-            advance(room, at, text::places(n))
-        }
-        Written::NoRoom => Written::NoRoom,
-    }
-}
-
-// Bytes, then a number.
-fn say_named(out: &mut [u8], room: usize, w: Written, name: &[u8], n: u64) -> Written
-    ensures { λ r. ⌜ Said room (now (out .entry)) w (now (name .entry) ++ decimalOf n) r (now (out .exit)) ⌝ }
-{
-    let named = say(out, room, w, name);
-    say_number(out, room, named, n)
-}
 
 // Bytes, then numbers, each after a blank.
 fn say_row(out: &mut [u8], room: usize, w: Written, name: &[u8], values: &[u8]) -> Written
     ensures { λ r. ⌜ Said room (now (out .entry)) w (now (name .entry) ++ afterBlanks (now (values .entry))) r (now (out .exit)) ⌝ }
 {
-    let mut said = say(out, room, w, name);
-    let mut i = 0;
-    while i < values.len() {
-        said = say_named(out, room, said, b" ", values[i] as u64);
-        i += 1;
-    }
-    said
+    let named = say(out, room, w, name);
+    say_each(out, room, named, b" ", values)
 }
 
 // How many prefactors a term has: no more than it has places.

@@ -1,5 +1,5 @@
 -- `say_head` meets its contract: three pieces. Assumes nothing.
-use Rattle.listing.proofs.Saying.{said-kept}
+use Rattle.saying.proofs.SaidLaws.{said-kept}
 use Rattle.comparing.proofs.SaysLaws.{head-said}
 use borrow.Author.Needs.{needs}
 use Rattle.comparing.proofs.pieces.say_head.Statement.{statement}

@@ -1,5 +1,5 @@
 -- `say_first` meets its contract: three pieces. Assumes nothing.
-use Rattle.listing.proofs.Saying.{said-kept}
+use Rattle.saying.proofs.SaidLaws.{said-kept}
 use Rattle.comparing.proofs.SaysLaws.{first-said}
 use borrow.Author.Needs.{needs}
 use Rattle.comparing.proofs.says.say_first.Statement.{statement}
@@ -18,7 +18,7 @@ slice-aggregate-say-pair : tie.Need-slice-aggregate-say-pair
 slice-aggregate-say-pair c = search needs
 
 say-pair-requires : tie.Need-say-pair-requires
-say-pair-requires c κs = said-kept _ _ _ _ _ _ (c .before .before .before .before .say .ensures)
+say-pair-requires c κs = said-kept _ _ _ _ _ _ (c .before .before .before .before .say .ensures .said)
 
 same-length : tie.Need-same-length
 same-length c = search needs
