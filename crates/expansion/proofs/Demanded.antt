@@ -231,7 +231,7 @@ zeros [] e = refl
 zeros (n ∷ l) e = let none : n ≡ 0 = omega arith in ap₂ _∷_ none (zeros l (omega arith))
 
 -- the orders that a kind uses, with zeros behind, are the twelve of a request
-all-orders : (k : Kind) (orders : List ℕ) → RequestWithin k orders → take (ordersOf k) orders ++ replicate (requestOrders - length (take (ordersOf k) orders)) 0 ≡ orders
+pub all-orders : (k : Kind) (orders : List ℕ) → RequestWithin k orders → take (ordersOf k) orders ++ replicate (requestOrders - length (take (ordersOf k) orders)) 0 ≡ orders
 all-orders k orders within =
     ap (λ (l : List ℕ). take (ordersOf k) orders ++ l) (ap (λ (n : ℕ). replicate n 0) behind ∙ sym (zeros (drop (ordersOf k) orders) (rest-zero k orders within)))
     ∙ take-append-drop (ordersOf k) orders

@@ -179,7 +179,7 @@ module _ (k : Kind) (os : List ℕ) (within : RequestWithin k os) where
       ∙ ap (λ (l : List ℕ). n ∷ l) (sym (append-assoc (take (ordersOf k) os) (bytesOf (length (termsOf k os))) bytes))
 
   -- what stands before the terms, and the terms, in each form
-  roll-bytes : (doing : ℕ) → rollIn doing k os ≡ headOf (formOf doing) k os ++ formsBytes doing [] (termsOf k os)
+  pub roll-bytes : (doing : ℕ) → rollIn doing k os ≡ headOf (formOf doing) k os ++ formsBytes doing [] (termsOf k os)
   unfolding rollOf rollOf2 rollBytes rollBytes2 headOf formOf formsBytes
   roll-bytes doing = by (eqb doing inForm1)
     where
@@ -195,7 +195,7 @@ module _ (k : Kind) (os : List ℕ) (within : RequestWithin k os) where
   pub orders-long : length (take (ordersOf k) os) ≡ ordersOf k
   orders-long = length-take (ordersOf k) os ∙ (let h = orders-within k in let l = within .in-full in omega arith)
 
-  head-length : (form : ℕ) → length (headOf form k os) ≡ 1 + ordersOf k + lengthOf (length (termsOf k os))
+  pub head-length : (form : ℕ) → length (headOf form k os) ≡ 1 + ordersOf k + lengthOf (length (termsOf k os))
   unfolding headOf lengthOf
   head-length form = let a = length-append (take (ordersOf k) os) (bytesOf (length (termsOf k os))) in let c = orders-long in omega arith
 
@@ -265,7 +265,7 @@ pub form-two : (doing : ℕ) → (doing ≡ inForm1 → ⊥) → formTwo ≡ for
 unfolding formOf
 form-two doing e = sym (ap (λ (b : Bool). cond b 0 formTwo) (ne-eqb doing inForm1 e))
 
-form-most : (doing : ℕ) → formOf doing ≤ formTwo
+pub form-most : (doing : ℕ) → formOf doing ≤ formTwo
 unfolding formOf
 form-most doing = by (eqb doing inForm1)
   where

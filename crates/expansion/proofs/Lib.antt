@@ -1,3 +1,4 @@
+pub mod AgainstLaws
 pub mod Answers
 pub mod BothForms
 pub mod Demanded
@@ -6,6 +7,9 @@ pub mod FurtherWords
 pub mod HeaderLaws
 pub mod Longest
 pub mod Many
+pub mod MatchCycle
+pub mod MatchLaws
+pub mod MatchTerms
 pub mod MeasureCycle
 pub mod MeasureGroups
 pub mod MeasureSizes

@@ -6,9 +6,12 @@ use Rattle.kind.specs.Kinds.{kindOf}
 use Rattle.laws.proofs.Contract.{Alone, alone, Lent, _then_, _▸_, end}
 use Rattle.expansion.specs.declared.Expanded.{Expanded}
 use Rattle.kind.specs.declared.Kind.{Kind}
-use Rattle.expansion.specs.Expanding.{tooHigh, unusedSet, namedTold, namedMeasured, namedOut, namedTold2, namedOut2}
+use Rattle.expansion.specs.Expanding.{tooHigh, unusedSet, rollOf, rollOf2, namedTold, namedMeasured, namedOut, namedTold2, namedOut2}
+use Rattle.expansion.specs.Against.{namedAgainst}
 use Rattle.expansion.proofs.expand.Reads.{Post as Expand}
 use Rattle.expansion.proofs.expand2.Reads.{Post as Expand2}
+use Rattle.expansion.proofs.holding.against.Reads.{Post as Held}
+use Rattle.expansion.proofs.holding.against2.Reads.{Post as Held2}
 use Rattle.expansion.proofs.request.too_high.Reads.{Post as TooHigh}
 use Rattle.expansion.proofs.request.unused_set.Reads.{Post as UnusedSet}
 use Rattle.expansion.proofs.size.roll_size.Reads.{Post as RollSize}
@@ -33,3 +36,10 @@ too-high-only k orders = alone (λ r p. p)
 
 pub unused-set-only : (k : Kind) (orders : List ℕ) → let g = k ▸ orders ▸ end in Alone (λ r. UnusedSet tt g r g) (unusedSet k orders)
 unused-set-only k orders = alone (λ r p. p)
+
+module _ (κs : Lfts 1) (kind : ℕ) (orders : List ℕ) (roll : Lent ℕ) where
+  pub against-only : let g = kind ▸ orders ▸ roll ▸ end in Alone (λ r. Held κs g r g) (namedAgainst rollOf (kindOf kind) orders (roll .now))
+  against-only = alone (λ r p. p)
+
+  pub against2-only : let g = kind ▸ orders ▸ roll ▸ end in Alone (λ r. Held2 κs g r g) (namedAgainst rollOf2 (kindOf kind) orders (roll .now))
+  against2-only = alone (λ r p. p)

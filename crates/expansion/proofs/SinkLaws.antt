@@ -74,7 +74,7 @@ module _ (ts xs ys : List Term) (split : ts ≡ xs ++ ys) (s : Sink) where
 
 -- ---- what all terms have come to
 
-forms-cons : (doing : ℕ) (earlier : List ℕ) (t : Term) (ts : List Term) → formsBytes doing earlier (t ∷ ts) ≡ formBytes doing earlier t ++ formsBytes doing (t .prefactors) ts
+pub forms-cons : (doing : ℕ) (earlier : List ℕ) (t : Term) (ts : List Term) → formsBytes doing earlier (t ∷ ts) ≡ formBytes doing earlier t ++ formsBytes doing (t .prefactors) ts
 unfolding formsBytes formBytes termsBytes termsBytes2
 forms-cons doing earlier t ts = by (eqb doing inForm1)
   where
@@ -82,7 +82,7 @@ forms-cons doing earlier t ts = by (eqb doing inForm1)
     by true = refl
     by false = refl
 
-forms-none : (doing : ℕ) (earlier : List ℕ) → formsBytes doing earlier [] ≡ []
+pub forms-none : (doing : ℕ) (earlier : List ℕ) → formsBytes doing earlier [] ≡ []
 unfolding formsBytes termsBytes termsBytes2
 forms-none doing earlier = by (eqb doing inForm1)
   where

@@ -1,3 +1,4 @@
+pub mod Against
 pub mod Demands
 pub mod Expanding
 pub mod inner

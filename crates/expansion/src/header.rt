@@ -41,7 +41,7 @@ pub(crate) fn first() -> Path
 }
 
 // What a form adds to the kind.
-fn begins(form: u64) -> u8
+pub(crate) fn begins(form: u64) -> u8
     ensures { λ r. ⌜ r ≡ formOf form ⌝ }
 {
     if form == FORM1 {
@@ -51,7 +51,13 @@ fn begins(form: u64) -> u8
 }
 
 // Writes what stands before the terms of a roll.
-fn put_head(out: &mut [u8], form: u8, kind: Kind, orders: [u8; Kind::ORDERS], terms: u64) -> usize
+pub(crate) fn put_head(
+    out: &mut [u8],
+    form: u8,
+    kind: Kind,
+    orders: [u8; Kind::ORDERS],
+    terms: u64,
+) -> usize
     requires { ⌜ HeadMay form kind orders terms (now out) ⌝ }
     ensures { λ r. ⌜ Emitted (headOf form kind orders) 0 (now (out .entry)) r (now (out .exit)) ⌝ }
 {

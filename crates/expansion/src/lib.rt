@@ -1,6 +1,8 @@
 // The expansion of a request: every complete history once, in dictionary order, as a roll of form 1 or form 2.
 mod further;
 mod header;
+mod holding;
+mod matching;
 mod measure;
 mod request;
 mod sink;
@@ -8,6 +10,9 @@ mod size;
 mod terms;
 mod walk;
 
+pub use holding::against;
+pub use holding::against2;
+pub use matching::Against;
 pub use request::too_high;
 pub use request::unused_set;
 pub use size::roll_size;

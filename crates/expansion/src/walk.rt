@@ -36,7 +36,14 @@ pub(crate) fn choose(kind: Kind, left: u64) -> Lowering
 }
 
 // Where a legal branch leads.
-fn child(kind: Kind, left: u64, path: Path, lowered: Lowered, times: u64, number: u8) -> Child
+pub(crate) fn child(
+    kind: Kind,
+    left: u64,
+    path: Path,
+    lowered: Lowered,
+    times: u64,
+    number: u8,
+) -> Child
     requires { ⌜ Good kind left path ⌝ }
     requires { ⌜ TurnMay kind left (lowered .centre) (lowered .axis) times number ⌝ }
     requires { ⌜ (times % 16 ≡ 0 → ⊥) ⌝ }
