@@ -9,7 +9,7 @@ use kind::Kind;
 use roll::Opened;
 
 // The two forms of a roll.
-pub(crate) enum Form {
+pub enum Form {
     One,
     Two,
 }

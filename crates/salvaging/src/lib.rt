@@ -2,11 +2,11 @@
 mod ends;
 mod forms;
 
+pub use forms::Form;
 ghost use mathlib.Core.Path.{_≡_};
 ghost use Rattle.salvaging.specs.Salvage.{SalvageTold};
 ghost use Rattle.salvaging.specs.inner.Renewing.{afterBy, ToldMay, ToldFrom, RenewMay, RenewTold};
 use crate::ends::leading;
-use crate::forms::Form;
 use crate::forms::expanded;
 use crate::forms::form_of;
 use crate::forms::opened;

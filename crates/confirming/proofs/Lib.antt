@@ -1,0 +1,5 @@
+pub mod ConfirmLaws
+pub mod Exactly
+pub mod Forms
+pub mod Only
+pub mod QuickLaws
