@@ -6,12 +6,15 @@ use Rattle.kind.specs.Kinds.{kindOf}
 use Rattle.laws.proofs.Contract.{Alone, alone, Lent, _then_, _▸_, end}
 use Rattle.expansion.specs.declared.Expanded.{Expanded}
 use Rattle.kind.specs.declared.Kind.{Kind}
+use Rattle.steps.specs.declared.CentreName.{CentreName}
+use Rattle.steps.specs.Choice.{sumOf}
 use Rattle.expansion.specs.Expanding.{tooHigh, unusedSet, rollOf, rollOf2, namedTold, namedMeasured, namedOut, namedTold2, namedOut2}
 use Rattle.expansion.specs.Against.{namedAgainst}
 use Rattle.expansion.proofs.expand.Reads.{Post as Expand}
 use Rattle.expansion.proofs.expand2.Reads.{Post as Expand2}
 use Rattle.expansion.proofs.holding.against.Reads.{Post as Held}
 use Rattle.expansion.proofs.holding.against2.Reads.{Post as Held2}
+use Rattle.expansion.proofs.request.sum_of.Reads.{Post as SumOf}
 use Rattle.expansion.proofs.request.too_high.Reads.{Post as TooHigh}
 use Rattle.expansion.proofs.request.unused_set.Reads.{Post as UnusedSet}
 use Rattle.expansion.proofs.size.roll_size.Reads.{Post as RollSize}
@@ -30,6 +33,9 @@ expand2-only κs kind orders out start = alone (λ x p i. (p .answer i, p .out i
 
 pub roll-size-only : (kind : ℕ) (orders : List ℕ) → let g = kind ▸ orders ▸ end in Alone (λ r. RollSize tt g r g) (namedMeasured (kindOf kind) orders)
 roll-size-only kind orders = alone (λ r p. p)
+
+pub sum-of-only : (orders : List ℕ) (c : CentreName) → let g = orders ▸ c ▸ end in Alone (λ r. SumOf tt g r g) (sumOf orders c)
+sum-of-only orders c = alone (λ r p. p)
 
 pub too-high-only : (k : Kind) (orders : List ℕ) → let g = k ▸ orders ▸ end in Alone (λ r. TooHigh tt g r g) (tooHigh k orders)
 too-high-only k orders = alone (λ r p. p)

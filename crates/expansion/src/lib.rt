@@ -13,6 +13,7 @@ mod walk;
 pub use holding::against;
 pub use holding::against2;
 pub use matching::Against;
+pub use request::sum_of;
 pub use request::too_high;
 pub use request::unused_set;
 pub use size::roll_size;

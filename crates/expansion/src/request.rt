@@ -28,7 +28,7 @@ fn three(orders: [u8; Kind::ORDERS], first: usize) -> u64
 }
 
 // The order sum of a centre.
-fn sum_of(orders: [u8; Kind::ORDERS], centre: CentreName) -> u64
+pub fn sum_of(orders: [u8; Kind::ORDERS], centre: CentreName) -> u64
     ensures { λ r. ⌜ r ≡ sumOf orders centre ⌝ }
 {
     match centre {

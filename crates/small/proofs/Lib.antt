@@ -1,0 +1,5 @@
+pub mod ExpandLaws
+pub mod Most
+pub mod Only
+pub mod ProfileLaws
+pub mod Units

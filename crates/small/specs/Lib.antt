@@ -1,0 +1,3 @@
+pub mod Expand
+pub mod Profile
+pub mod Shown
