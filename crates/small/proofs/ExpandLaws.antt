@@ -43,8 +43,8 @@ module _ (kind : ℕ) (k : Kind) (os out : List ℕ) (begin : ℕ) (is : kindOf 
         unfolding smallKind kindIn
         same-kind = simp (sym unused ∙ none, sym profile ∙ within, not-too-many k os (record { in-full = in-full; none-unused = sym unused ∙ none; within = sym profile ∙ within }))
 
-        same : namedTold (kindOf kind) os out begin ≡ smallNamed (kindOf kind) os out begin
-        same = ap (λ (m : Named). namedTold m os out begin) is ∙ same-kind ∙ ap (λ (m : Named). smallNamed m os out begin) (sym is)
+        pub same-named : namedTold (kindOf kind) os out begin ≡ smallNamed (kindOf kind) os out begin
+        same-named = ap (λ (m : Named). namedTold m os out begin) is ∙ same-kind ∙ ap (λ (m : Named). smallNamed m os out begin) (sym is)
 
         pub told-within : (r : Expanded) (after : List ℕ) → ExpandTold kind os out begin r after → SmallExpandTold kind os out begin r after
-        told-within r after told = record { answer = told .answer ∙ same; out = told .out ∙ ap (λ (x : Expanded). namedOut x (kindOf kind) os out begin) same }
+        told-within r after told = record { answer = told .answer ∙ same-named; out = told .out ∙ ap (λ (x : Expanded). namedOut x (kindOf kind) os out begin) same-named }

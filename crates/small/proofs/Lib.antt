@@ -1,3 +1,5 @@
+pub mod Accepted
+pub mod CheckLaws
 pub mod ExpandLaws
 pub mod Most
 pub mod Only

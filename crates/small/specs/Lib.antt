@@ -1,3 +1,5 @@
+pub mod Check
 pub mod Expand
 pub mod Profile
 pub mod Shown
+pub mod inner

@@ -1,4 +1,4 @@
--- 02, Q-13: what is shown of the profile. proofs/Most.antt proves all of it.
+-- 02, Q-13: what is shown of the profile: proofs/Units.antt of its terms and bytes, proofs/Most.antt of 4, proofs/Accepted.antt of its reader.
 use Prim.Native.Nat.{ℕ, _+_, _≤_}
 use mathlib.Core.Path.{_≡_}
 use mathlib.Core.Bool.{true, false, cond, not}
@@ -8,10 +8,13 @@ use Rattle.kind.specs.declared.Kind.{Kind}
 use Rattle.kind.specs.declared.Kind.the-variants.{Coulomb}
 use Rattle.kind.specs.Limits.{requestOrders}
 use Rattle.histories.specs.Centres.{x1, at}
+use Rattle.roll.specs.declared.header.Opening.the-variants as opening
 use Rattle.expansion.specs.declared.Expanded.{Expanded}
 use Rattle.expansion.specs.declared.Expanded.the-variants.{Roll, Refused}
+use Rattle.expansion.specs.Demands.{writtenAt}
 use Rattle.expansion.specs.Expanding.{_exceeds_, tooHigh, unusedSet, tooMany, termsOf, rollOf}
 use Rattle.small.specs.Profile.{small, mostSmallTerms, mostSmallRoll}
+use Rattle.small.specs.Check.{smallCheckOf}
 use Rattle.small.specs.Expand.{smallKind, SmallExpandTold}
 
 -- a request of the profile; the twelve orders are an array's
@@ -63,3 +66,29 @@ Reaches centre =
 
 abbrev pub Reached : Type 0
 Reached = Reaches x1 × Reaches y1 × Reaches z1
+
+-- ---- the reader: `small::small_check` answers a roll exactly for what `small::small_expand` writes
+
+-- bytes that a call of `small::small_expand` has written, by its contract
+pub record SmallWritten (s : List ℕ) : Type 0 where
+  pub kind : ℕ
+  pub orders : List ℕ
+  pub in-full : length orders ≡ requestOrders
+  pub before : List ℕ
+  pub begin : ℕ
+  pub long : ℕ
+  pub count : ℕ
+  pub after : List ℕ
+  pub told : SmallExpandTold kind orders before begin (Roll long count) after
+  pub is : s ≡ writtenAt after begin long
+
+-- "Its reader accepts only rolls that equal the fresh expansion byte for byte", and all of those
+abbrev pub OnlyWritten : Type 0
+OnlyWritten = (s : List ℕ) → smallCheckOf s .found ≡ opening.Roll → SmallWritten s
+
+abbrev pub EveryWritten : Type 0
+EveryWritten = (s : List ℕ) → SmallWritten s → smallCheckOf s .found ≡ opening.Roll
+
+-- so what it accepts has no more terms and no more bytes
+abbrev pub FewAccepted : Type 0
+FewAccepted = (s : List ℕ) → smallCheckOf s .found ≡ opening.Roll → (smallCheckOf s .cursor .left ≤ mostSmallTerms) × (length s ≤ mostSmallRoll)

@@ -1,16 +1,22 @@
 // The small-cabinet profile: overlap and Coulomb requests with an order sum of at most 1 on each centre, and their rolls in form 1.
+mod check;
 mod profile;
 
 ghost use mathlib.Core.Path.{_≡_};
 ghost use Rattle.kind.specs.Kinds.{kindOf};
 ghost use Rattle.kind.specs.declared.Named.the-variants as named;
+ghost use Rattle.small.specs.Check.{smallCheckOf};
 ghost use Rattle.small.specs.Expand.{SmallExpandTold};
+use crate::check::in_form1;
+use crate::check::in_form2;
 use crate::profile::is_small;
 use expansion::Expanded;
 use expansion::too_high;
 use expansion::unused_set;
+use form2::is_form2;
 use kind::Kind;
 use kind::Named;
+use roll::Opened;
 
 // Expands a request of a known kind.
 fn expand_known(
@@ -44,4 +50,14 @@ pub fn small_expand(kind: u8, orders: [u8; Kind::ORDERS], out: &mut [u8], start:
         Named::Unknown => Expanded::Refused(1),
         Named::Is(known) => expand_known(kind, known, orders, out, start),
     }
+}
+
+// A roll's header, where the roll is of the profile and equals the fresh expansion of its request byte for byte.
+pub fn small_check(roll: &[u8]) -> Opened
+    ensures { λ r. ⌜ r ≡ smallCheckOf (now (roll .entry)) ⌝ }
+{
+    if is_form2(roll) {
+        return in_form2(roll);
+    }
+    in_form1(roll)
 }

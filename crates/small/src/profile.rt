@@ -1,8 +1,11 @@
 // Whether a request keeps the profile.
 ghost use mathlib.Core.Path.{_≡_};
+ghost use Rattle.kind.specs.Kinds.{kindOf};
 ghost use Rattle.small.specs.Profile.{atMost, bothAtMost, allAtMost, small};
+ghost use Rattle.small.specs.inner.Checking.{smallAs};
 use expansion::sum_of;
 use kind::Kind;
+use kind::Named;
 use steps::CentreName;
 
 // The order sum on a centre of the profile is at most this.
@@ -45,5 +48,16 @@ pub(crate) fn is_small(kind: Kind, orders: [u8; Kind::ORDERS]) -> bool
         Kind::Nuclear => false,
         Kind::Moment => false,
         Kind::Coulomb => all_at_most(orders),
+    }
+}
+
+// The same by the kind's number.
+pub(crate) fn is_small_number(kind: u8, orders: [u8; Kind::ORDERS]) -> bool
+    ensures { λ r. ⌜ r ≡ smallAs (kindOf kind) orders ⌝ }
+{
+    let named = Kind::of(kind);
+    match named {
+        Named::Unknown => false,
+        Named::Is(known) => is_small(known, orders),
     }
 }
