@@ -1,8 +1,8 @@
 -- The profile's reader answers a roll exactly for the bytes that its expansion writes; so what it accepts has few terms and few bytes.
-use Prim.Native.Nat.{ℕ, _+_, _≤_, _<_}
-use mathlib.Core.Path.{_≡_, refl, sym, ap, ap₂, subst, _∙_}
+use Prim.Native.Nat.{ℕ, _+_, _≤_}
+use mathlib.Core.Path.{_≡_, refl, sym, ap, ap₂, _∙_}
 use mathlib.Core.Bool.{Bool, true, false, cond, not}
-use mathlib.Core.List.{List, [], _∷_, _++_}
+use mathlib.Core.List.{List, _++_}
 use native.Mathlib.Omega.{arith}
 use borrow.Author.Tests.{le-ltb}
 use lib.ListN.{length, getD, take}
@@ -15,7 +15,6 @@ use Rattle.kind.specs.declared.Kind.{Kind}
 use Rattle.kind.specs.declared.Named.{Named}
 use Rattle.kind.specs.declared.Named.the-variants.{Is, Unknown}
 use Rattle.kind.specs.Kinds.{kindOf, numberOf, ordersOf}
-use Rattle.kind.specs.Limits.{mostTerms, requestOrders}
 use Rattle.kind.proofs.KindNumber.{kind-number}
 use Rattle.kind.proofs.Within.{number-within}
 use Rattle.term.specs.Terms.{Term}
@@ -39,14 +38,14 @@ use Rattle.expansion.specs.Expanding.{_exceeds_, tooHigh, unusedSet, termsOf, r
 use Rattle.expansion.specs.inner.Requests.{RequestWithin}
 use Rattle.expansion.proofs.Demanded.{cut, known, written-is, demand-2}
 use Rattle.expansion.proofs.ReadsBack.{reads-back}
-use Rattle.small.specs.Profile.{small, mostSmallTerms, mostSmallRoll}
-use Rattle.small.specs.Check.{inForm2, ifFresh, withTerms, inForm1, smallCheckOf}
-use Rattle.small.specs.Expand.{smallKind, smallNamed, SmallExpandTold}
+use Rattle.small.specs.Profile.{small}
+use Rattle.small.specs.Check.{inForm2, withTerms, inForm1, smallCheckOf}
+use Rattle.small.specs.Expand.{smallKind, smallNamed}
 use Rattle.small.specs.Shown.{SmallRequest, SmallWritten, OnlyWritten, EveryWritten, FewAccepted}
 use Rattle.small.specs.inner.Checking.{SmallMay}
 use Rattle.small.proofs.CheckLaws.{check-one, check-two, in-profile, header-request}
 use Rattle.small.proofs.ExpandLaws.{same-named}
-use Rattle.small.proofs.Most.{not-too-high, not-too-many}
+use Rattle.small.proofs.Most.{not-too-high}
 use Rattle.small.proofs.Units.{few-terms, short-roll}
 
 -- the twelve orders of a header

@@ -13,7 +13,6 @@ use Rattle.laws.specs.Total.{total}
 use Rattle.laws.proofs.Cases.{clash, tested}
 use Rattle.laws.proofs.Parts.{sets-placed}
 use Rattle.laws.proofs.SameLaws.{same-numbers-refl, same-numbers-is}
-use Rattle.laws.proofs.Totals.{total-zero}
 use Rattle.kind.specs.declared.Kind.{Kind}
 use Rattle.kind.specs.declared.Named.{Named}
 use Rattle.kind.specs.declared.Named.the-variants.{Is}
@@ -161,10 +160,6 @@ header-request s may =
     }
 
 -- ---- the expansion
-
--- the bytes that are lent to it
-pub bytes-lent : (n : ℕ) → length {A = ℕ} (replicate n 0) ≡ n
-bytes-lent n = length-replicate n 0
 
 module _ (s : List ℕ) (o : Opened) (may : TermsMay s o) where
   abbrev kind : Kind

@@ -1,24 +1,22 @@
 -- A request of the profile keeps every limit of the expansion: its order sums are not too high and its terms never too many, so 4 is never given.
-use Prim.Native.Nat.{ℕ, _+_, _≤_}
-use mathlib.Core.Path.{_≡_, refl, sym, ap, _∙_}
+use Prim.Native.Nat.{ℕ, _+_}
+use mathlib.Core.Path.{_≡_, sym, ap}
 use mathlib.Core.Bool.{Bool, true, false, cond, not, _||_}
 use mathlib.Core.List.{List}
 use native.Mathlib.Omega.{arith}
 use borrow.Author.Tests.{leb-true, le-ltb}
-use lib.Dec.{leb, ltb}
 use lib.ListN.{length}
-use Rattle.laws.proofs.Cases.{clash, tested, and-left, and-right, false-not-true}
+use Rattle.laws.proofs.Cases.{tested, and-left, and-right, false-not-true}
 use Rattle.kind.specs.declared.Kind.{Kind}
 use Rattle.kind.specs.declared.Kind.the-variants.{Overlap, Kinetic, Nuclear, Moment, Coulomb}
 use Rattle.kind.specs.declared.Named.{Named}
 use Rattle.kind.specs.declared.Named.the-variants.{Is, Unknown}
 use Rattle.kind.specs.Kinds.{kindOf}
-use Rattle.kind.specs.Limits.{mostOrder, mostTerms, requestOrders}
+use Rattle.kind.specs.Limits.{mostOrder, mostTerms}
 use Rattle.steps.specs.declared.CentreName.{CentreName}
 use Rattle.steps.specs.declared.CentreName.the-variants.{A, B, C, D}
 use Rattle.steps.specs.Choice.{sumOf}
 use Rattle.expansion.specs.declared.Expanded.{Expanded}
-use Rattle.expansion.specs.declared.Expanded.the-variants.{Roll, Refused}
 use Rattle.expansion.specs.Expanding.{_exceeds_, tooHigh, unusedSet, tooMany, termsOf, rollOf, refusalOf}
 use Rattle.small.specs.Profile.{mostSmall, atMost, bothAtMost, small}
 use Rattle.small.specs.Expand.{smallKind, smallNamed}

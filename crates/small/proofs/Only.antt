@@ -6,7 +6,6 @@ use Rattle.kind.specs.Kinds.{kindOf}
 use Rattle.laws.proofs.Contract.{Alone, alone, Lent, _then_, _▸_, end}
 use Rattle.expansion.specs.declared.Expanded.{Expanded}
 use Rattle.expansion.specs.Expanding.{namedOut}
-use Rattle.roll.specs.declared.header.Opened.{Opened}
 use Rattle.small.specs.Check.{smallCheckOf}
 use Rattle.small.specs.Expand.{smallNamed}
 use Rattle.small.proofs.small_check.Reads.{Post as SmallCheck}

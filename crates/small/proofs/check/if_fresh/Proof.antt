@@ -1,5 +1,5 @@
 -- `if_fresh` meets its contract: the lent bytes have room for every roll of the profile, so the expansion is never refused.
-use Rattle.small.proofs.CheckLaws.{bytes-lent, fresh-end, fresh-told, fresh-never}
+use Rattle.small.proofs.CheckLaws.{fresh-end, fresh-told, fresh-never}
 use borrow.Author.Needs.{needs}
 use Rattle.small.proofs.check.if_fresh.Statement.{statement}
 use Rattle.small.proofs.check.if_fresh.Tie as tie
@@ -20,7 +20,7 @@ part-held-start : tie.Need-part-held-start
 part-held-start c = search needs
 
 part-held-end : tie.Need-part-held-end
-part-held-end c = search (fresh-end, bytes-lent)
+part-held-end c = search fresh-end
 
 held-requires : tie.Need-held-requires
 held-requires c κs = search needs
@@ -32,10 +32,10 @@ refused-roll-requires : tie.Need-refused-roll-requires
 refused-roll-requires c κs = search needs
 
 returns : tie.Need-returns
-returns c = search (fresh-told, bytes-lent)
+returns c = search fresh-told
 
 returns-2 : tie.Need-returns-2
-returns-2 c = search (fresh-never, bytes-lent)
+returns-2 c = search fresh-never
 
 pub if-fresh-spec : {M : Type 1} → statement M
 if-fresh-spec =
