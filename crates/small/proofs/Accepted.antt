@@ -41,11 +41,11 @@ use Rattle.expansion.proofs.ReadsBack.{reads-back}
 use Rattle.small.specs.Profile.{small}
 use Rattle.small.specs.Check.{inForm2, withTerms, inForm1, smallCheckOf}
 use Rattle.small.specs.Expand.{smallKind, smallNamed}
-use Rattle.small.specs.Shown.{SmallRequest, SmallWritten, OnlyWritten, EveryWritten, FewAccepted}
+use Rattle.small.specs.Shown.{SmallRequest, SmallWritten, OnlyWritten, EveryWritten, termsWithFour, form1WithFour, checkWithFour, SameCheckWithFour, FewAccepted}
 use Rattle.small.specs.inner.Checking.{SmallMay}
 use Rattle.small.proofs.CheckLaws.{check-one, check-two, in-profile, header-request}
 use Rattle.small.proofs.ExpandLaws.{same-named}
-use Rattle.small.proofs.Most.{not-too-high}
+use Rattle.small.proofs.Most.{not-too-high, not-too-many}
 use Rattle.small.proofs.Units.{few-terms, short-roll}
 
 -- the twelve orders of a header
@@ -242,3 +242,21 @@ module _ (s : List ℕ) (w : SmallWritten s) where
 
 pub every-written : EveryWritten
 every-written s w = ap (λ (l : List ℕ). smallCheckOf l .found) (w .is) ∙ ap (λ (o : Opened). o .found) (accepted-bytes s w)
+
+-- ---- 4 is never given
+
+four-never : (s : List ℕ) (may : SmallMay s) (x : Reading (List Term)) → termsWithFour s (may .h .kind) (heldHeader (got (may .h) (may .next))) x ≡ withTerms s (may .h .kind) (heldHeader (got (may .h) (may .next))) x
+four-never s may (refused n place) = refl
+four-never s may (got ts end) = simp (not-too-many (may .h .kind) (ordersIn (may .h) (may .next)) (header-request s may))
+
+pub same-check-with-four : SameCheckWithFour
+unfolding checkWithFour smallCheckOf
+same-check-with-four s = ap (cond (isForm2 s) (inForm2 (headerAt2 s))) (by (headerAt s) refl)
+  where
+    by : (x : Reading Header) → headerAt s ≡ x → form1WithFour s x ≡ inForm1 s x
+    by (refused n place) e = refl
+    by (got h next) e =
+        tested (small (h .kind) (ordersIn h next))
+        (λ w. ap (cond (not (small (h .kind) (ordersIn h next))) (refusedOpened 19 0))
+        (four-never s (record { h = h; next = next; reads = e; within = w }) (termsAt s next (h .terms) (h .kind) (total (h .orders)))))
+        (λ w. simp w)

@@ -8,13 +8,20 @@ use Rattle.kind.specs.declared.Kind.{Kind}
 use Rattle.kind.specs.declared.Kind.the-variants.{Coulomb}
 use Rattle.kind.specs.Limits.{requestOrders}
 use Rattle.histories.specs.Centres.{x1, at}
+use Rattle.laws.specs.Total.{total}
+use Rattle.term.specs.Terms.{Term}
+use Rattle.roll.specs.declared.header.Opened.{Opened}
 use Rattle.roll.specs.declared.header.Opening.the-variants as opening
+use Rattle.roll.specs.Reading.{Reading, got, refused, Header, headerAt, termsAt}
+use Rattle.roll.specs.Header.{refusedOpened, heldHeader}
+use Rattle.form2.specs.Header.{isForm2}
+use Rattle.form2.specs.Reading.{headerAt2}
 use Rattle.expansion.specs.declared.Expanded.{Expanded}
 use Rattle.expansion.specs.declared.Expanded.the-variants.{Roll, Refused}
 use Rattle.expansion.specs.Demands.{writtenAt}
 use Rattle.expansion.specs.Expanding.{_exceeds_, tooHigh, unusedSet, tooMany, termsOf, rollOf}
 use Rattle.small.specs.Profile.{small, mostSmallTerms, mostSmallRoll}
-use Rattle.small.specs.Check.{smallCheckOf}
+use Rattle.small.specs.Check.{inForm2, ifFresh, smallCheckOf}
 use Rattle.small.specs.Expand.{smallKind, SmallExpandTold}
 
 -- a request of the profile; the twelve orders are an array's
@@ -89,6 +96,24 @@ OnlyWritten = (s : List ℕ) → smallCheckOf s .found ≡ opening.Roll → Smal
 abbrev pub EveryWritten : Type 0
 EveryWritten = (s : List ℕ) → SmallWritten s → smallCheckOf s .found ≡ opening.Roll
 
--- so what it accepts has no more terms and no more bytes
+-- with a line for 4, where a request has too many terms for the expansion
+abbrev pub termsWithFour : List ℕ → Kind → Opened → Reading (List Term) → Opened
+termsWithFour s k o (got ts end) = cond (tooMany k (o .orders)) (refusedOpened 4 0) (ifFresh s (rollOf k (o .orders)) o)
+termsWithFour s k o (refused r place) = refusedOpened r place
+
+abbrev pub form1WithFour : List ℕ → Reading Header → Opened
+form1WithFour s (got h next) =
+    cond (not (small (h .kind) (heldHeader (got h next) .orders))) (refusedOpened 19 0)
+    (termsWithFour s (h .kind) (heldHeader (got h next)) (termsAt s next (h .terms) (h .kind) (total (h .orders))))
+form1WithFour s (refused r place) = refusedOpened r place
+
+unfoldable pub checkWithFour : List ℕ → Opened
+checkWithFour s = cond (isForm2 s) (inForm2 (headerAt2 s)) (form1WithFour s (headerAt s))
+
+-- the answers are the same
+abbrev pub SameCheckWithFour : Type 0
+SameCheckWithFour = (s : List ℕ) → checkWithFour s ≡ smallCheckOf s
+
+-- what it accepts has no more terms and no more bytes
 abbrev pub FewAccepted : Type 0
 FewAccepted = (s : List ℕ) → smallCheckOf s .found ≡ opening.Roll → (smallCheckOf s .cursor .left ≤ mostSmallTerms) × (length s ≤ mostSmallRoll)
