@@ -1,18 +1,15 @@
 -- The functions of src/check.rt: a law for each need and each way out.
-use Prim.Native.Nat.{ℕ, zero, suc, _+_, _-_, _≤_}
+use Prim.Native.Nat.{ℕ, zero, suc, _-_}
 use mathlib.Core.Path.{_≡_, refl, sym, ap, ap₂, subst, _∙_}
 use mathlib.Core.Bool.{Bool, true, false}
 use mathlib.Core.List.{List, _++_}
 use native.Mathlib.Omega.{arith}
 use borrow.Author.Tests.{le-ltb}
-use lib.ListN.{length, take, drop, replicate, length-append, length-replicate}
-use lib.Seq.{length-sets, drop-at}
-use Rattle.laws.specs.Placed.{placed}
+use lib.ListN.{length, drop, replicate, length-append, length-replicate}
+use lib.Seq.{drop-at}
 use Rattle.laws.specs.Same.{sameNumbers}
 use Rattle.laws.specs.Total.{total}
 use Rattle.laws.proofs.Cases.{clash, tested}
-use Rattle.laws.proofs.Parts.{sets-placed}
-use Rattle.laws.proofs.SameLaws.{same-numbers-refl, same-numbers-is}
 use Rattle.kind.specs.declared.Kind.{Kind}
 use Rattle.kind.specs.declared.Named.{Named}
 use Rattle.kind.specs.declared.Named.the-variants.{Is}
@@ -31,17 +28,15 @@ use Rattle.form2.specs.declared.header.Opened2.{Opened2}
 use Rattle.form2.specs.Bytes.{shared}
 use Rattle.form2.specs.Header.{isForm2, open2Of}
 use Rattle.form2.specs.Reading.{headerAt2}
-use Rattle.form2.proofs.BesideLaws.{shared-itself, shared-all}
-use Rattle.expansion.specs.declared.Expanded.{Expanded}
-use Rattle.expansion.specs.declared.Expanded.the-variants.{Roll, Refused}
-use Rattle.expansion.specs.Expanding.{termsOf, rollOf, kindIn, namedTold, namedOut, ExpandTold}
-use Rattle.expansion.proofs.Demanded.{cut}
-use Rattle.small.specs.Profile.{small, mostSmallRoll}
+use Rattle.expansion.specs.declared.matching.Against.{Against}
+use Rattle.expansion.specs.declared.matching.Against.the-variants.{Same, Differs, Refused}
+use Rattle.expansion.specs.Against.{heldAgainst, kindAgainst, namedAgainst}
+use Rattle.expansion.specs.Expanding.{termsOf, rollOf}
+use Rattle.small.specs.Profile.{small}
 use Rattle.small.specs.Check.{inForm2, ifFresh, withTerms, inForm1, smallCheckOf}
 use Rattle.small.specs.Shown.{SmallRequest}
 use Rattle.small.specs.inner.Checking.{smallAs, HeaderMay, SmallMay, TermsMay}
 use Rattle.small.proofs.Most.{not-too-many, not-too-high}
-use Rattle.small.proofs.Units.{short-roll}
 
 -- ---- either form
 
@@ -161,6 +156,18 @@ header-request s may =
 
 -- ---- the expansion
 
+not-same : (place long count : ℕ) → Differs place ≡ Same long count → ⊥
+not-same place long count e = clash (cc)
+
+not-both : (n long count : ℕ) → Refused n ≡ Same long count → ⊥
+not-both n long count e = clash (cc)
+
+not-differs : (n place : ℕ) → Refused n ≡ Differs place → ⊥
+not-differs n place e = clash (cc)
+
+same-place : (a b : ℕ) → Differs a ≡ Differs b → a ≡ b
+same-place a b e = cc
+
 module _ (s : List ℕ) (o : Opened) (may : TermsMay s o) where
   abbrev kind : Kind
   kind = may .header .h .kind
@@ -174,59 +181,37 @@ module _ (s : List ℕ) (o : Opened) (may : TermsMay s o) where
   pub request : SmallRequest (may .header .h .kind) (o .orders)
   request = subst (λ (x : Opened). SmallRequest (may .header .h .kind) (x .orders)) (sym (may .held)) (header-request s (may .header))
 
-  module _ (before now : List ℕ) (w : Expanded) (told : ExpandTold (o .cursor .kind) (o .orders) before 0 w now) (long-enough : length before ≡ mostSmallRoll) where
-    abbrev fresh : List ℕ
-    fresh = rollOf (may .header .h .kind) (o .orders)
+  abbrev fresh : List ℕ
+  fresh = rollOf (may .header .h .kind) (o .orders)
 
-    named-is : kindOf (o .cursor .kind) ≡ Is (may .header .h .kind)
-    named-is = ap (λ (x : Opened). kindOf (x .cursor .kind)) (may .held) ∙ kind-number (may .header .h .kind)
+  module _ (met : Against) (told : met ≡ namedAgainst rollOf (kindOf (o .cursor .kind)) (o .orders) s) where
+    -- no refusal comes
+    held-is : met ≡ heldAgainst s fresh (length (termsOf (may .header .h .kind) (o .orders)))
+    unfolding kindAgainst
+    held-is =
+        told
+        ∙ ap (λ (n : Named). namedAgainst rollOf n (o .orders) s) (ap (λ (x : Opened). kindOf (x .cursor .kind)) (may .held) ∙ kind-number (may .header .h .kind))
+        ∙ simp (not-too-high (may .header .h .kind) (o .orders) (request .within), request .none-unused, not-too-many (may .header .h .kind) (o .orders) request)
 
-    room : 0 + length fresh ≤ length before
-    room = let few = short-roll (may .header .h .kind) (o .orders) request in omega arith
+    pub fresh-same : (long count : ℕ) → met ≡ Same long count → o ≡ inForm1 s (headerAt s)
+    fresh-same long count e =
+        tested (sameNumbers s fresh)
+        (λ t. sym (fresh-is ∙ simp t))
+        (λ f. let is : heldAgainst s fresh (length (termsOf (may .header .h .kind) (o .orders))) ≡ Differs (shared s fresh) = simp f in
+        absurd (not-same (shared s fresh) long count (sym is ∙ sym held-is ∙ e)))
 
-    known-roll : kindIn rollOf (may .header .h .kind) (o .orders) before 0 ≡ Roll (length fresh) (length (termsOf (may .header .h .kind) (o .orders)))
-    unfolding kindIn
-    known-roll =
-        simp (not-too-high (may .header .h .kind) (o .orders) (request .within), request .none-unused, le-ltb (length before) 0 (omega arith), not-too-many (may .header .h .kind) (o .orders) request, le-ltb (length before) (0 + length fresh) room)
+    pub fresh-differs : (r : Opened) (place : ℕ) → met ≡ Differs place → r ≡ refusedOpened 20 place → r ≡ inForm1 s (headerAt s)
+    fresh-differs r place e answer =
+        tested (sameNumbers s fresh)
+        (λ t. let is : heldAgainst s fresh (length (termsOf (may .header .h .kind) (o .orders))) ≡ Same (length fresh) (length (termsOf (may .header .h .kind) (o .orders))) = simp t in
+        absurd (not-same place (length fresh) (length (termsOf (may .header .h .kind) (o .orders))) (sym e ∙ held-is ∙ is)))
+        (λ f. let is : heldAgainst s fresh (length (termsOf (may .header .h .kind) (o .orders))) ≡ Differs (shared s fresh) = simp f in
+        answer ∙ ap (refusedOpened 20) (same-place place (shared s fresh) (sym e ∙ held-is ∙ is)) ∙ sym (fresh-is ∙ simp f))
 
-    told-roll : namedTold (kindOf (o .cursor .kind)) (o .orders) before 0 ≡ Roll (length fresh) (length (termsOf (may .header .h .kind) (o .orders)))
-    told-roll = ap (λ (n : Named). namedTold n (o .orders) before 0) named-is ∙ known-roll
-
-    now-is : now ≡ placed before 0 fresh
-    now-is = told .out ∙ ap₂ (λ (x : Expanded) (n : Named). namedOut x n (o .orders) before 0) told-roll named-is
-
-    now-long : length now ≡ length before
-    now-long = ap length now-is ∙ ap length (sym (sets-placed fresh before 0 room)) ∙ length-sets before 0 fresh
-
-    module _ (long count : ℕ) (is : w ≡ Roll long count) where
-      long-is : long ≡ length fresh
-      long-is = let e : Roll long count ≡ Roll (length fresh) (length (termsOf (may .header .h .kind) (o .orders))) = sym is ∙ told .answer ∙ told-roll in cc
-
-      pub fresh-end : long ≤ length now
-      fresh-end = let r = room in let l = long-is in let n = now-long in omega arith
-
-      pub fresh-told : (r : Opened) → r ≡ ifFresh s (take (long - 0) (drop 0 now)) o → r ≡ inForm1 s (headerAt s)
-      fresh-told r e =
-          let same : long - 0 ≡ long = omega arith in
-          e ∙ ap (λ (l : List ℕ). ifFresh s l o) (ap (λ (n : ℕ). take n (drop 0 now)) same ∙ cut before 0 long now fresh (omega arith) long-is now-is) ∙ sym fresh-is
-
-    pub fresh-never : (r : Opened) (n : ℕ) → w ≡ Refused n → r ≡ inForm1 s (headerAt s)
-    fresh-never r n is = let e : Refused n ≡ Roll (length fresh) (length (termsOf (may .header .h .kind) (o .orders))) = sym is ∙ told .answer ∙ told-roll in absurd (clash (cc))
-
--- ---- a roll and the fresh one
-
-module _ (s fresh : List ℕ) (o : Opened) (n : ℕ) (is : n ≡ shared s fresh) where
-  pub held-same : n ≡ length s → n ≡ length fresh → o ≡ ifFresh s fresh o
-  held-same a b = sym (simp (ap (sameNumbers s) (sym (shared-all s fresh (sym is ∙ b) (sym a ∙ b))) ∙ same-numbers-refl s))
-
-  differ : (r : Opened) → r ≡ refusedOpened 20 n → (s ≡ fresh → ⊥) → r ≡ ifFresh s fresh o
-  differ r e other =
-      tested (sameNumbers s fresh)
-      (λ t. absurd (other (same-numbers-is s fresh t)))
-      (λ f. e ∙ ap (refusedOpened 20) is ∙ sym (simp f))
-
-  pub held-before : (r : Opened) → (n ≡ length s → ⊥) → r ≡ refusedOpened 20 n → r ≡ ifFresh s fresh o
-  held-before r less e = differ r e (λ same. less (is ∙ ap (shared s) (sym same) ∙ shared-itself s))
-
-  pub held-behind : (r : Opened) → (n ≡ length fresh → ⊥) → r ≡ refusedOpened 20 n → r ≡ ifFresh s fresh o
-  held-behind r less e = differ r e (λ same. less (is ∙ ap (λ (l : List ℕ). shared l fresh) same ∙ shared-itself fresh))
+    pub fresh-never : (r : Opened) (n : ℕ) → met ≡ Refused n → r ≡ inForm1 s (headerAt s)
+    fresh-never r n e =
+        tested (sameNumbers s fresh)
+        (λ t. let is : heldAgainst s fresh (length (termsOf (may .header .h .kind) (o .orders))) ≡ Same (length fresh) (length (termsOf (may .header .h .kind) (o .orders))) = simp t in
+        absurd (not-both n (length fresh) (length (termsOf (may .header .h .kind) (o .orders))) (sym e ∙ held-is ∙ is)))
+        (λ f. let is : heldAgainst s fresh (length (termsOf (may .header .h .kind) (o .orders))) ≡ Differs (shared s fresh) = simp f in
+        absurd (not-differs n (shared s fresh) (sym e ∙ held-is ∙ is)))
