@@ -60,7 +60,9 @@ pub(crate) const REFUSED_RIGHT: usize = 27;
 
 pub(crate) const ROOT: usize = 28;
 
-pub(crate) const WAIT: usize = 29;
+pub(crate) const CONFIRMED: usize = 29;
+
+pub(crate) const WAIT: usize = 30;
 
 // The refusal of an output that has no room.
 const NO_ROOM: u64 = 6;
@@ -108,10 +110,10 @@ pub(crate) fn refused(refusal: u8, place: usize) -> Told {
     bytes(form_of(refusal), numbers, 0, 0)
 }
 
-// 7 and 14 tell a place of a roll.
+// 7, 14 and 20 tell a place of a roll.
 fn form_of(refusal: u8) -> usize {
     match refusal {
-        7 | 14 => REFUSED_AT,
+        7 | 14 | 20 => REFUSED_AT,
         _ => REFUSED,
     }
 }

@@ -59,6 +59,10 @@ enum Question {
     Nuclei,
     Contracted,
     Root,
+    Small,
+    SmallExpand,
+    SmallExpandIn,
+    Confirm,
     Unknown,
 }
 
@@ -107,6 +111,10 @@ fn of(shape: usize) -> Question {
         32 => Question::Nuclei,
         33 => Question::Contracted,
         34 => Question::Root,
+        35 => Question::Small,
+        36 => Question::SmallExpand,
+        37 => Question::SmallExpandIn,
+        38 => Question::Confirm,
         _ => Question::Unknown,
     }
 }
@@ -116,8 +124,8 @@ fn lends(q: Question, n: [u64; NUMBERS]) -> Lent {
     match q {
         Question::Shell => usual(SHELL_LENT),
         Question::ShellIn => said(n[1], n[2]),
-        Question::Expand | Question::Expand2 => usual(lent::LARGE as u64),
-        Question::ExpandIn | Question::Expand2In => said(n[13], n[14]),
+        Question::Expand | Question::Expand2 | Question::SmallExpand => usual(lent::LARGE as u64),
+        Question::ExpandIn | Question::Expand2In | Question::SmallExpandIn => said(n[13], n[14]),
         Question::Form2 | Question::Form1 | Question::Salvage => usual(lent::LARGE as u64),
         Question::Form2In | Question::Form1In | Question::SalvageIn => said(n[0], n[1]),
         Question::List => usual(LISTING_LENT),
@@ -207,6 +215,8 @@ fn in_numbers(q: Question, n: [u64; NUMBERS], count: usize, roll: &[u8], floats:
         Question::Four => shells::four(n),
         Question::Open => rolls::opened(roll::open(roll)),
         Question::Check => rolls::opened(roll::check(roll)),
+        Question::Small => rolls::opened(small::small_check(roll)),
+        Question::Confirm => rolls::confirmed(confirming::confirm(roll)),
         Question::Next => rolls::next(n, roll),
         Question::Eval => values::value(roll, floats),
         Question::Table => values::table(n, floats),
@@ -263,6 +273,12 @@ fn in_bytes(
         Question::Expand2 | Question::Expand2In => {
             expands::told(
                 expansion::expand2(first, expands::orders(n), lent, start),
+                start,
+            )
+        }
+        Question::SmallExpand | Question::SmallExpandIn => {
+            expands::told(
+                small::small_expand(first, expands::orders(n), lent, start),
                 start,
             )
         }

@@ -1,5 +1,5 @@
 // `open ROLL`, `check ROLL` and `next KIND L LEFT PLACE ROLL`: a roll's header, the whole roll judged, a cursor's step.
-// `open2`, `check2` and `next2` ask the same of form 2.
+// `open2`, `check2` and `next2` ask the same of form 2, `small ROLL` the small profile's reader, and `confirm ROLL` whether a roll is the expansion.
 use crate::answers;
 use crate::forms;
 use crate::questions;
@@ -21,10 +21,19 @@ use words::CURSOR;
 use words::NUMBERS;
 
 pub(crate) fn opened(o: Opened) -> Told {
+    header_as(answers::OPENED, o)
+}
+
+pub(crate) fn confirmed(o: Opened) -> Told {
+    header_as(answers::CONFIRMED, o)
+}
+
+// A header in a form, or its refusal.
+fn header_as(form: usize, o: Opened) -> Told {
     let found = o.found;
     let orders = o.orders;
     match found {
-        Opening::Roll => header(o.cursor, answers::of_orders(orders)),
+        Opening::Roll => header(form, o.cursor, answers::of_orders(orders)),
         Opening::Refused(refusal, place) => answers::refused(refusal, place),
     }
 }
@@ -50,9 +59,9 @@ fn used_orders(kind: u8) -> usize {
     }
 }
 
-fn header(c: Cursor, orders: [u8; OWN]) -> Told {
+fn header(form: usize, c: Cursor, orders: [u8; OWN]) -> Told {
     let numbers = [c.kind as u64, c.l as u64, c.left as u64, c.place as u64];
-    answers::own(answers::OPENED, numbers, orders, used_orders(c.kind))
+    answers::own(form, numbers, orders, used_orders(c.kind))
 }
 
 // The cursor that is said, forged or not.

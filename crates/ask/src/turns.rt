@@ -59,6 +59,10 @@ compare R S
 nuclei RCCNF*
 contracted RMMH
 rootF
+small R
+small-expand B B B B B B B B B B B B B
+small-expand B B B B B B B B B B B B B L P
+confirm R
 ",
         line,
         given,
@@ -199,6 +203,7 @@ compared |
 refused # at # left
 refused # at # right
 root $
+confirmed # # #~ place #
 !",
         t,
         line,

@@ -12,6 +12,7 @@ use Rattle.form2.specs.Reading.{rollAt2}
 use Rattle.form2.specs.Moves.{inForm1, inForm2, movedOf, outOf}
 use Rattle.salvaging.specs.Salvage.{salvagedOf, outOf as salvageOut}
 use Rattle.grouping.specs.Evaluation.{ofRoll as groupedOfRoll, bufferOf}
+use Rattle.small.specs.Expand.{smallNamed}
 use Rattle.jk.specs.Outcome.{jkOf, refusalOf as jkRefusal}
 use Rattle.geometry.specs.declared.Centre.{Centre}
 use Rattle.nuclei.specs.declared.Nuclei.{Nuclei}
@@ -25,6 +26,7 @@ use Rattle.xewumbal.specs.declared.xew_salvaged.{«xew_salvaged»}
 use Rattle.xewumbal.specs.declared.xew_pair.{«xew_pair»}
 use Rattle.xewumbal.specs.declared.xew_value.{«xew_value»}
 use Rattle.xewumbal.specs.Answers.{hostExpanded, hostListed, hostMoved, hostSalvaged, compareAnswer, compareNextAnswer, measureAnswer, shell2Answer, shell4Answer, openAnswer, checkAnswer, nextAnswer, open2Answer, check2Answer, next2Answer}
+use Rattle.xewumbal.specs.Small.{confirmAnswer, smallCheckAnswer}
 use Rattle.xewumbal.specs.Answers.{scaleTotalAnswer, rollTotalAnswer, prefactorsAnswer, evaluateAnswer, nuclearAnswer, contractedAnswer, rootAnswer, groupedTermAnswer, hostValue}
 use Rattle.xewumbal.proofs.xew_expand.Reads.{Post as Expand}
 use Rattle.xewumbal.proofs.xew_measure.Reads.{Post as Measure}
@@ -41,6 +43,9 @@ use Rattle.xewumbal.proofs.xew_next2.Reads.{Post as Next2}
 use Rattle.xewumbal.proofs.xew_to_form2.Reads.{Post as ToForm2}
 use Rattle.xewumbal.proofs.xew_to_form1.Reads.{Post as ToForm1}
 use Rattle.xewumbal.proofs.xew_salvage.Reads.{Post as Salvage}
+use Rattle.xewumbal.proofs.xew_confirm.Reads.{Post as Confirm}
+use Rattle.xewumbal.proofs.xew_small_check.Reads.{Post as SmallCheck}
+use Rattle.xewumbal.proofs.xew_small_expand.Reads.{Post as SmallExpand}
 use Rattle.xewumbal.proofs.xew_compare.Reads.{Post as Compare}
 use Rattle.xewumbal.proofs.xew_compare_next.Reads.{Post as CompareNext}
 use Rattle.xewumbal.proofs.xew_scale_total.Reads.{Post as ScaleTotal}
@@ -65,6 +70,11 @@ module _ (κs : Lfts 2) (kind : ℕ) (orders out : Lent ℕ) (start : ℕ) where
       (hostExpanded (namedTold2 (kindOf kind) (orders .now) (out .now) start), namedOut2 (namedTold2 (kindOf kind) (orders .now) (out .now) start) (kindOf kind) (orders .now) (out .now) start)
   expand2-only = alone (λ x p i. (p .answer i, p .out i))
 
+  pub small-expand-only :
+      Alone {A = «xew_written» × List ℕ} (λ x. SmallExpand κs (kind ▸ orders ▸ out ▸ start ▸ end) (x .0) (kind ▸ orders ▸ out then (x .1) ▸ start ▸ end))
+      (hostExpanded (smallNamed (kindOf kind) (orders .now) (out .now) start), namedOut (smallNamed (kindOf kind) (orders .now) (out .now) start) (kindOf kind) (orders .now) (out .now) start)
+  small-expand-only = alone (λ x p i. (p .answer i, p .out i))
+
 pub measure-only : (κs : Lfts 1) (kind : ℕ) (orders : Lent ℕ) → let g = kind ▸ orders ▸ end in Alone (λ r. Measure κs g r g) (measureAnswer kind (orders .now))
 measure-only κs kind orders = alone (λ r p. p)
 
@@ -84,6 +94,12 @@ open-only κs roll = alone (λ r p. p)
 
 pub check-only : (κs : Lfts 1) (roll : Lent ℕ) → let g = roll ▸ end in Alone (λ r. Check κs g r g) (checkAnswer (roll .now))
 check-only κs roll = alone (λ r p. p)
+
+pub confirm-only : (κs : Lfts 1) (roll : Lent ℕ) → let g = roll ▸ end in Alone (λ r. Confirm κs g r g) (confirmAnswer (roll .now))
+confirm-only κs roll = alone (λ r p. p)
+
+pub small-check-only : (κs : Lfts 1) (roll : Lent ℕ) → let g = roll ▸ end in Alone (λ r. SmallCheck κs g r g) (smallCheckAnswer (roll .now))
+small-check-only κs roll = alone (λ r p. p)
 
 pub next-only : (κs : Lfts 1) (cursor : «xew_cursor») (roll : Lent ℕ) → let g = cursor ▸ roll ▸ end in Alone (λ r. Next κs g r g) (nextAnswer cursor (roll .now))
 next-only κs cursor roll = alone (λ r p. p)

@@ -6,6 +6,7 @@ ghost use mathlib.Core.Path.{_≡_};
 ghost use Rattle.xewumbal.specs.Answers.{ExpandCallTold, Expand2CallTold, ListCallTold, ToForm2CallTold, ToForm1CallTold, SalvageCallTold, GroupedCallTold, JkCallTold};
 ghost use Rattle.xewumbal.specs.Answers.{measureAnswer, shell2Answer, shell4Answer, openAnswer, checkAnswer, nextAnswer, open2Answer, check2Answer, next2Answer, compareAnswer, compareNextAnswer};
 ghost use Rattle.xewumbal.specs.Answers.{scaleTotalAnswer, rollTotalAnswer, prefactorsAnswer, evaluateAnswer, nuclearAnswer, contractedAnswer, groupedTermAnswer, rootAnswer};
+ghost use Rattle.xewumbal.specs.Small.{confirmAnswer, smallCheckAnswer, SmallExpandCallTold};
 use kind::Kind;
 
 // Raised when a struct, a meaning or an answer changes. The header and the binding have the same (D-85).
@@ -314,6 +315,32 @@ pub extern "C" fn xew_salvage(roll: &[u8], out: &mut [u8], start: usize) -> xew_
     ensures { λ r. ⌜ SalvageCallTold (now (roll .entry)) (now (out .entry)) start r (now (out .exit)) ⌝ }
 {
     answers::salvaged(salvaging::salvage(roll, out, start))
+}
+
+#[no_mangle]
+pub extern "C" fn xew_confirm(roll: &[u8]) -> xew_opened
+    ensures { λ r. ⌜ r ≡ confirmAnswer (now (roll .entry)) ⌝ }
+{
+    answers::opened(confirming::confirm(roll))
+}
+
+#[no_mangle]
+pub extern "C" fn xew_small_check(roll: &[u8]) -> xew_opened
+    ensures { λ r. ⌜ r ≡ smallCheckAnswer (now (roll .entry)) ⌝ }
+{
+    answers::opened(small::small_check(roll))
+}
+
+#[no_mangle]
+pub extern "C" fn xew_small_expand(
+    kind: u8,
+    orders: &[u8; Kind::ORDERS],
+    out: &mut [u8],
+    start: usize,
+) -> xew_written
+    ensures { λ r. ⌜ SmallExpandCallTold kind (now (orders .entry)) (now (out .entry)) start r (now (out .exit)) ⌝ }
+{
+    answers::expanded(small::small_expand(kind, *orders, out, start))
 }
 
 #[no_mangle]
