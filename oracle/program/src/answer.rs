@@ -92,6 +92,14 @@ fn answer(question: Question, out: &mut Vec<u8>) -> Result<(), Refusal> {
             compare(out, &left, &right);
             Ok(())
         }
+        Question::Small(roll) => small(out, &roll),
+        Question::SmallExpand {
+            kind,
+            orders,
+            buffer,
+            start,
+        } => small_expand(out, kind, &orders, buffer, start),
+        Question::Confirm(roll) => confirm(out, &roll),
         Question::Eval(evaluation) => eval(out, &evaluation),
         Question::Grouped { buffer, evaluation } => grouped(out, buffer, &evaluation),
         Question::Nuclei(asked) => nuclei(out, &asked),
@@ -253,10 +261,51 @@ fn compare(out: &mut Vec<u8>, left: &[u8], right: &[u8]) {
     }
 }
 
+/// The header of either form, then the profile, then the terms, then each byte beside the Rust's own
+/// expansion.
+fn small(out: &mut Vec<u8>, roll: &[u8]) -> Result<(), Refusal> {
+    let form = Form::of(roll);
+    let header = second::NOW.open_in(form, roll)?;
+    second::check_profile(form, header.kind, &header.orders)?;
+    second::NOW.check_in(form, roll)?;
+    second::check_expansion(roll, &rust_side::roll(header.kind, &header.orders))?;
+    opened(out, &header)
+}
+
+fn small_expand(
+    out: &mut Vec<u8>,
+    kind: u8,
+    orders: &[u8; 12],
+    buffer: usize,
+    start: u64,
+) -> Result<(), Refusal> {
+    second::check_small_request(kind, orders)?;
+    let terms = rust_side::terms(kind, orders);
+    let roll = second::write_roll(kind, orders, &terms);
+    second::check_room(roll.len(), buffer, start)?;
+    written(out, &roll, terms.len());
+    Ok(())
+}
+
+/// The whole roll read, in its own form, then the cap, then each byte beside the Rust's own expansion.
+fn confirm(out: &mut Vec<u8>, roll: &[u8]) -> Result<(), Refusal> {
+    let form = Form::of(roll);
+    let (header, _) = second::NOW.check_in(form, roll)?;
+    second::check_measured(header.kind, &header.orders)?;
+    let fresh = rust_side::roll_in(form, header.kind, &header.orders);
+    second::check_expansion(roll, &fresh)?;
+    told(out, "confirmed", &header)
+}
+
 fn opened(out: &mut Vec<u8>, header: &Header) -> Result<(), Refusal> {
+    told(out, "opened", header)
+}
+
+/// What a header says, after a word.
+fn told(out: &mut Vec<u8>, word: &str, header: &Header) -> Result<(), Refusal> {
     write(
         out,
-        &format!("opened {} {} {}", header.kind, header.l, header.count),
+        &format!("{} {} {} {}", word, header.kind, header.l, header.count),
     );
     for order in &header.orders[..second::orders_used(header.kind)] {
         write(out, &format!(" {}", order));

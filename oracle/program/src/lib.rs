@@ -3,6 +3,7 @@
 
 pub mod answer;
 pub mod compare_rolls;
+pub mod confirm_rolls;
 pub mod contracted;
 pub mod cursors;
 pub mod diff;
@@ -24,3 +25,4 @@ pub mod runs;
 pub mod rust_side;
 pub mod salvage_rolls;
 pub mod second;
+pub mod small_rolls;

@@ -14,6 +14,7 @@ const USAGE: &str = "usage: oracle answer < QUESTIONS
        oracle questions total-all KIND [MOST]
        oracle questions scales-all KIND [MOST]
        oracle questions component-all
+       oracle questions small-all [PART OF]
        oracle count KIND
        oracle last-bits CASES SEED
        oracle diff KIND-OF-QUESTION QUESTIONS ANSWERS-OURS ANSWERS-RUST COUNT";
@@ -79,6 +80,8 @@ fn questions(words: &[&str], out: &mut dyn Write) -> io::Result<Option<bool>> {
     let numbers: Result<Vec<u64>, _> = numbers.iter().map(|word| word.parse()).collect();
     match (*word, numbers.as_deref()) {
         ("component-all", Ok([])) => runs::every_component(NOW.order_sum, out)?,
+        ("small-all", Ok([])) => runs::every_small(0, 1, out)?,
+        ("small-all", Ok([part, of])) if part < of => runs::every_small(*part, *of, out)?,
         ("expand-all", Ok([kind @ 0..=3])) => runs::every_request(*kind as u8, 0, 1, out)?,
         ("expand-all", Ok([kind @ 0..=3, part, of])) if part < of => {
             runs::every_request(*kind as u8, *part as usize, *of as usize, out)?

@@ -164,6 +164,14 @@ pub enum Question {
         left: Vec<u8>,
         right: Vec<u8>,
     },
+    Small(Vec<u8>),
+    SmallExpand {
+        kind: u8,
+        orders: [u8; 12],
+        buffer: usize,
+        start: u64,
+    },
+    Confirm(Vec<u8>),
     Eval(Evaluation),
     Grouped {
         buffer: usize,
@@ -345,6 +353,18 @@ fn question(bytes: &[u8]) -> Option<Question> {
             left: words.roll()?,
             right: words.roll()?,
         },
+        b"small" => Question::Small(words.roll()?),
+        b"small-expand" => {
+            let (kind, orders) = words.request()?;
+            let (buffer, start) = words.room()?;
+            Question::SmallExpand {
+                kind,
+                orders,
+                buffer,
+                start,
+            }
+        }
+        b"confirm" => Question::Confirm(words.roll()?),
         b"eval" => Question::Eval(evaluation(&mut words)?),
         b"grouped" => Question::Grouped {
             buffer: words.number(LARGEST_GROUPING as u64)? as usize,

@@ -8,12 +8,12 @@ use crate::lines::{grouping_buffer, numbers, with_roll, with_rolls};
 use crate::parse::{LONGEST_LINE, MOST_BOYS, MOST_HOST};
 use crate::random::Random;
 use crate::second::{self, Form, NOW};
-use crate::{contracted, form2_rolls, matrices, nuclei, odd_lines, requests, rolls, runs};
-use crate::{roots, rust_side, salvage_rolls};
+use crate::{confirm_rolls, contracted, form2_rolls, matrices, nuclei, odd_lines, requests};
+use crate::{rolls, roots, runs, rust_side, salvage_rolls, small_rolls};
 use std::io::{self, Write};
 
 /// The kinds of question, as `oracle/ask-both` names them.
-pub const KINDS: [&str; 26] = [
+pub const KINDS: [&str; 29] = [
     "shell",
     "component",
     "expand",
@@ -32,6 +32,9 @@ pub const KINDS: [&str; 26] = [
     "form1",
     "salvage",
     "compare",
+    "small",
+    "small-expand",
+    "confirm",
     "eval",
     "grouped",
     "nuclei",
@@ -63,7 +66,8 @@ pub fn write_all(kind: &str, count: u64, seed: u64, out: &mut dyn Write) -> io::
             rolls::tried_one_by_one()
         }
         "open2" | "check2" | "next2" | "form1" => form2_rolls::tried_one_by_one(),
-        "salvage" => salvage_rolls::tried_one_by_one(),
+        "salvage" | "confirm" => salvage_rolls::tried_one_by_one(),
+        "small" => small_rolls::tried_one_by_one(),
         _ => Vec::new(),
     };
     let pairs = match kind {
@@ -119,6 +123,10 @@ fn at_a_limit(kind: &str, from_end: u64) -> Option<Vec<u8>> {
             kind,
             &salvage_rolls::of_the_most_terms(Form::Two),
         )),
+        3 if kind == "confirm" => Some(with_roll(
+            kind,
+            &salvage_rolls::of_the_most_terms(Form::One),
+        )),
         3 if kind == "compare" => Some(compared(compare_rolls::of_long_lines())),
         2 if kind == "compare" => Some(compared(compare_rolls::of_one_side())),
         3 if kind == "nuclei" => Some(odd_lines::nuclei_with_boys(MOST_BOYS)),
@@ -155,6 +163,9 @@ fn question(random: &mut Random, kind: &str, at: u64) -> Vec<u8> {
             let roll = salvage_rolls::any(random);
             about_roll(random, kind, &roll, Walk::Anywhere)
         }
+        "small" => with_roll(kind, &small_rolls::any(random)),
+        "small-expand" => small_rolls::expand(random, at),
+        "confirm" => with_roll(kind, &confirm_rolls::any(random)),
         "compare" => {
             let (left, right) = compare_rolls::any(random);
             with_rolls(kind, &left, &right)

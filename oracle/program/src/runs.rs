@@ -1,9 +1,9 @@
 //! Runs of well-formed lines: every component, every request of a kind, its total and its scales,
-//! and Coulomb requests within the cap and around it.
+//! every roll of the small cabinet and those beside it, and Coulomb requests within the cap and around it.
 
 use crate::lines::{numbers, with_roll};
 use crate::random::Random;
-use crate::{requests, rust_side};
+use crate::{requests, rust_side, small_rolls};
 use std::io::{self, Write};
 
 /// Every component of four shells of order `m`.
@@ -37,6 +37,24 @@ pub fn every_scales(kind: u8, most: u8, out: &mut dyn Write) -> io::Result<()> {
         out.write_all(&with_roll("scales", &rust_side::roll(kind, &orders)))?;
         out.write_all(b"\n")?;
     }
+    out.flush()
+}
+
+/// The expansion of each request of the small cabinet's profile and every roll that is one byte from
+/// it: from number `part` on every `of`th.
+pub fn every_small(part: u64, of: u64, out: &mut dyn Write) -> io::Result<()> {
+    let (mut number, mut result) = (0, Ok(()));
+    for (kind, orders) in small_rolls::every_request() {
+        small_rolls::beside(&rust_side::roll(kind, &orders), &mut |roll| {
+            if result.is_ok() && number % of == part {
+                let mut line = with_roll("small", roll);
+                line.push(b'\n');
+                result = out.write_all(&line);
+            }
+            number += 1;
+        });
+    }
+    result?;
     out.flush()
 }
 

@@ -7,15 +7,15 @@ use crate::second::{self, Form, Term, NOW};
 use crate::{form2_rolls, rolls, rust_side};
 
 /// What a roll said before it was damaged: the Rust's own terms.
-struct Stored {
-    form: Form,
-    kind: u8,
-    orders: [u8; 12],
-    terms: Vec<Term>,
+pub struct Stored {
+    pub form: Form,
+    pub kind: u8,
+    pub orders: [u8; 12],
+    pub terms: Vec<Term>,
 }
 
 impl Stored {
-    fn of(form: Form, kind: u8, orders: &[u8; 12]) -> Stored {
+    pub fn of(form: Form, kind: u8, orders: &[u8; 12]) -> Stored {
         Stored {
             form,
             kind,
@@ -34,12 +34,12 @@ impl Stored {
         self.count_at() + rolls::write(&[self.terms.len() as u32]).len()
     }
 
-    fn write(&self) -> Vec<u8> {
+    pub fn write(&self) -> Vec<u8> {
         self.write_with(self.terms.len() as u32, &self.terms)
     }
 
     /// The same header but for its count, and these terms.
-    fn write_with(&self, count: u32, terms: &[Term]) -> Vec<u8> {
+    pub fn write_with(&self, count: u32, terms: &[Term]) -> Vec<u8> {
         let mut roll = second::write_roll_in(self.form, self.kind, &self.orders, terms);
         let length = rolls::write(&[terms.len() as u32]).len();
         let number = self.count_at()..self.count_at() + length;
@@ -53,7 +53,7 @@ fn any_form(random: &mut Random) -> Form {
 }
 
 /// A roll of few terms or of some thousand.
-fn stored(random: &mut Random) -> Stored {
+pub fn stored(random: &mut Random) -> Stored {
     let (form, kind) = (any_form(random), random.below(5) as u8);
     let orders = match random.below(2_000) {
         0 => requests::any_of(random, kind, 1..=LONG),
@@ -111,7 +111,7 @@ fn of_other_terms(random: &mut Random) -> Vec<u8> {
 }
 
 /// Another term that reads.
-fn change(random: &mut Random, stored: &Stored, term: &mut Term) {
+pub fn change(random: &mut Random, stored: &Stored, term: &mut Term) {
     let l: u32 = stored.orders.iter().map(|&o| u32::from(o)).sum();
     let most = l as usize + usize::from(stored.kind == 1);
     let size = second::table_size(stored.kind) as u64;
@@ -178,10 +178,14 @@ fn add_bytes(random: &mut Random, stored: &Stored, roll: &mut Vec<u8>) {
     }
 }
 
-/// The header cut, one of its bytes changed or lost, an order at its limit, a count out of range, or
-/// the first byte of the other form or of another kind.
 fn of_another_header(random: &mut Random) -> Vec<u8> {
     let stored = stored(random);
+    with_another_header(random, &stored)
+}
+
+/// The header cut, one of its bytes changed or lost, an order at its limit, a count out of range, or
+/// the first byte of the other form or of another kind.
+pub fn with_another_header(random: &mut Random, stored: &Stored) -> Vec<u8> {
     let mut roll = stored.write();
     let at = random.index(stored.terms_at());
     match random.below(9) {

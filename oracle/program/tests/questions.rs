@@ -13,6 +13,7 @@ use oracle::rolls::{to_be_cut, tried_one_by_one};
 use oracle::runs;
 use oracle::salvage_rolls;
 use oracle::second::{self, Form, NOW};
+use oracle::small_rolls;
 use std::collections::{BTreeMap, BTreeSet};
 use std::io::{self, Write};
 
@@ -94,6 +95,29 @@ fn every_kind_of_answer_comes_up() {
                 "refused  7 right",
                 "refused 14 left",
                 "refused 14 right",
+            ],
+            "small" => &[
+                "opened",
+                "refused  7",
+                "refused 14",
+                "refused 19",
+                "refused 20",
+            ],
+            "small-expand" => &[
+                "roll",
+                "refused  1",
+                "refused  2",
+                "refused  3",
+                "refused  5",
+                "refused  6",
+                "refused 19",
+            ],
+            "confirm" => &[
+                "confirmed",
+                "refused  4",
+                "refused  7",
+                "refused 14",
+                "refused 20",
             ],
             "eval" => &[
                 "value",
@@ -558,6 +582,28 @@ fn damaged_rolls_that_are_tried_one_by_one() {
         write_roll(&mut line, roll);
         assert!(asked == line || asked.starts_with(&[&line[..], b" "].concat()));
     }
+}
+
+/// checks/questions counts on this number. The same damaged rolls are to be confirmed, all of them.
+#[test]
+fn requests_of_the_profile_that_are_tried_one_by_one() {
+    let tried = small_rolls::tried_one_by_one();
+    assert_eq!(tried.len(), 2 * 272);
+    let small = questions("small", 1_088, 1);
+    let confirm = questions("confirm", 50_000, 1);
+    let damaged = salvage_rolls::tried_one_by_one();
+    for (word, asked, tried) in [("small ", &small, &tried), ("confirm ", &confirm, &damaged)] {
+        let mut line = word.as_bytes().to_vec();
+        for (asked, roll) in lines(asked).into_iter().zip(tried) {
+            line.truncate(word.len());
+            write_roll(&mut line, roll);
+            assert!(asked == line);
+        }
+    }
+    // Every request is expanded first.
+    let expand = questions("small-expand", 272, 1);
+    let different: BTreeSet<&[u8]> = lines(&expand).into_iter().collect();
+    assert!(different.len() > 250);
 }
 
 /// checks/questions counts on this number.

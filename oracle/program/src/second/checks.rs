@@ -1,7 +1,9 @@
 //! The checks of each call but the roll's, in the order in which they refuse.
 
+use super::form::Form;
 use super::limits::{orders_used, LARGEST_CHARGE, LARGEST_MATRIX, NOW};
 use super::limits::{MOST_NUCLEI, MOST_PRIMITIVES};
+use super::profile::check_profile;
 use super::refusal::{refusal, Refusal};
 use super::roll::Header;
 use super::steps::count_histories;
@@ -99,6 +101,13 @@ pub fn check_measured(kind: u8, orders: &[u8; 12]) -> Result<(), Refusal> {
 /// The total: 1, 2, 3. There is no list, and so no 4.
 pub fn check_total(kind: u8, orders: &[u8; 12]) -> Result<(), Refusal> {
     check_orders(kind, orders)
+}
+
+/// The small cabinet's expansion: 1, 2, 3, 19 here; 5 and 6 once the roll's length is known. 4 is never
+/// given.
+pub fn check_small_request(kind: u8, orders: &[u8; 12]) -> Result<(), Refusal> {
+    check_orders(kind, orders)?;
+    check_profile(Form::One, kind, orders)
 }
 
 /// 6: the whole roll doesn't fit from the start place on.

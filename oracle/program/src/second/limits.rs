@@ -32,6 +32,9 @@ impl Limits {
 
 pub const LONGEST_LISTED: usize = 65_536;
 pub const LARGEST_MATRIX: u64 = 16;
+/// The small cabinet's kinds, and its limit of the orders on a centre.
+pub const PROFILE_KINDS: [u8; 2] = [0, 4];
+pub const PROFILE_ORDER_SUM: u8 = 1;
 /// Of a nucleus.
 pub const LARGEST_CHARGE: u32 = 118;
 pub const MOST_NUCLEI: u8 = 32;

@@ -1,6 +1,6 @@
 //! A refusal: its number and its place.
 
-/// A refusal's number, and the place that 7 and 14 carry.
+/// A refusal's number, and the place that 7, 14 and 20 carry.
 #[derive(Clone, Copy, Debug, PartialEq)]
 pub struct Refusal {
     pub number: u8,
@@ -28,8 +28,16 @@ pub fn cut(place: usize) -> Refusal {
     }
 }
 
+/// 20: the roll is not the expansion, which this byte tells first.
+pub fn other_expansion(place: usize) -> Refusal {
+    Refusal {
+        number: 20,
+        place: place as u64,
+    }
+}
+
 impl Refusal {
     pub fn carries_place(self) -> bool {
-        self.number == 7 || self.number == 14
+        matches!(self.number, 7 | 14 | 20)
     }
 }
