@@ -51,6 +51,8 @@ static void accept(uint8_t refusal, size_t place)
         [16] = "host list length wrong for the primitives",
         [17] = "charge above 118, or nucleus count outside 1 to 32",
         [18] = "root of a number below 0",
+        [19] = "kind, form or order outside the profile",
+        [20] = "roll is not the expansion; carries the place of the first differing byte",
     };
     if (refusal == 0) return;
     fprintf(stderr, "water: refused %d, place %zu: %s\n", refusal, place, words[refusal]);
@@ -112,8 +114,8 @@ static double primitive(int kind, const uint8_t *roll, size_t length, const xew_
     return answer.value;
 }
 
-/* One integral over basis functions: its roll is made once, as one would be stored, and summed for every choice of
- * primitives. */
+/* One integral over basis functions: its roll is made once, as one would be stored, confirmed as if another board had written
+ * it, and summed for every choice of primitives. */
 static double integral(int kind, const int *f, int count)
 {
     uint8_t orders[XEW_ORDERS] = {0};
@@ -128,6 +130,8 @@ static double integral(int kind, const int *f, int count)
     if (stored == NULL || roll == NULL || buffer == NULL) perror("water"), exit(1);
     xew_written written = xew_expand2(kind, &orders, stored, most, 0);
     accept(written.refusal, 0);
+    xew_opened confirmed = xew_confirm(stored, written.length); /* the expansion itself; xew_check2 says only that it reads */
+    accept(confirmed.refusal, confirmed.place);
     xew_moved moved = xew_to_form1(stored, written.length, roll, size.length, 0); /* judged, and back in form 1 */
     accept(moved.refusal, moved.place);
     free(stored);

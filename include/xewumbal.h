@@ -6,8 +6,8 @@
  * of length 0 may have a null pointer; a pointer with no length beside it must point to what it says.
  *
  * Every call answers every input. refusal is 0 for success, or one of these numbers; beside a refusal every other
- * number and array of the answer is 0 (7 and 14 also have their place, and of two rolls their side), and no lent byte or
- * float has changed, but for the grouping that xew_evaluate_grouped leaves. On success only the bytes or floats of the
+ * number and array of the answer is 0 (7, 14 and 20 also have their place, and of two rolls their side), and no lent byte
+ * or float has changed, but for the grouping that xew_evaluate_grouped leaves. On success only the bytes or floats of the
  * output itself change. Where several refusals apply, the one told is the first in the order that stands at the call; 7
  * and 14 never apply to one roll at once.
  *
@@ -29,10 +29,13 @@
  *   16  host list length wrong for the primitives
  *   17  charge above 118, or nucleus count outside 1 to 32
  *   18  root of a number below 0
+ *   19  kind, form or order outside the profile
+ *   20  roll is not the expansion; carries the place of the first differing byte
  *
  * These are the words of docs/01-scope.md, which has the rules of a roll, for 14 of docs/requests/Q-5.md, for 2 and 4
  * of docs/requests/Q-6.md, which has the limits, for 15 and 16 of docs/requests/Q-1.md, for 1, 10 and 17 of
- * docs/requests/Q-10.md and for 18 of docs/requests/Q-12.md; the listing is not exported.
+ * docs/requests/Q-10.md, for 18 of docs/requests/Q-12.md and for 19 and 20 of docs/requests/Q-13.md; the listing is not
+ * exported.
  *
  * Kinds: 0 overlap, 1 kinetic, 2 nuclear, 3 moment, 4 Coulomb. Orders stand by centre, x y z each: A, B; for kind 3
  * then the operator; for kind 4 then C, D. L is the sum of all orders. docs/01-scope.md defines terms and rolls.
@@ -42,6 +45,15 @@
  * order, the length of the longest shared beginning (0 for the first term), the number of further prefactors, and those;
  * all else is as in form 1. Each form's calls refuse a roll of the other with 7 at place 0. What a roll says has one
  * writing in each form, so moving it there and back returns the same bytes. docs/requests/Q-7.md has its rules.
+ *
+ * Whether a roll is right is asked in three steps. xew_open says that its header reads. xew_check says that all of it
+ * reads; its terms may still be none that the integral has: a roll in which two terms were merged, doubled, exchanged or
+ * lost reads, and is summed as it stands. xew_confirm says that it is the expansion of its own header, byte for byte: call
+ * it of every roll that another board wrote, unless the rolls are meant to hold other terms.
+ *
+ * A cheap board needs two calls alone, xew_small_check and xew_small_expand: overlap and Coulomb with an order sum of at most
+ * 1 on each centre. Its rolls are in form 1 and have at most XEW_SMALL_TERMS terms and XEW_SMALL_ROLL bytes, so it lends a
+ * buffer of that size. docs/BENCH.md, "A cheap board", says how little of the archive that takes.
  */
 #ifndef XEWUMBAL_H
 #define XEWUMBAL_H
@@ -69,6 +81,8 @@ extern "C" {
 #define XEW_MOST_CHARGE 118       /* charge of a nucleus */
 #define XEW_MOST_NUCLEI 32        /* nuclei of a list */
 #define XEW_MOST_PRIMITIVES 10    /* primitives of a contracted function */
+#define XEW_SMALL_TERMS 54        /* terms of a roll of the small-cabinet profile */
+#define XEW_SMALL_ROLL 348        /* bytes of the longest of them */
 
 /* A centre. Kinds 0 and 1 use A and B; 2 and 3 also C's coordinates; 4 uses A to D. Unused floats are not looked at. Only a
  * nucleus' charge is looked at, C's in kind 2; every other charge may hold anything. */
@@ -277,7 +291,8 @@ xew_opened xew_open(const uint8_t *roll, size_t roll_len);
 
 /* The whole roll judged: the same answer as xew_open where every term reads and nothing follows. Call it before
  * stepping through a roll that came from elsewhere, or summing over one: an unfinished roll opens. 14 says that the
- * roll may still be on its way, 7 that it is bad whatever follows. Refusals: 7 or 14. */
+ * roll may still be on its way, 7 that it is bad whatever follows. It does not say that the terms are those of the
+ * integral: a roll whose terms were merged wrongly reads. xew_confirm says that. Refusals: 7 or 14. */
 xew_opened xew_check(const uint8_t *roll, size_t roll_len);
 
 /* The term at a cursor of xew_open or xew_check, and the cursor for the next call. A cursor that was made up is
@@ -308,6 +323,24 @@ xew_moved xew_to_form1(const uint8_t *roll, size_t roll_len, uint8_t *out, size_
  * count does not limit that. The length that xew_measure tells of the header's kind and orders holds it, in form 2 with its
  * terms added. Refusals: 7 or 14 of the header, 5, 4, 6. */
 xew_salvaged xew_salvage(const uint8_t *roll, size_t roll_len, uint8_t *out, size_t out_len, size_t start);
+
+/* Whether a roll of either form and any kind is the expansion that its header asks for, byte for byte: the bytes that
+ * xew_expand, in form 2 xew_expand2, writes of its kind and orders. It is lent no buffer and writes nothing: the expansion is
+ * worked out beside the roll. The answer is that of xew_check, also of a form 2 roll, whose kind is told without the 16.
+ * Refusals: 7 or 14 of the whole roll, with the place; 4 where the request of its header has too many histories; 20 where the
+ * roll reads and is not the expansion, with the place of the first byte that differs. */
+xew_opened xew_confirm(const uint8_t *roll, size_t roll_len);
+
+/* The reader of a cheap board: takes a roll only if it is a form 1 roll of the profile and equals the fresh expansion byte for
+ * byte, and then answers as xew_check. The header is read in either form. Refusals: 7 or 14 of the header; 19 for form 2, a
+ * kind other than 0 and 4, or an order sum above 1 on a centre; 7 or 14 of the rest; 20 with the place of the first byte that
+ * differs. */
+xew_opened xew_small_check(const uint8_t *roll, size_t roll_len);
+
+/* Writes the roll of a request of the profile, as xew_expand does: XEW_SMALL_ROLL bytes hold any. Refusals: 1, 2, 3; 19 for a
+ * kind other than 0 and 4, or an order sum above 1 on a centre; 5, 6. 4 is never given: no such request has more than
+ * XEW_SMALL_TERMS histories. */
+xew_written xew_small_expand(uint8_t kind, const uint8_t (*orders)[12], uint8_t *out, size_t out_len, size_t start);
 
 /* Compares two rolls, each of either form, term by term; both are judged whole first, the left one first. Refusals: 7 or 14, with
  * the side. */

@@ -58,6 +58,10 @@ pub const MOST_CHARGE: u32 = 118;
 pub const MOST_NUCLEI: usize = 32;
 /// The primitives of a contracted function.
 pub const MOST_PRIMITIVES: usize = 10;
+/// The terms of a roll of the small-cabinet profile.
+pub const SMALL_TERMS: u32 = 54;
+/// The bytes of the longest roll of the profile.
+pub const SMALL_ROLL: usize = 348;
 
 /// Kind 0.
 pub const OVERLAP: u8 = 0;
@@ -70,13 +74,13 @@ pub const MOMENT: u8 = 3;
 /// Kind 4.
 pub const COULOMB: u8 = 4;
 
-/// The answer of [`expand`], [`expand2`] and [`measure`].
+/// The answer of [`expand`], [`expand2`], [`measure`] and [`small_expand`].
 #[derive(Clone, Copy, Debug, PartialEq, Eq)]
 pub enum Expanded {
     /// The roll has `length` bytes, from the start place on where it was written, and `terms` terms.
     #[allow(missing_docs)]
     Roll { length: usize, terms: u32 },
-    /// By 1, 2, 3, 5, 4 or 6; of [`measure`] by 1, 2, 3 or 4.
+    /// By 1, 2, 3, 5, 4 or 6; of [`measure`] by 1, 2, 3 or 4; of [`small_expand`] by 1, 2, 3, 19, 5 or 6.
     Refused(Refusal),
 }
 
@@ -99,13 +103,13 @@ pub enum Component {
     Refused(Refusal),
 }
 
-/// The answer of [`open`] and [`check`].
+/// The answer of [`open`], [`check`], [`confirm`] and [`small_check`].
 #[derive(Clone, Copy, Debug, PartialEq, Eq)]
 pub enum Opened {
     /// The cursor at the first term, and the roll's orders, zeros after those that its kind uses.
     #[allow(missing_docs)]
     Roll { cursor: Cursor, orders: [u8; ORDERS] },
-    /// By 7 or 14.
+    /// By 7 or 14; of [`confirm`] then by 4 or 20; of [`small_check`] by 7 or 14 of the header, 19, 7 or 14 of the rest, or 20.
     Refused(Refusal),
 }
 
@@ -310,6 +314,12 @@ pub fn expand2(kind: u8, orders: &[u8; ORDERS], out: &mut [u8], start: usize) ->
     expanded(raw::expand2(kind, orders, out, start))
 }
 
+/// Writes the roll of a request of the small-cabinet profile, as [`expand`] does: overlap or Coulomb, with an order sum of at
+/// most 1 on each centre. [`SMALL_ROLL`] bytes hold any. 4 is never given.
+pub fn small_expand(kind: u8, orders: &[u8; ORDERS], out: &mut [u8], start: usize) -> Expanded {
+    expanded(raw::small_expand(kind, orders, out, start))
+}
+
 /// Writes the triples of a shell into `out` from `start` on, three bytes each, x descending, then y.
 pub fn shell_list(order: u8, out: &mut [u8], start: usize) -> Listed {
     let answer = raw::shell_list(order, out, start);
@@ -350,9 +360,23 @@ pub fn open(roll: &[u8]) -> Opened {
 
 /// Judges the whole roll: the same answer as [`open`] where every term reads and nothing follows. Call it before
 /// stepping through a roll that came from elsewhere, or summing over one: an unfinished roll opens. 14 says that the
-/// roll may still be on its way, 7 that it is bad whatever follows.
+/// roll may still be on its way, 7 that it is bad whatever follows. It does not say that the terms are those of the integral:
+/// a roll whose terms were merged wrongly reads. [`confirm`] says that.
 pub fn check(roll: &[u8]) -> Opened {
     opened(raw::check(roll))
+}
+
+/// Whether a roll of either form and any kind is the expansion that its header asks for, byte for byte: what [`expand`], in
+/// form 2 [`expand2`], writes of its kind and orders. The answer is that of [`check`], also of a form 2 roll. 20 tells the place
+/// of the first byte that differs. Call it of every roll that another board wrote.
+pub fn confirm(roll: &[u8]) -> Opened {
+    opened(raw::confirm(roll))
+}
+
+/// The reader of a cheap board: takes a roll only if it is a form 1 roll of the small-cabinet profile (overlap or Coulomb, an
+/// order sum of at most 1 on each centre) and equals the fresh expansion byte for byte, and then answers as [`check`].
+pub fn small_check(roll: &[u8]) -> Opened {
+    opened(raw::small_check(roll))
 }
 
 impl Cursor {

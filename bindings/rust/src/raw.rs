@@ -252,6 +252,9 @@ extern "C" {
     fn xew_to_form2(roll: *const u8, roll_len: usize, out: *mut u8, out_len: usize, start: usize) -> Moved;
     fn xew_to_form1(roll: *const u8, roll_len: usize, out: *mut u8, out_len: usize, start: usize) -> Moved;
     fn xew_salvage(roll: *const u8, roll_len: usize, out: *mut u8, out_len: usize, start: usize) -> Salvaged;
+    fn xew_confirm(roll: *const u8, roll_len: usize) -> Opened;
+    fn xew_small_check(roll: *const u8, roll_len: usize) -> Opened;
+    fn xew_small_expand(kind: u8, orders: *const [u8; ORDERS], out: *mut u8, out_len: usize, start: usize) -> Written;
     fn xew_compare(left: *const u8, left_len: usize, right: *const u8, right_len: usize) -> Compared;
     fn xew_compare_next(cursor: Pair, left: *const u8, left_len: usize, right: *const u8, right_len: usize) -> Met;
     fn xew_scale_total(kind: u8, orders: *const [u8; ORDERS]) -> Total;
@@ -329,6 +332,18 @@ pub fn to_form1(roll: &[u8], out: &mut [u8], start: usize) -> Moved {
 
 pub fn salvage(roll: &[u8], out: &mut [u8], start: usize) -> Salvaged {
     unsafe { xew_salvage(roll.as_ptr(), roll.len(), out.as_mut_ptr(), out.len(), start) }
+}
+
+pub fn confirm(roll: &[u8]) -> Opened {
+    unsafe { xew_confirm(roll.as_ptr(), roll.len()) }
+}
+
+pub fn small_check(roll: &[u8]) -> Opened {
+    unsafe { xew_small_check(roll.as_ptr(), roll.len()) }
+}
+
+pub fn small_expand(kind: u8, orders: &[u8; ORDERS], out: &mut [u8], start: usize) -> Written {
+    unsafe { xew_small_expand(kind, orders, out.as_mut_ptr(), out.len(), start) }
 }
 
 pub fn compare(left: &[u8], right: &[u8]) -> Compared {

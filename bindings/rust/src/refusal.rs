@@ -28,6 +28,11 @@ pub enum Refusal {
     HostCount,
     Nuclei,
     BelowZero,
+    OutsideProfile,
+    /// The place in the roll of the first byte that differs from the expansion.
+    NotTheExpansion {
+        place: usize,
+    },
 }
 
 impl Refusal {
@@ -65,6 +70,10 @@ impl Refusal {
             Refusal::HostCount => (16, "host list length wrong for the primitives"),
             Refusal::Nuclei => (17, "charge above 118, or nucleus count outside 1 to 32"),
             Refusal::BelowZero => (18, "root of a number below 0"),
+            Refusal::OutsideProfile => (19, "kind, form or order outside the profile"),
+            Refusal::NotTheExpansion { .. } => {
+                (20, "roll is not the expansion; carries the place of the first differing byte")
+            }
         }
     }
 
@@ -90,6 +99,8 @@ impl Refusal {
             16 => Refusal::HostCount,
             17 => Refusal::Nuclei,
             18 => Refusal::BelowZero,
+            19 => Refusal::OutsideProfile,
+            20 => Refusal::NotTheExpansion { place },
             _ => panic!("libxewumbal.a is not of this binding's version: refusal {number}"),
         })
     }
