@@ -88,7 +88,8 @@ fn primitive(kind: u8, roll: &[u8], c: [Centre; 4], l: usize) -> Result<f64, Ref
     }
 }
 
-/// One integral over basis functions. Its roll is made once, judged as a stored one, and summed for all primitives.
+/// One integral over basis functions. Its roll is made once, confirmed as if another board had written it (`check` would only say
+/// that it reads), and summed for all primitives.
 fn integral(kind: u8, functions: &[&Function]) -> Result<f64, Refusal> {
     let mut orders = [0; ORDERS];
     functions.iter().zip(orders.chunks_mut(3)).for_each(|(f, three)| three.copy_from_slice(&f.orders));
@@ -100,7 +101,7 @@ fn integral(kind: u8, functions: &[&Function]) -> Result<f64, Refusal> {
         Expanded::Roll { length, .. } => &room[..length],
         Expanded::Refused(refusal) => return Err(refusal),
     };
-    let l = match check(roll) {
+    let l = match confirm(roll) {
         Opened::Roll { cursor, .. } => usize::from(cursor.l),
         Opened::Refused(refusal) => return Err(refusal),
     };

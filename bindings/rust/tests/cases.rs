@@ -163,6 +163,111 @@ fn what_is_salvaged() {
     assert_eq!(room, [UNTOUCHED; 25]);
 }
 
+/// The answer of a roll that is confirmed is that of `check`, in either form; a roll that reads may still be another.
+#[test]
+fn confirmed_or_only_readable() {
+    assert!(matches!(confirm(&ROLL), Opened::Roll { orders: ROLL_ORDERS, .. }));
+    assert_eq!(confirm(&ROLL), check(&ROLL));
+    let cursor = Cursor { place: 8, left: 3, kind: OVERLAP, l: 3 };
+    assert_eq!(confirm(&FORM2), Opened::Roll { cursor, orders: FORM2_ORDERS });
+    let differs = |roll: &[u8], place| {
+        assert!(matches!(
+            (roll[0], check(roll), check2(roll)),
+            (0, Opened::Roll { .. }, _) | (16, _, Opened2::Roll { .. })
+        ));
+        assert_eq!(confirm(roll), Opened::Refused(Refusal::NotTheExpansion { place }));
+    };
+    // Overlap Ax3: [0,6] and 2[6,0] merged into 3[0,6], in both forms; 2[6,0] parted; [0,6] lost.
+    differs(&[0, 3, 0, 0, 0, 0, 0, 2, 1, 0, 3, 0, 0, 0, 3, 0, 2, 0, 6], 7);
+    differs(&[16, 3, 0, 0, 0, 0, 0, 2, 1, 0, 0, 3, 0, 0, 0, 3, 0, 1, 1, 6], 7);
+    differs(&[0, 3, 0, 0, 0, 0, 0, 4, 1, 0, 3, 0, 0, 0, 1, 0, 2, 0, 6, 1, 0, 2, 6, 0, 1, 0, 2, 6, 0], 7);
+    differs(&[0, 3, 0, 0, 0, 0, 0, 2, 1, 0, 3, 0, 0, 0, 2, 0, 2, 6, 0], 7);
+    // As many terms: the last two exchanged, a scale, a prefactor; the place is that of the byte, not of the term.
+    differs(&[0, 3, 0, 0, 0, 0, 0, 3, 1, 0, 3, 0, 0, 0, 2, 0, 2, 6, 0, 1, 0, 2, 0, 6], 14);
+    differs(&[0, 3, 0, 0, 0, 0, 0, 3, 1, 0, 3, 0, 0, 0, 1, 0, 2, 0, 6, 1, 0, 2, 6, 0], 19);
+    differs(&[0, 1, 0, 0, 1, 0, 0, 2, 1, 0, 2, 0, 1, 1, 0, 1, 6], 16);
+    differs(&[16, 3, 0, 0, 0, 0, 0, 3, 1, 0, 0, 3, 0, 0, 0, 1, 0, 1, 1, 6, 2, 0, 0, 2, 6, 1], 25);
+    // Overlap Ay1 with the term of Ax1.
+    differs(&[0, 0, 1, 0, 0, 0, 0, 1, 1, 0, 1, 0], 11);
+}
+
+#[test]
+fn refusals_of_confirm() {
+    assert_eq!(confirm(&[]), Opened::Refused(Refusal::CutRoll { place: 0 }));
+    assert_eq!(confirm(&[5]), Opened::Refused(Refusal::BadRoll { place: 0 }));
+    assert_eq!(confirm(&ROLL[..16]), Opened::Refused(Refusal::CutRoll { place: 16 }));
+    assert_eq!(confirm(&FORM2[..25]), Opened::Refused(Refusal::CutRoll { place: 25 }));
+    assert_eq!(confirm(&[&ROLL[..], &[0]].concat()), Opened::Refused(Refusal::BadRoll { place: 17 }));
+    // A roll that reads, of a request with too many histories, in both forms; one that is cut is 14 first.
+    let many = |first, term: &[u8]| [&[first, 6, 0, 0, 6, 0, 0, 6, 0, 0, 6, 0, 0, 1], term].concat();
+    assert_eq!(confirm(&many(4, &[1, 0, 0])), Opened::Refused(Refusal::TooManyTerms));
+    assert_eq!(confirm(&many(20, &[1, 0, 0, 0])), Opened::Refused(Refusal::TooManyTerms));
+    assert_eq!(confirm(&many(4, &[1, 0])), Opened::Refused(Refusal::CutRoll { place: 16 }));
+}
+
+/// Document 01's terms of Coulomb Ax1 Cx1: [0,2] [0,5]o1 [4,2]o1 [4,5]o2 [22]o1.
+const SMALL: [u8; 38] =
+    [4, 1, 0, 0, 0, 0, 0, 1, 0, 0, 0, 0, 0, 5, 1, 0, 2, 0, 2, 1, 1, 2, 0, 5, 1, 1, 2, 4, 2, 1, 2, 2, 4, 5, 1, 1, 1, 22];
+
+#[test]
+fn rolls_of_the_profile() {
+    let mut room = [UNTOUCHED; SMALL_ROLL];
+    let orders = one_at(&[0, 6]);
+    assert_eq!(small_expand(COULOMB, &orders, &mut room, 3), Expanded::Roll { length: 38, terms: 5 });
+    assert_eq!((&room[..3], &room[3..41], &room[41..44]), (&[UNTOUCHED; 3][..], &SMALL[..], &[UNTOUCHED; 3][..]));
+    let cursor = Cursor { place: 14, left: 5, kind: COULOMB, l: 2 };
+    assert_eq!(small_check(&SMALL), Opened::Roll { cursor, orders });
+    assert_eq!(small_check(&ROLL), check(&ROLL));
+    // Each byte changed in each way: the roll is refused, and by 20 where it reads and its header is of the profile.
+    for place in 0..SMALL.len() {
+        for byte in (0..=255).filter(|&byte| byte != SMALL[place]) {
+            let mut other = SMALL;
+            other[place] = byte;
+            let refusal = match small_check(&other) {
+                Opened::Refused(refusal) => refusal,
+                taken => panic!("{taken:?}"),
+            };
+            if place > 13 && matches!(check(&other), Opened::Roll { .. }) {
+                assert_eq!(refusal, Refusal::NotTheExpansion { place });
+            }
+        }
+    }
+}
+
+/// 7 or 14 of the header, then 19, then 7 or 14 of the rest.
+#[test]
+fn refusals_of_the_profile() {
+    let refused = |roll: &[u8]| match small_check(roll) {
+        Opened::Refused(refusal) => refusal,
+        taken => panic!("{taken:?}"),
+    };
+    assert_eq!((refused(&[]), refused(&[5])), (Refusal::CutRoll { place: 0 }, Refusal::BadRoll { place: 0 }));
+    assert_eq!((refused(&[21]), refused(&[16, 1])), (Refusal::BadRoll { place: 0 }, Refusal::CutRoll { place: 2 }));
+    assert_eq!(refused(&FORM2), Refusal::OutsideProfile);
+    assert_eq!(refused(&[16, 0, 0, 0, 0, 0, 0, 1]), Refusal::OutsideProfile); // form 2 of the profile, without its term
+    assert_eq!(refused(&[1, 0, 0, 0, 0, 0, 0, 1]), Refusal::OutsideProfile); // kinetic
+    assert_eq!(refused(&[0, 1, 1, 0, 0, 0, 0, 1]), Refusal::OutsideProfile); // a sum of 2
+    assert_eq!(refused(&[4, 0, 0, 0, 0, 0, 0, 0, 0, 0, 0, 2, 0, 1]), Refusal::OutsideProfile);
+    assert_eq!(refused(&SMALL[..13]), Refusal::CutRoll { place: 13 });
+    assert_eq!(refused(&SMALL[..14]), Refusal::CutRoll { place: 14 });
+    assert_eq!(refused(&[0, 0, 0, 0, 0, 0, 0, 1, 0]), Refusal::BadRoll { place: 8 });
+    assert_eq!(refused(&[0, 0, 0, 0, 0, 0, 0, 1, 2, 0, 0]), Refusal::NotTheExpansion { place: 8 });
+    let mut room = [UNTOUCHED; 10];
+    let mut expanded = |kind, orders, start| match small_expand(kind, &orders, &mut room, start) {
+        Expanded::Refused(refusal) => refusal,
+        written => panic!("{written:?}"),
+    };
+    assert_eq!(expanded(5, [255; ORDERS], 11), Refusal::Kind);
+    assert_eq!(expanded(KINETIC, [7; ORDERS], 11), Refusal::OrderSum);
+    assert_eq!(expanded(KINETIC, one_at(&[6]), 11), Refusal::UnusedOrder);
+    assert_eq!(expanded(KINETIC, [0; ORDERS], 11), Refusal::OutsideProfile);
+    assert_eq!(expanded(COULOMB, one_at(&[0, 1]), 11), Refusal::OutsideProfile);
+    assert_eq!(expanded(COULOMB, [6, 0, 0, 6, 0, 0, 6, 0, 0, 6, 0, 0], 0), Refusal::OutsideProfile);
+    assert_eq!(expanded(COULOMB, [0; ORDERS], 11), Refusal::StartBeyondEnd);
+    assert_eq!(expanded(COULOMB, [0; ORDERS], 10), Refusal::NoRoom);
+    assert_eq!(room, [UNTOUCHED; 10]);
+}
+
 /// Overlap Ax1 Bx1 beside overlap Ax3: three positions differ, of which the right roll alone has the third.
 #[test]
 fn what_differs() {
@@ -794,7 +899,7 @@ macro_rules! refusal {
 }
 
 /// A call for each refusal.
-fn refusals() -> [(u8, Refusal); 18] {
+fn refusals() -> [(u8, Refusal); 20] {
     let mut room = [UNTOUCHED; 10];
     let mut request = |kind, orders, start| refusal!(Expanded, expand(kind, &orders, &mut room, start));
     let sum = |roll, a, boys| refusal!(Value, evaluate(roll, a, UNIT, UNIT, UNIT, 1.0, boys));
@@ -817,6 +922,8 @@ fn refusals() -> [(u8, Refusal); 18] {
         (16, refusal!(Value, contracted(&ROLL, units(&[[1.0; 2]]), units(&[[1.0; 2]]), &[]))),
         (17, refusal!(Value, nuclear(&NUCLEAR_S, UNIT, UNIT, nuclei(&[119]), 1.0, &[1.0]))),
         (18, refusal!(Root, root(-1.0))),
+        (19, refusal!(Opened, small_check(&NUCLEAR_S))),
+        (20, refusal!(Opened, confirm(&[0, 0, 0, 0, 0, 0, 0, 1, 2, 0, 0]))),
     ];
     assert_eq!(room, [UNTOUCHED; 10]);
     found
@@ -831,6 +938,7 @@ fn each_refusal_comes_up_with_the_words_of_the_header() {
     }
     assert_eq!(refusals()[6].1, Refusal::BadRoll { place: 0 });
     assert_eq!(refusals()[13].1, Refusal::CutRoll { place: 16 });
+    assert_eq!(refusals()[19].1, Refusal::NotTheExpansion { place: 8 });
 }
 
 #[test]

@@ -192,6 +192,37 @@ fn most_primitives() {
     assert_eq!(element(most, most, &host), Value::Refused(Refusal::HostCount));
 }
 
+/// Every request of the profile: four x orders of Coulomb, and so of y and z, have the most terms and the most bytes.
+#[test]
+fn small_terms_and_small_roll() {
+    let (mut most, mut room) = (0, [0; SMALL_ROLL]);
+    for number in 0..16 + 256 {
+        let (kind, mut rest) = if number < 16 { (OVERLAP, number) } else { (COULOMB, number - 16) };
+        let mut orders = [0; ORDERS];
+        for centre in orders.chunks_mut(3) {
+            if rest % 4 > 0 {
+                centre[rest % 4 - 1] = 1;
+            }
+            rest /= 4;
+        }
+        match small_expand(kind, &orders, &mut room, 0) {
+            Expanded::Roll { length, terms } => {
+                assert!(length <= SMALL_ROLL && terms <= SMALL_TERMS);
+                assert_eq!(
+                    (length == SMALL_ROLL, small_check(&room[..length])),
+                    (terms == SMALL_TERMS, check(&room[..length]))
+                );
+                most += u32::from(terms == SMALL_TERMS);
+            }
+            refused => panic!("{refused:?}"),
+        }
+    }
+    assert_eq!(most, 3);
+    let four = [1, 0, 0, 1, 0, 0, 1, 0, 0, 1, 0, 0];
+    assert_eq!(small_expand(COULOMB, &four, &mut room[1..], 0), Expanded::Refused(Refusal::NoRoom));
+    assert_eq!(small_expand(COULOMB, &four, &mut room, 0), Expanded::Roll { length: 348, terms: 54 });
+}
+
 #[test]
 fn tables() {
     let [a, b, c, d] = [1.0, 2.0, 4.0, 8.0].map(|x| Centre { x, y: x * x, z: -x, exponent: x + 0.5, charge: 1 });
