@@ -140,6 +140,7 @@ static void play_large(uint64_t number)
         try_evaluate(roll, expected_open(roll.mine, roll.length));
         try_nuclear(roll, expected_open(roll.mine, roll.length));
         try_contracted(roll, expected_open(roll.mine, roll.length));
+        try_confirm(roll);
         try_grouping(roll, expected_open(roll.mine, roll.length));
         try_to_form2(roll, expected_open(roll.mine, roll.length));
         try_expand2(&largest[number]);
@@ -171,6 +172,8 @@ static void play_forms(void)
     for (int i = 0; i < 3; i++)
         try_next2(roll, any_cursor2(cursor, roll.length));
     try_to_form1(roll, checked);
+    if (once_in(8))
+        try_confirm(roll);
     if (once_in(8))
         try_salvage(roll);
     if (once_in(8)) { /* in the other form's calls */
@@ -211,6 +214,8 @@ static void play(void)
     try_contracted(roll, checked);
     try_evaluate_grouped(roll, checked);
     try_to_form2(roll, checked);
+    if (once_in(8))
+        try_confirm(roll);
     if (once_in(8))
         try_salvage(roll);
 
@@ -283,6 +288,8 @@ int main(int words, char **word)
             for (int i = 0; i < 4; i++) {
                 play_salvage(bytes);
                 play_compare(bytes);
+                play_confirm(bytes);
+                play_small(bytes);
             }
         else
             play();

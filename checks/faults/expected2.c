@@ -128,8 +128,7 @@ size_t put(uint8_t *out, uint64_t number)
     return at;
 }
 
-/* Kind (first stands for kind 0), orders and term count. */
-static size_t put_header(uint8_t *out, uint8_t first, xew_cursor cursor, const uint8_t *orders)
+size_t put_header(uint8_t *out, uint8_t first, xew_cursor cursor, const uint8_t *orders)
 {
     size_t at = put(out, first + (uint64_t)cursor.kind);
     for (int i = 0; i < orders_used[cursor.kind]; i++)

@@ -68,6 +68,7 @@ extern const struct request largest[LARGEST], over[OVER];
 void make_requests(void);
 const struct request *known_request(void); /* one with its roll */
 void any_request(struct request *request);
+size_t mutated(uint8_t *out, size_t length); /* bytes changed, lost, or put in or after; answers their length then */
 size_t any_roll(uint8_t *out); /* at most MOST_BYTES */
 size_t good_roll(uint8_t *out, size_t most); /* one that reads, of at most so many bytes */
 size_t most_terms_roll(uint8_t *out, uint8_t kind, uint32_t terms); /* so many terms in as few bytes as can be */
@@ -101,6 +102,8 @@ extern const uint8_t orders_used[XEW_KINDS], table_size[XEW_KINDS];
 extern const size_t longest_roll[XEW_KINDS]; /* by a count of every request, apart from the library */
 uint8_t expected_request(uint8_t kind, const uint8_t *orders);
 uint64_t expected_terms(uint8_t kind, const uint8_t *orders); /* histories.c: of a request that keeps the limits */
+int chosen(uint8_t kind, const uint8_t *orders); /* histories.c: the centre that is lowered, 2 for the operator; -1 for none */
+size_t expected_expansion(uint8_t kind, const uint8_t *orders, uint8_t *out); /* expansion.c: its roll's bytes, within the cap */
 size_t expected_list(uint8_t order, uint8_t *out); /* its bytes; 0 where there is none */
 xew_component expected_component(const uint8_t *shells, int count, uint32_t number);
 /* Reads a number from least to most and moves on. Where there is none it stays, and answers 14 if the roll ends before
@@ -131,6 +134,8 @@ xew_opened2 expected_open2(const uint8_t *roll, size_t length);
 xew_opened2 expected_check2(const uint8_t *roll, size_t length);
 xew_step2 expected_next2(xew_cursor2 cursor, const uint8_t *roll, size_t length);
 size_t put(uint8_t *out, uint64_t number); /* writes a number; answers its bytes */
+/* Writes kind (first stands for kind 0), orders and term count of a cursor at the first term. */
+size_t put_header(uint8_t *out, uint8_t first, xew_cursor cursor, const uint8_t *orders);
 /* What a roll that reads is in form 2, into at most MOST_BYTES; answers its length. odd is the number of a term whose
  * shared length is so much more than the longest, with the further prefactors that then follow; UINT32_MAX for none. */
 size_t in_form2(const uint8_t *roll, size_t length, uint8_t *out, uint32_t odd, int more);

@@ -9,17 +9,23 @@ static size_t weights[XEW_ORDERS];
 static uint8_t left[XEW_ORDERS];
 
 /* Of the centres from first on the one with the smallest positive sum left, the first on a tie; -1 for none. */
-static int chosen(int first, int centres)
+static int smallest(const uint8_t *orders, int first, int centres)
 {
     int centre = -1, least = 0;
     for (int i = first; i < first + centres; i++) {
-        int sum = left[3 * i] + left[3 * i + 1] + left[3 * i + 2];
+        int sum = orders[3 * i] + orders[3 * i + 1] + orders[3 * i + 2];
         if (sum > 0 && (centre < 0 || sum < least)) {
             centre = i;
             least = sum;
         }
     }
     return centre;
+}
+
+int chosen(uint8_t kind, const uint8_t *orders)
+{
+    int centre = smallest(orders, 0, kind == 4 ? 4 : 2);
+    return centre < 0 && kind == 3 ? smallest(orders, 2, 1) : centre;
 }
 
 /* The histories after two orders fall, which may be one order twice. */
@@ -30,9 +36,7 @@ static uint64_t after_two(const uint64_t *counted, size_t state, int a, int b)
 
 static uint64_t after_branches(uint8_t kind, const uint64_t *counted, size_t state)
 {
-    int centre = chosen(0, kind == 4 ? 4 : 2), axis = 0;
-    if (centre < 0 && kind == 3)
-        centre = chosen(2, 1);
+    int centre = chosen(kind, left), axis = 0;
     if (centre < 0)
         return 1;
     while (left[3 * centre + axis] == 0)

@@ -209,7 +209,7 @@ static size_t noise(uint8_t *out)
     return length;
 }
 
-static size_t mutated(uint8_t *out, size_t length)
+size_t mutated(uint8_t *out, size_t length)
 {
     static const uint8_t bytes[] = { 0, 1, 4, 5, 6, 7, 8, 16, 20, 21, 22, 23, 24, 25, 127, 128, 129, 255 };
     size_t at = length ? below(once_in(2) && length > 30 ? 30 : length) : 0;

@@ -1,7 +1,8 @@
 /* stack [STEP]: how many bytes of stack the deepest calls of each exported function take. The calls run on a stack of
  * their own, painted before; the lowest byte that changed tells. Every request of overlap is expanded, every 7th of
  * kinetic, 97th of nuclear, 9,973rd of moment and STEP-th of Coulomb (99,991), the one with the most terms of each kind,
- * and of Coulomb one that goes through branch 7 alone as often as the cap lets it, and one with the most orders. */
+ * and of Coulomb one that goes through branch 7 alone as often as the cap lets it, and one with the most orders; and every
+ * request of the small-cabinet profile. */
 #define _GNU_SOURCE
 #include "../../include/xewumbal.h"
 #include <stdio.h>
@@ -22,6 +23,14 @@ static const uint8_t most_orders[XEW_ORDERS] = { 6, 0, 0, 6, 0, 0, 6, 0, 0, 6, 0
 static uint8_t *rolls[XEW_KINDS], out[MOST_BYTES];
 static uint8_t *rolls2[XEW_KINDS]; /* in form 2 */
 static uint8_t buffer[XEW_ENTRY * XEW_MOST_TERMS]; /* for groupings */
+static uint8_t *deepest_rolls[2]; /* in form 1 and form 2 */
+static size_t deepest_lengths[2];
+/* The requests of the profile, and their rolls: two centres of overlap, four of Coulomb. */
+enum { SMALL = 16 + 256 };
+static struct {
+    uint8_t kind, orders[XEW_ORDERS], roll[XEW_SMALL_ROLL];
+    size_t length;
+} profile[SMALL];
 static xew_opened opened[XEW_KINDS];
 static size_t lengths[XEW_KINDS], lengths2[XEW_KINDS];
 static uint8_t triples[TRIPLES][3];
@@ -241,6 +250,36 @@ CALLER void salvage_deepest(void)
         note(xew_salvage(head, sizeof head, out, sizeof out, 0).refusal);
 }
 
+CALLER void confirm(void)
+{
+    FROM_HERE;
+    for (int k = 0; k < XEW_KINDS; k++) {
+        note(xew_confirm(rolls[k], lengths[k]).refusal);
+        note(xew_confirm(rolls2[k], lengths2[k]).refusal);
+    }
+}
+
+CALLER void confirm_deepest(void)
+{
+    FROM_HERE;
+    for (int form = 0; form < 2; form++)
+        note(xew_confirm(deepest_rolls[form], deepest_lengths[form]).refusal);
+}
+
+CALLER void small_check(void)
+{
+    FROM_HERE;
+    for (int i = 0; i < SMALL; i++)
+        note(xew_small_check(profile[i].roll, profile[i].length).refusal);
+}
+
+CALLER void small_expand(void)
+{
+    FROM_HERE;
+    for (int i = 0; i < SMALL; i++)
+        note(xew_small_expand(profile[i].kind, &profile[i].orders, out, XEW_SMALL_ROLL, 0).refusal);
+}
+
 CALLER void compare(void)
 {
     FROM_HERE;
@@ -352,6 +391,26 @@ static void row_of_kind(const char *call, uint8_t k, void (*calls)(void))
     row(name, calls);
 }
 
+/* A copy of what stands in out. */
+static uint8_t *kept(size_t length)
+{
+    uint8_t *copy = malloc(length);
+    if (!copy || length == 0)
+        abort();
+    return memcpy(copy, out, length);
+}
+
+static void make_profile(void)
+{
+    for (int i = 0; i < SMALL; i++) {
+        profile[i].kind = i < 16 ? 0 : 4;
+        for (int centre = 0, rest = i < 16 ? i : i - 16; centre < 4; centre++, rest /= 4)
+            if (rest % 4 > 0)
+                profile[i].orders[3 * centre + rest % 4 - 1] = 1;
+        profile[i].length = xew_expand(profile[i].kind, &profile[i].orders, profile[i].roll, XEW_SMALL_ROLL, 0).length;
+    }
+}
+
 int main(int words, char **word)
 {
     int count = 0;
@@ -371,11 +430,13 @@ int main(int words, char **word)
             abort();
         opened[k] = xew_open(rolls[k], lengths[k]);
         lengths2[k] = xew_expand2(k, &most_terms[k], out, sizeof out, 0).length;
-        rolls2[k] = malloc(lengths2[k]);
-        if (!rolls2[k] || lengths2[k] == 0)
-            abort();
-        memcpy(rolls2[k], out, lengths2[k]);
+        rolls2[k] = kept(lengths2[k]);
     }
+    deepest_lengths[0] = xew_expand(4, &deepest, out, sizeof out, 0).length;
+    deepest_rolls[0] = kept(deepest_lengths[0]);
+    deepest_lengths[1] = xew_expand2(4, &deepest, out, sizeof out, 0).length;
+    deepest_rolls[1] = kept(deepest_lengths[1]);
+    make_profile();
     while (nuclei.count < XEW_MOST_NUCLEI)
         nuclei.centres[nuclei.count++] = c;
     while (contraction.count < XEW_MOST_PRIMITIVES)
@@ -404,6 +465,10 @@ int main(int words, char **word)
     row("xew_to_form1, the most terms of each kind", move_to_form1);
     row("xew_salvage, the most terms of each kind, both forms", salvage);
     row("xew_salvage, Coulomb, the deepest, both forms", salvage_deepest);
+    row("xew_confirm, the most terms of each kind, both forms", confirm);
+    row("xew_confirm, Coulomb, the deepest, both forms", confirm_deepest);
+    row("xew_small_check, each roll of the profile", small_check);
+    row("xew_small_expand, each request of the profile", small_expand);
     row("xew_compare, the most terms of each kind", compare);
     row("xew_compare_next, the same in form 2", compare_next);
     row("xew_scale_total, each kind", scale_total);

@@ -24,6 +24,9 @@ static const struct {
     [TO_FORM2] = { "xew_to_form2", { 7, 14, 5, 6 } },
     [TO_FORM1] = { "xew_to_form1", { 7, 14, 5, 6 } },
     [SALVAGE] = { "xew_salvage", { 7, 14, 5, 4, 6 } },
+    [CONFIRM] = { "xew_confirm", { 7, 14, 4, 20 } },
+    [SMALL_CHECK] = { "xew_small_check", { 7, 14, 19, 20 } },
+    [SMALL_EXPAND] = { "xew_small_expand", { 1, 2, 3, 19, 5, 6 } },
     [COMPARE] = { "xew_compare", { 7, 14 } },
     [COMPARE_NEXT] = { "xew_compare_next", { 7, 14 } },
     [SCALE_TOTAL] = { "xew_scale_total", { 1, 2, 3 } },
@@ -57,6 +60,9 @@ static const struct {
     [TO_FORM1_OUT] = { TO_FORM1, "out" },
     [SALVAGE_ROLL] = { SALVAGE, "roll" },
     [SALVAGE_OUT] = { SALVAGE, "out" },
+    [CONFIRM_ROLL] = { CONFIRM, "roll" },
+    [SMALL_CHECK_ROLL] = { SMALL_CHECK, "roll" },
+    [SMALL_EXPAND_OUT] = { SMALL_EXPAND, "out" },
     [COMPARE_LEFT] = { COMPARE, "left" },
     [COMPARE_RIGHT] = { COMPARE, "right" },
     [COMPARE_NEXT_LEFT] = { COMPARE_NEXT, "left" },
@@ -86,7 +92,7 @@ static const struct {
     { "895 terms", 10458 },       { "10,265 terms", 127541 },      { "380,480 terms", 4665226 },
     { "185,377 terms", 2971075 }, { "1,048,572 terms", 14908072 }, { "15,001,920 bytes", 15001920 },
 };
-enum { REFUSALS = 19, LARGE = sizeof large / sizeof *large }; /* no refusal, and 1 to 18 */
+enum { REFUSALS = 21, LARGE = sizeof large / sizeof *large }; /* no refusal, and 1 to 20 */
 
 static const char *const fault_names[FAULTS] = { "", "shares beyond", "too many", "not the longest" };
 static const char *const disorder_names[DISORDERS] = { "", "L beyond", "another number", "Boys order falls",
@@ -95,6 +101,10 @@ static const char *const disorder_names[DISORDERS] = { "", "L beyond", "another 
 /* What is told of a damaged roll: nothing kept, some terms, all and nothing after, all and bytes after, another count. */
 enum { NONE_KEPT, SOME_KEPT, ALL_KEPT, BYTES_AFTER, OTHER_COUNT, TOLD };
 static const char *const told_names[TOLD] = { "none kept", "some kept", "all kept", "bytes after", "another count" };
+
+/* What is found of a roll that reads and of its request's expansion. */
+enum { SAME1, SAME2, OTHER1, OTHER2, HELD };
+static const char *const held_names[HELD] = { "the same in form 1", "in form 2", "another in form 1", "in form 2" };
 
 /* What a total is of. */
 enum { ONE_NUCLEUS, MOST_NUCLEI, ONLY_NEGATIVE, LISTS };
@@ -110,6 +120,7 @@ uint64_t further_calls;
 static uint64_t answers[FUNCTIONS][REFUSALS], found[FUNCTIONS][3], faults[FAULTS], rolls[LARGE], empties[EMPTIES];
 /* Roots of -0.0; of floats not below 0 by their exponents, and of subnormals among them by their digits. */
 static uint64_t minus_zeros, exponents[2048], lengths[53];
+static uint64_t helds[HELD], most_small_terms, most_small_bytes;
 static uint64_t disorders[DISORDERS], tolds[TOLD], lists[LISTS], elements[ELEMENTS], mets[5], left[REFUSALS], just_over, most_histories;
 
 void begin(enum function f, const char *labels, size_t words_count, const uint64_t *words)
@@ -182,6 +193,19 @@ void count_salvaged(xew_salvaged told)
 {
     tolds[told.after ? ALL_KEPT + (told.after == 2) : told.kept > 0]++;
     tolds[OTHER_COUNT] += told.miscounted;
+}
+
+void count_confirmed(uint8_t refusal, bool two)
+{
+    if (refusal == 0 || refusal == 20)
+        helds[(refusal ? OTHER1 : SAME1) + two]++;
+}
+
+void count_small(xew_written written)
+{
+    hold(written.terms <= XEW_SMALL_TERMS && written.length <= XEW_SMALL_ROLL, "a roll beyond the header's limits of the profile");
+    most_small_terms += written.terms == XEW_SMALL_TERMS;
+    most_small_bytes += written.length == XEW_SMALL_ROLL;
 }
 
 void count_met(uint8_t found)
@@ -293,6 +317,12 @@ bool report(void)
             show(name, disorder_names[i], disorders[i]);
         for (int i = 0; f == SALVAGE && i < TOLD; i++)
             show(name, told_names[i], tolds[i]);
+        for (int i = 0; f == CONFIRM && i < HELD; i++)
+            show(name, held_names[i], helds[i]);
+        if (f == SMALL_EXPAND) {
+            show(name, "54 terms", most_small_terms);
+            show(name, "348 bytes", most_small_bytes);
+        }
         for (int i = 0; f == COMPARE_NEXT && i < 5; i++)
             show(name, met_names[i], mets[i]);
         for (int i = 0; f == NUCLEAR && i < LISTS; i++)

@@ -6,7 +6,7 @@
 
 enum function {
     EXPAND, MEASURE, EXPAND2, SHELL_LIST, SHELL2, SHELL4, OPEN, CHECK, NEXT, OPEN2, CHECK2, NEXT2, TO_FORM2, TO_FORM1,
-    SALVAGE, COMPARE, COMPARE_NEXT, SCALE_TOTAL, ROLL_TOTAL, PREFACTORS, ROOT, EVALUATE, NUCLEAR, CONTRACTED,
+    SALVAGE, CONFIRM, SMALL_CHECK, SMALL_EXPAND, COMPARE, COMPARE_NEXT, SCALE_TOTAL, ROLL_TOTAL, PREFACTORS, ROOT, EVALUATE, NUCLEAR, CONTRACTED,
     EVALUATE_GROUPED, GROUPED_TERM, JK,
     FUNCTIONS
 };
@@ -14,8 +14,8 @@ enum function {
 /* Slices that may be of length 0 and null. */
 enum empty {
     EXPAND_OUT, EXPAND2_OUT, LIST_OUT, OPEN_ROLL, CHECK_ROLL, NEXT_ROLL, OPEN2_ROLL, CHECK2_ROLL, NEXT2_ROLL,
-    TO_FORM2_ROLL, TO_FORM2_OUT, TO_FORM1_ROLL, TO_FORM1_OUT, SALVAGE_ROLL, SALVAGE_OUT, COMPARE_LEFT, COMPARE_RIGHT,
-    COMPARE_NEXT_LEFT, COMPARE_NEXT_RIGHT, TOTAL_ROLL, EVALUATE_ROLL, EVALUATE_BOYS, NUCLEAR_ROLL, NUCLEAR_BOYS,
+    TO_FORM2_ROLL, TO_FORM2_OUT, TO_FORM1_ROLL, TO_FORM1_OUT, SALVAGE_ROLL, SALVAGE_OUT, CONFIRM_ROLL, SMALL_CHECK_ROLL,
+    SMALL_EXPAND_OUT, COMPARE_LEFT, COMPARE_RIGHT, COMPARE_NEXT_LEFT, COMPARE_NEXT_RIGHT, TOTAL_ROLL, EVALUATE_ROLL, EVALUATE_BOYS, NUCLEAR_ROLL, NUCLEAR_BOYS,
     CONTRACTED_ROLL, CONTRACTED_HOST, GROUPED_ROLL, GROUPED_BOYS, GROUPED_BUFFER, GROUPING, JK_I, JK_D, JK_J, JK_K, EMPTIES
 };
 
@@ -38,6 +38,8 @@ void count_found(enum function f, uint8_t found); /* of xew_next or xew_next2 */
 void count_fault(enum fault met); /* of a form 2 roll */
 void count_disorder(enum disorder met); /* of a grouping */
 void count_salvaged(xew_salvaged told); /* what was told of a damaged roll */
+void count_confirmed(uint8_t refusal, bool two); /* of a roll of form 2 or 1 */
+void count_small(xew_written written); /* a roll of the profile */
 void count_met(uint8_t found); /* of xew_compare_next */
 void count_list(uint32_t nuclei, bool only_negative); /* nuclei of a total, and whether each value of theirs is -0.0 */
 /* Primitives of the two functions of an element, and whether each right one's part is -0.0. */
@@ -103,6 +105,11 @@ void play_contracted(uint8_t *bytes);
 enum { ROOTS_A_CALL = 10 }; /* roots for each other call that is drawn */
 void play_roots(uint64_t least);
 void play_quotients(void);
+
+/* confirm.c: calls that hold a roll to its request's expansion, and those of the profile, each made twice */
+void try_confirm(struct slice roll);
+void play_confirm(uint8_t *bytes); /* an expansion, or one with other terms */
+void play_small(uint8_t *bytes);
 
 /* compare.c: calls on two rolls, each made twice */
 void play_compare(uint8_t *bytes);

@@ -535,6 +535,110 @@ xew_salvaged __wrap_xew_salvage(const uint8_t *roll, size_t roll_len, uint8_t *o
     return salvaged;
 }
 
+static bool is_form2(const uint8_t *roll, size_t roll_len)
+{
+    return roll_len > 0 && roll[0] >= 16;
+}
+
+/* Where the term begins in which a place lies; the place itself in a header. */
+static size_t term_begins(const uint8_t *roll, size_t roll_len, size_t place)
+{
+    bool two = is_form2(roll, roll_len);
+    xew_cursor2 at = two ? xew_open2(roll, roll_len).cursor : (xew_cursor2){ .cursor = xew_open(roll, roll_len).cursor };
+    if (place < at.cursor.place)
+        return place;
+    for (;;) {
+        xew_cursor2 next = { 0 };
+        if (two)
+            next = xew_next2(at, roll, roll_len).next;
+        else
+            next.cursor = xew_next(at.cursor, roll, roll_len).next;
+        if (next.cursor.place > place || next.cursor.place == 0)
+            return at.cursor.place;
+        at = next;
+    }
+}
+
+/* The scales of a roll's terms added up, in either form. */
+static uint64_t scales_of(const uint8_t *roll, size_t roll_len)
+{
+    if (!is_form2(roll, roll_len))
+        return xew_roll_total(roll, roll_len).total;
+    uint64_t sum = 0;
+    for (xew_step2 step = { .next = xew_open2(roll, roll_len).cursor }; step.found < 2; sum += step.scale)
+        step = xew_next2(step.next, roll, roll_len);
+    return sum;
+}
+
+/* What xew_check says of a roll of either form. */
+static xew_opened checked(const uint8_t *roll, size_t roll_len)
+{
+    if (!is_form2(roll, roll_len))
+        return __real_xew_check(roll, roll_len);
+    xew_opened2 opened = xew_check2(roll, roll_len);
+    xew_opened answer = { .cursor = opened.cursor.cursor, .place = opened.place, .refusal = opened.refusal };
+    memcpy(answer.orders, opened.orders, sizeof answer.orders);
+    return answer;
+}
+
+xew_opened __real_xew_confirm(const uint8_t *roll, size_t roll_len);
+xew_opened __wrap_xew_confirm(const uint8_t *roll, size_t roll_len)
+{
+    if (is("reads-a-roll-to-confirm-past-its-end") && roll)
+        seen = roll[roll_len];
+    if (is("confirms-form-1-alone") && is_form2(roll, roll_len))
+        return (xew_opened){ .refusal = 7 };
+    xew_opened opened = __real_xew_confirm(roll, roll_len);
+    if (is("says-20-for-a-cut-roll") && opened.refusal == 14)
+        opened.refusal = 20;
+    if (opened.refusal != 20)
+        return opened;
+    xew_opened reads = checked(roll, roll_len);
+    const uint8_t(*orders)[12] = (const uint8_t(*)[12])reads.orders;
+    xew_total total = xew_scale_total(reads.cursor.kind, orders);
+    if (is("confirms-whatever-reads") || (is("confirms-by-the-count-alone")
+        && __real_xew_measure(reads.cursor.kind, orders).terms == reads.cursor.left))
+        return reads;
+    if (is("confirms-by-the-total-of-the-scales") && total.claimed && total.total == scales_of(roll, roll_len))
+        return reads;
+    if (is("tells-the-place-of-the-term"))
+        opened.place = term_begins(roll, roll_len, opened.place);
+    return opened;
+}
+
+xew_opened __real_xew_small_check(const uint8_t *roll, size_t roll_len);
+xew_opened __wrap_xew_small_check(const uint8_t *roll, size_t roll_len)
+{
+    xew_opened opened = __real_xew_small_check(roll, roll_len), reads = checked(roll, roll_len);
+    bool two = is_form2(roll, roll_len), whole = opened.refusal == 19 && !reads.refusal;
+    if (is("says-7-for-form-2") && opened.refusal == 19 && two)
+        return (xew_opened){ .refusal = 7 };
+    if (is("takes-an-order-of-2") && whole && !two && reads.cursor.kind % 4 == 0)
+        return __real_xew_confirm(roll, roll_len);
+    if (is("takes-kinetic") && whole && !two && reads.cursor.kind == 1)
+        return __real_xew_confirm(roll, roll_len);
+    if (is("says-19-before-the-header-reads") && opened.refusal == 14 && roll_len > 0 && roll[0] % 4 != 0)
+        return (xew_opened){ .refusal = 19 };
+    if (is("says-19-after-the-terms") && opened.refusal == 19 && reads.refusal)
+        return reads;
+    if (is("small-takes-what-reads") && opened.refusal == 20)
+        return reads;
+    return opened;
+}
+
+xew_written __real_xew_small_expand(uint8_t kind, const uint8_t (*orders)[12], uint8_t *out, size_t out_len, size_t start);
+xew_written __wrap_xew_small_expand(uint8_t kind, const uint8_t (*orders)[12], uint8_t *out, size_t out_len, size_t start)
+{
+    if (is("small-says-19-first") && kind > 4)
+        return (xew_written){ 0, 0, 19 };
+    if (is("small-expands-kinetic") && kind == 1)
+        return __real_xew_expand(kind, orders, out, out_len, start);
+    xew_written written = __real_xew_small_expand(kind, orders, out, out_len, start);
+    if (is("small-expands-beyond-the-roll") && !written.refusal && start + written.length < out_len)
+        out[start + written.length] ^= 1;
+    return written;
+}
+
 xew_compared __real_xew_compare(const uint8_t *left, size_t left_len, const uint8_t *right, size_t right_len);
 xew_compared __wrap_xew_compare(const uint8_t *left, size_t left_len, const uint8_t *right, size_t right_len)
 {
