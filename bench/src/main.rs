@@ -3,6 +3,7 @@
 
 mod compare;
 mod components;
+mod confirm;
 mod contracted;
 mod forms;
 mod grouped;
@@ -81,6 +82,7 @@ fn run(words: &[&str]) -> Result<(), String> {
         ["nuclei"] => return table::print_lists(),
         ["contracted"] => return table::print_elements(),
         ["root"] => return table::print_roots(),
+        ["confirm"] => return table::print_confirmations(),
         ["native"] => return table::print(&rows()?, true),
         ["emulated"] => return table::print(&rows()?, false),
         ["picture"] => picture::print(&rows()?),

@@ -2,6 +2,7 @@
 
 use crate::numbers::Numbers;
 use crate::ours::{self, ENTRY, ROOM};
+use crate::raw;
 use crate::requests::{self, Request};
 use crate::rust_side;
 
@@ -28,6 +29,7 @@ pub fn run(name: &str, call: &str, count: &str) -> Result<(), String> {
             "expand" => u64::from(ours::expand(&request, &mut out).terms),
             "measure" => u64::from(ours::measure(&request).terms),
             "check" => u64::from(ours::check(&out[..length]).cursor.left),
+            "confirm" => u64::from(raw::confirm(&out[..length]).cursor.left),
             "evaluate" => ours::evaluate(&out[..length], &with).value.to_bits(),
             "grouped" => {
                 let answer = ours::evaluate_grouped(&out[..length], &with, &mut buffer);
@@ -36,7 +38,7 @@ pub fn run(name: &str, call: &str, count: &str) -> Result<(), String> {
             "terms" => rust_side::terms(&request).len() as u64,
             "get" => rust_side::value(&request, &with.centres).to_bits(),
             _ => {
-                let calls = "expand measure check evaluate grouped terms get";
+                let calls = "expand measure check confirm evaluate grouped terms get";
                 return Err(format!("the calls are: {}", calls));
             }
         }

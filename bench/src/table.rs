@@ -2,6 +2,7 @@
 
 use crate::components::{self, COUNT};
 use crate::compare;
+use crate::confirm::{self, CONFIRM};
 use crate::forms;
 use crate::salvage;
 use crate::grouped;
@@ -9,6 +10,8 @@ use crate::matrices::{self, SIZES};
 use crate::measure::Row;
 use crate::contracted::{self, ELEMENT};
 use crate::nuclei::{self, LIST};
+use crate::ours;
+use crate::requests::{self, Request};
 use crate::root;
 use crate::totals;
 use std::fmt::Display;
@@ -137,6 +140,30 @@ impl Table {
             let cells = format!("{} | {:.1} | {:.2}", number, took, took / first);
             self.row(&cells, COMPONENT, took / first <= COMPONENT);
         }
+    }
+
+    /// The walk compares as it goes, so that a confirmation takes what an expansion takes, and the reading of the roll.
+    fn print_confirm(&self, requests: &[Request]) -> Result<(), String> {
+        self.head("confirmation | terms | xew_expand, ns a term | xew_confirm, ns a term | times expand | xew_expand2, ns a term | xew_confirm of form 2 | times expand2");
+        for request in requests {
+            let time = Duration::from_millis(100);
+            let (one, two) = (confirm::times(request, 1, time)?, confirm::times(request, 2, time)?);
+            let terms = f64::from(ours::measure(request).terms);
+            let ratios = [one.confirmed / one.written, two.confirmed / two.written];
+            let cells = format!(
+                "{} | {} | {:.1} | {:.1} | {:.2} | {:.1} | {:.1} | {:.2}",
+                request.title(),
+                terms,
+                one.written / terms,
+                one.confirmed / terms,
+                ratios[0],
+                two.written / terms,
+                two.confirmed / terms,
+                ratios[1]
+            );
+            self.row(&cells, CONFIRM, ratios.iter().all(|&ratio| ratio <= CONFIRM));
+        }
+        Ok(())
     }
 
     fn print_nuclei(&self) -> Result<(), String> {
@@ -313,6 +340,25 @@ fn print_salvage(rows: &[&Row]) -> Result<(), String> {
     Ok(())
 }
 
+/// The calls of a cheap board, beside those of every cabinet.
+fn print_profile() -> Result<(), String> {
+    heading("small-cabinet profile | xew_expand, ns a call | xew_small_expand | xew_check | xew_confirm | xew_small_check | small_check, times expand");
+    for request in confirm::profile() {
+        let took = confirm::small_times(&request, Duration::from_millis(100))?;
+        println!(
+            "| {} | {:.1} | {:.1} | {:.1} | {:.1} | {:.1} | {:.2} |",
+            request.title(),
+            took[0],
+            took[1],
+            took[2],
+            took[3],
+            took[4],
+            took[4] / took[0]
+        );
+    }
+    Ok(())
+}
+
 /// A comparison judges both rolls, then steps through both.
 fn print_compare(rows: &[&Row]) -> Result<(), String> {
     heading("comparison | xew_check, ns a term | xew_compare with itself, ns a term | with its form 2 | with itself, times check");
@@ -348,6 +394,8 @@ pub fn print(rows: &[Row], has_goals: bool) -> Result<(), String> {
     print_matrices()?;
     print_forms(&accepted)?;
     print_salvage(&accepted)?;
+    table.print_confirm(&accepted.iter().map(|row| row.request.clone()).collect::<Vec<_>>())?;
+    print_profile()?;
     print_compare(&accepted)?;
     table.print_nuclei()?;
     table.print_contracted()?;
@@ -358,6 +406,12 @@ pub fn print(rows: &[Row], has_goals: bool) -> Result<(), String> {
 /// The table of lists of nuclei alone.
 pub fn print_lists() -> Result<(), String> {
     Table { has_goals: true }.print_nuclei()
+}
+
+/// The tables of confirmations and of the profile alone.
+pub fn print_confirmations() -> Result<(), String> {
+    Table { has_goals: true }.print_confirm(&requests::measured())?;
+    print_profile()
 }
 
 /// The table of contracted elements alone.
