@@ -43,7 +43,7 @@ confirmedRoll two s r =
     (cond (sameNumbers s (freshOf two r)) (judgedIn two s)
     (refusedOpened 20 (shared s (freshOf two r))))
 
--- a refusal of reading is told as it is, with its place
+-- a refusal of reading is told as it is, with its place: the whole roll is read before anything else is said of it (D-116)
 abbrev pub confirmedBy : Bool → List ℕ → Reading Roll → Opened
 confirmedBy two s (refused n place) = refusedOpened n place
 confirmedBy two s (got r end) = confirmedRoll two s r

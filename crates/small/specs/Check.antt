@@ -36,6 +36,6 @@ inForm1 s (got h next) =
     (withTerms s (h .kind) (heldHeader (got h next)) (termsAt s next (h .terms) (h .kind) (total (h .orders))))
 inForm1 s (refused r place) = refusedOpened r place
 
--- what begins as form 2 is read so; all else as form 1, which gives 7 or 14 to what is neither
+-- what begins as form 2 is read so; all else as form 1, which gives 7 or 14 to what is neither; the term count is of the header too (D-118)
 unfoldable pub smallCheckOf : List ℕ → Opened
 smallCheckOf s = cond (isForm2 s) (inForm2 (headerAt2 s)) (inForm1 s (headerAt s))
