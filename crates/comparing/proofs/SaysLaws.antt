@@ -31,7 +31,7 @@ use Rattle.comparing.specs.inner.Sided.{shown}
 
 -- ---- a row
 
-pub row-said : (room : ℕ) (a b c name values : List ℕ) (w q r : Written) → Said room a w name q b → Said room b q (eachAfter blank values) r c → Said room a w (name ++ afterBlanks values) r c
+row-said : (room : ℕ) (a b c name values : List ℕ) (w q r : Written) → Said room a w name q b → Said room b q (eachAfter blank values) r c → Said room a w (name ++ afterBlanks values) r c
 row-said room a b c name values w q r named row = rw (each-blanks values) (said-both named row)
 
 -- ---- a term
@@ -57,8 +57,8 @@ shown-take count n ps is long =
     ap (λ (i : ℕ). take i ps) most ∙ take-all (length ps) ps (omega arith) ∙ sym (take-all count ps (omega arith)))
     (λ f. let all : n - 0 ≡ count = let m : n ≡ count = is ∙ rw f refl in omega (arith, m) in ap (λ (i : ℕ). take i ps) all)
 
-pub prefactors-said : (room : ℕ) (ps : List ℕ) (count n : ℕ) (a b : List ℕ) (w r : Written) → length ps ≡ mostL·any → n ≡ shown count → Said room a w (colon ++ afterBlanks (take (n - 0) (drop 0 ps))) r b → Said room a w (colon ++ afterBlanks (take count ps)) r b
-prefactors-said room ps count n a b w r long is said = rw (shown-take count n ps is long) at said
+pub prefactors-said : (room : ℕ) (ps : List ℕ) (count n : ℕ) (a b c : List ℕ) (w q r : Written) → length ps ≡ mostL·any → n ≡ shown count → Said room a w colon q b → Said room b q (eachAfter blank (take (n - 0) (drop 0 ps))) r c → Said room a w (colon ++ afterBlanks (take count ps)) r c
+prefactors-said room ps count n a b c w q r long is one two = row-said room a b c colon (take count ps) w q r one (rw (shown-take count n ps is long) at two)
 
 pub reading-said : (room : ℕ) (t : Held) (a b c d : List ℕ) (w p q r : Written) → Said room a w (decimalOf (t .scale)) p b → Said room b p (blank ++ decimalOf (t .boys)) q c → Said room c q (colon ++ afterBlanks (take (t .count) (t .prefactors))) r d → Said room a w (readingText (fromHeld t)) r d
 unfolding readingText
@@ -104,8 +104,10 @@ pub first-said : (room n : ℕ) (on : Bool) (l r : ℕ) (a b c d : List ℕ) (w 
 unfolding countLine
 first-said room n on l r a b c d w x y one two three = said-both (said-both one two) three
 
-pub used-said : (room kind n : ℕ) (name os a b : List ℕ) (w r : Written) → n ≡ usedOf kind → Said room a w (name ++ afterBlanks (take (n - 0) (drop 0 os))) r b → Said room a w (name ++ afterBlanks (take (usedOf kind) os)) r b
-used-said room kind n name os a b w r is said = let all : n - 0 ≡ usedOf kind = omega (arith, is) in rw all at said
+pub used-said : (room kind n : ℕ) (name os a b c : List ℕ) (w q r : Written) → n ≡ usedOf kind → Said room a w name q b → Said room b q (eachAfter blank (take (n - 0) (drop 0 os))) r c → Said room a w (name ++ afterBlanks (take (usedOf kind) os)) r c
+used-said room kind n name os a b c w q r is one two =
+    let all : n - 0 ≡ usedOf kind = omega (arith, is) in
+    row-said room a b c name (take (usedOf kind) os) w q r one (rw all at two)
 
 pub head-said : (room : ℕ) (k : Compared) (a b c d : List ℕ) (w x y : Written) → Said room a (To 0) (countLine (k .differ) ++ pairLine (k .kinds) kindWord (k .cursor .left .cursor .kind) (k .cursor .right .cursor .kind)) w b → Said room b w (ordersLine (k .orders) (take (usedOf (k .cursor .left .cursor .kind)) (k .left)) (take (usedOf (k .cursor .right .cursor .kind)) (k .right))) x c → Said room c x (pairLine (k .terms) termsWord (k .cursor .left .cursor .left) (k .cursor .right .cursor .left)) y d → Said room a (To 0) (headOf k) y d
 unfolding headOf

@@ -17,14 +17,6 @@ use saying::say_number;
 use term::Term;
 use text::Written;
 
-// Bytes, then numbers, each after a blank.
-fn say_row(out: &mut [u8], room: usize, w: Written, name: &[u8], values: &[u8]) -> Written
-    ensures { λ r. ⌜ Said room (now (out .entry)) w (now (name .entry) ++ afterBlanks (now (values .entry))) r (now (out .exit)) ⌝ }
-{
-    let named = say(out, room, w, name);
-    say_each(out, room, named, b" ", values)
-}
-
 // How many prefactors a term has: no more than it has places.
 fn shown(count: u8) -> usize
     ensures { λ r. ⌜ r ≡ shown count ⌝ }
@@ -46,7 +38,8 @@ fn say_prefactors(
     ensures { λ r. ⌜ Said room (now (out .entry)) w (colon ++ afterBlanks (take count prefactors)) r (now (out .exit)) ⌝ }
 {
     let n = shown(count);
-    say_row(out, room, w, b":", &prefactors[0..n])
+    let marked = say(out, room, w, b":");
+    say_each(out, room, marked, b" ", &prefactors[0..n])
 }
 
 // A term as the listing writes it.
@@ -150,7 +143,8 @@ fn say_used(
     ensures { λ r. ⌜ Said room (now (out .entry)) w (now (name .entry) ++ afterBlanks (take (usedOf kind) orders)) r (now (out .exit)) ⌝ }
 {
     let n = used(kind);
-    say_row(out, room, w, name, &orders[0..n])
+    let named = say(out, room, w, name);
+    say_each(out, room, named, b" ", &orders[0..n])
 }
 
 // The line of the orders, where they differ.

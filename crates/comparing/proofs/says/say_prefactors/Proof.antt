@@ -7,20 +7,26 @@ use Rattle.comparing.proofs.says.say_prefactors.Tie as tie
 shown-requires : tie.Need-shown-requires
 shown-requires c κs = search needs
 
-slice-aggregate-say-row : tie.Need-slice-aggregate-say-row
-slice-aggregate-say-row c = search needs
+slice-aggregate-say : tie.Need-slice-aggregate-say
+slice-aggregate-say c = search needs
 
-sub-say-row : tie.Need-sub-say-row
-sub-say-row c = search needs
+say-requires : tie.Need-say-requires
+say-requires c κs = search needs
 
-part-say-row-start : tie.Need-part-say-row-start
-part-say-row-start c = search needs
+slice-aggregate-say-each : tie.Need-slice-aggregate-say-each
+slice-aggregate-say-each c = search needs
 
-part-say-row-end : tie.Need-part-say-row-end
-part-say-row-end c = search shown-few
+sub-say-each : tie.Need-sub-say-each
+sub-say-each c = search needs
 
-say-row-requires : tie.Need-say-row-requires
-say-row-requires c κs = search needs
+part-say-each-start : tie.Need-part-say-each-start
+part-say-each-start c = search needs
+
+part-say-each-end : tie.Need-part-say-each-end
+part-say-each-end c = search shown-few
+
+say-each-requires : tie.Need-say-each-requires
+say-each-requires c κs = search needs
 
 same-length : tie.Need-same-length
 same-length c = search needs
@@ -33,10 +39,12 @@ say-prefactors-spec =
     tie.close
     (tie.spec
     shown-requires
-    slice-aggregate-say-row
-    sub-say-row
-    part-say-row-start
-    part-say-row-end
-    say-row-requires
+    slice-aggregate-say
+    say-requires
+    slice-aggregate-say-each
+    sub-say-each
+    part-say-each-start
+    part-say-each-end
+    say-each-requires
     same-length
     returns)

@@ -8,17 +8,23 @@ use Rattle.comparing.proofs.says.say_used.Tie as tie
 used-requires : tie.Need-used-requires
 used-requires c κs = search needs
 
-sub-say-row : tie.Need-sub-say-row
-sub-say-row c = search needs
+say-requires : tie.Need-say-requires
+say-requires c κs = search needs
 
-part-say-row-start : tie.Need-part-say-row-start
-part-say-row-start c = search needs
+slice-aggregate-say-each : tie.Need-slice-aggregate-say-each
+slice-aggregate-say-each c = search needs
 
-part-say-row-end : tie.Need-part-say-row-end
-part-say-row-end c = search used-few
+sub-say-each : tie.Need-sub-say-each
+sub-say-each c = search needs
 
-say-row-requires : tie.Need-say-row-requires
-say-row-requires c κs = search needs
+part-say-each-start : tie.Need-part-say-each-start
+part-say-each-start c = search needs
+
+part-say-each-end : tie.Need-part-say-each-end
+part-say-each-end c = search used-few
+
+say-each-requires : tie.Need-say-each-requires
+say-each-requires c κs = search needs
 
 same-length : tie.Need-same-length
 same-length c = search needs
@@ -31,9 +37,11 @@ say-used-spec =
     tie.close
     (tie.spec
     used-requires
-    sub-say-row
-    part-say-row-start
-    part-say-row-end
-    say-row-requires
+    say-requires
+    slice-aggregate-say-each
+    sub-say-each
+    part-say-each-start
+    part-say-each-end
+    say-each-requires
     same-length
     returns)
