@@ -1,0 +1,5 @@
+pub mod Lines
+pub mod Only
+pub mod Rolls
+pub mod Terms
+pub mod Unchanged
