@@ -1,19 +1,15 @@
 -- No head and no line is longer than a small buffer: numbers below 2^32 have ten digits, bytes three, a place twenty.
-use Prim.Native.Nat.{ℕ, zero, suc, _+_, _*_, _/_, _^_, _≤_, _<_}
-use native.Mathlib.Nat.{pow-suc}
+use Prim.Native.Nat.{ℕ, zero, suc, _+_, _*_, _^_, _≤_, _<_}
 use native.Mathlib.Omega.{arith}
 use mathlib.Core.Path.{_≡_}
 use mathlib.Core.Bool.{Bool, true, false}
 use mathlib.Core.List.{List, [], _∷_, _++_}
-use borrow.Author.Tests.{ltb-true, ltb-false}
-use lib.Dec.{ltb}
 use lib.ListN.{length, take, length-append}
 use Rattle.kind.specs.Limits.{mostL·any, requestOrders}
-use Rattle.laws.proofs.Cases.{tested}
 use Rattle.number.specs.Numbers.{Bytes}
 use Rattle.term.specs.declared.Term.{Term as Held}
 use Rattle.text.specs.Digits.{decimalOf}
-use Rattle.text.proofs.Digits.{places-short, places-long}
+use Rattle.text.proofs.Digits.{digits-most}
 use Rattle.roll.specs.inner.Held.{fromHeld}
 use Rattle.listing.specs.Text.{blank, kindWord, afterBlanks}
 use Rattle.comparing.specs.declared.differ.Compared.{Compared}
@@ -26,18 +22,6 @@ use Rattle.comparing.specs.Text.{both, left, right, termsWord, bothWord,
 use Rattle.comparing.specs.Answers.{usedOf, headOf, headAs, comparedText, metAs, metText, pieceRoom}
 
 -- ---- a number's decimal
-
-tens : (n m : ℕ) → n < m * 10 → n / 10 < m
-tens n m h = omega arith
-
-digits-most : (k n : ℕ) → n < 10 ^ suc k → length (decimalOf n) ≤ suc k
-digits-most zero n h = omega (arith, places-short n h)
-digits-most (suc k) n h =
-    tested (ltb n 10)
-    (λ t. omega (arith, places-short n (ltb-true n 10 t)))
-    (λ f.
-    let rest = digits-most k (n / 10) (tens n (10 ^ suc k) (rw (pow-suc 10 (suc k)) at h)) in
-    omega (arith, places-long n (ltb-false n 10 f)))
 
 byte-digits : (n : ℕ) → n < 256 → length (decimalOf n) ≤ 3
 byte-digits n h = digits-most 2 n (omega arith)

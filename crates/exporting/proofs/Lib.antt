@@ -1,5 +1,6 @@
 pub mod Lines
 pub mod Only
 pub mod Rolls
+pub mod Room
 pub mod Terms
 pub mod Unchanged

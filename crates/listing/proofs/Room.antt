@@ -17,7 +17,7 @@ use Rattle.number.specs.Numbers.{bytesOf, lengthOf, Bytes}
 use Rattle.number.proofs.Writing.{length-last, length-more, length-some}
 use Rattle.term.specs.Terms.{Term}
 use Rattle.text.specs.Digits.{decimalOf}
-use Rattle.text.proofs.Digits.{places-short, places-long}
+use Rattle.text.proofs.Digits.{digits-most}
 use Rattle.laws.proofs.Cases.{tested}
 use Rattle.roll.specs.Bytes.{numbersBytes, termBytes, termsBytes, rollBytes}
 use Rattle.laws.specs.Total.{total}
@@ -29,28 +29,17 @@ use Rattle.listing.specs.Text.{blank, afterBlanks, kindText, headLine, t
 
 -- ---- a number's decimal
 
-one-more : (n most : ℕ) → 1 ≤ most → length (decimalOf (n / 10)) ≤ most → length (decimalOf n) ≤ suc most
-one-more n most some tens =
-    tested (ltb n 10)
-    (λ t. let one = places-short n (ltb-true n 10 t) in omega arith)
-    (λ f. let more = places-long n (ltb-false n 10 f) in omega arith)
-
 one-digit : (n : ℕ) → n < 10 → length (decimalOf n) ≤ 1
-one-digit n h = omega (arith, places-short n h)
+one-digit n h = digits-most 0 n h
 
 three-digits : (n : ℕ) → n < 1000 → length (decimalOf n) ≤ 3
-three-digits n h = one-more n 2 (omega arith) (one-more (n / 10) 1 (omega arith) (one-digit (n / 10 / 10) (omega arith)))
+three-digits n h = digits-most 2 n (omega arith)
 
 five-digits : (n : ℕ) → n < 100000 → length (decimalOf n) ≤ 5
-five-digits n h = one-more n 4 (omega arith) (one-more (n / 10) 3 (omega arith) (three-digits (n / 10 / 10) (omega arith)))
+five-digits n h = digits-most 4 n (omega arith)
 
 ten-digits : (n : ℕ) → n < 2 ^ 32 → length (decimalOf n) ≤ 10
-ten-digits n h =
-    one-more n 9 (omega arith)
-    (one-more (n / 10) 8 (omega arith)
-    (one-more (n / 10 / 10) 7 (omega arith)
-    (one-more (n / 10 / 10 / 10) 6 (omega arith)
-    (one-more (n / 10 / 10 / 10 / 10) 5 (omega arith) (five-digits (n / 10 / 10 / 10 / 10 / 10) (omega arith))))))
+ten-digits n h = digits-most 9 n (omega arith)
 
 number-short : (n : ℕ) → n < 2 ^ 32 → length (decimalOf n) + 2 ≤ 5 * lengthOf n
 number-short n small =
@@ -182,18 +171,7 @@ listing-short s r end bytes small reads =
 -- ---- a refusal's line
 
 twenty-digits : (n : ℕ) → n < 2 ^ 64 → length (decimalOf n) ≤ 20
-twenty-digits n h =
-    let m = n / 10 / 10 / 10 / 10 / 10 / 10 / 10 / 10 / 10 / 10 in
-    one-more n 19 (omega arith)
-    (one-more (n / 10) 18 (omega arith)
-    (one-more (n / 10 / 10) 17 (omega arith)
-    (one-more (n / 10 / 10 / 10) 16 (omega arith)
-    (one-more (n / 10 / 10 / 10 / 10) 15 (omega arith)
-    (one-more (n / 10 / 10 / 10 / 10 / 10) 14 (omega arith)
-    (one-more (n / 10 / 10 / 10 / 10 / 10 / 10) 13 (omega arith)
-    (one-more (n / 10 / 10 / 10 / 10 / 10 / 10 / 10) 12 (omega arith)
-    (one-more (n / 10 / 10 / 10 / 10 / 10 / 10 / 10 / 10) 11 (omega arith)
-    (one-more (n / 10 / 10 / 10 / 10 / 10 / 10 / 10 / 10 / 10) 10 (omega arith) (ten-digits m (omega arith)))))))))))
+twenty-digits n h = digits-most 19 n (omega arith)
 
 place-short : (refusal place : ℕ) → place < 2 ^ 64 → length (placeText refusal place) ≤ 24
 place-short refusal place small =

@@ -46,6 +46,19 @@ places-short n h = rw (decimal-short n h)
 pub places-long : (n : ℕ) → 10 ≤ n → length (decimalOf n) ≡ suc (length (decimalOf (n / 10)))
 places-long n h = ap length (decimal-long n h) ∙ length-append (decimalOf (n / 10)) (glyph (n % 10) ∷ []) ∙ add-one _
 
+-- a number below a power of ten
+tens-below : (n m : ℕ) → n < m * 10 → n / 10 < m
+tens-below n m h = omega arith
+
+pub digits-most : (k n : ℕ) → n < 10 ^ suc k → length (decimalOf n) ≤ suc k
+digits-most zero n h = omega (arith, places-short n h)
+digits-most (suc k) n h =
+    tested (ltb n 10)
+    (λ t. omega (arith, places-short n (ltb-true n 10 t)))
+    (λ f.
+    let rest = digits-most k (n / 10) (tens-below n (10 ^ suc k) (rw (pow-suc 10 (suc k)) at h)) in
+    omega (arith, places-long n (ltb-false n 10 f)))
+
 -- what holds of a number below ten, and of any other if it holds of its tens
 by-tens : (P : ℕ → Type 0) → ((n : ℕ) → n < 10 → P n) → ((n : ℕ) → 10 ≤ n → P (n / 10) → P n) → (s n : ℕ) → n < s → P n
 by-tens P short long zero n h = absurd (omega arith)
