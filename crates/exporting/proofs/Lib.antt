@@ -4,3 +4,4 @@ pub mod Rolls
 pub mod Room
 pub mod Terms
 pub mod Unchanged
+pub mod Worked
