@@ -1,0 +1,3 @@
+pub mod Import
+pub mod Lines
+pub mod inner
