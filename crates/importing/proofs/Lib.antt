@@ -1,0 +1,2 @@
+pub mod Shaping
+pub mod Within

@@ -137,8 +137,8 @@ pub record ImportTold (text before : List ℕ) (start : ℕ) (r : Imported) (aft
 -- 02's number for each case, 0 for success, and its line
 abbrev pub refusalOf : Imported → ℕ
 refusalOf (imported.Roll n terms) = 0
-refusalOf (imported.Refused n line) = n
+refusalOf (imported.Refused n at) = n
 
 abbrev pub lineNumberOf : Imported → ℕ
 lineNumberOf (imported.Roll n terms) = 0
-lineNumberOf (imported.Refused n line) = line
+lineNumberOf (imported.Refused n at) = at

@@ -133,7 +133,7 @@ decimal-number m n e = sym (decimal-value m) ∙ ap (valueFrom 10 0) e ∙ decim
 
 -- ---- reading back
 
-run-digit : (base d : ℕ) (rest : List ℕ) → base ≤ 16 → d < base → runOf (glyph d ∷ rest) base ≡ glyph d ∷ runOf rest base
+pub run-digit : (base d : ℕ) (rest : List ℕ) → base ≤ 16 → d < base → runOf (glyph d ∷ rest) base ≡ glyph d ∷ runOf rest base
 run-digit base d rest b h = rw (worth-glyph d (omega arith), runOf) (rw (lt-ltb d base h))
 
 run-digits : (base k n : ℕ) (rest : List ℕ) → 1 < base → base ≤ 16 → runOf (digits base k n ++ rest) base ≡ digits base k n ++ runOf rest base
@@ -143,7 +143,7 @@ run-digits base (suc k) n rest a b =
     (run-digits base k (n / base) (glyph (n % base) ∷ rest) a b
     ∙ ap (λ (l : List ℕ). digits base k (n / base) ++ l) (run-digit base (n % base) rest b (mod-lt n (omega arith))))
 
-run-decimal : (n : ℕ) (rest : List ℕ) → runOf (decimalOf n ++ rest) 10 ≡ decimalOf n ++ runOf rest 10
+pub run-decimal : (n : ℕ) (rest : List ℕ) → runOf (decimalOf n ++ rest) 10 ≡ decimalOf n ++ runOf rest 10
 run-decimal n rest = rw (decimal-digits n) at (run-digits 10 (length (decimalOf n)) n rest (omega arith) (omega arith))
 
 -- a decimal that stands at a place, with no digit after it, reads as its number and the place after it

@@ -16,14 +16,14 @@ use Rattle.text.specs.declared.Parsed.the-variants.{Is, Not}
 use Rattle.text.specs.Digits.{worth, valueFrom, decimalOf}
 use Rattle.text.specs.Reading.{runOf, valueAt, decimalAt, hexAt}
 
-run-more : (s : List ℕ) (base i d : ℕ) → i < length s → d ≡ worth (getD s i 0) → d < base
+pub run-more : (s : List ℕ) (base i d : ℕ) → i < length s → d ≡ worth (getD s i 0) → d < base
     → runOf (drop i s) base ≡ getD s i 0 ∷ runOf (drop (i + 1) s) base
 run-more s base i d h e k = rw (drop-cons s i 0 h, add-one) (rw (lt-ltb (worth (getD s i 0)) base (omega arith), runOf))
 
-run-end : (s : List ℕ) (base i d : ℕ) → i < length s → d ≡ worth (getD s i 0) → base ≤ d → runOf (drop i s) base ≡ []
+pub run-end : (s : List ℕ) (base i d : ℕ) → i < length s → d ≡ worth (getD s i 0) → base ≤ d → runOf (drop i s) base ≡ []
 run-end s base i d h e k = rw (drop-cons s i 0 h) (rw (le-ltb (worth (getD s i 0)) base (omega arith), runOf))
 
-run-past : (s : List ℕ) (base i : ℕ) → length s ≤ i → runOf (drop i s) base ≡ []
+pub run-past : (s : List ℕ) (base i : ℕ) → length s ≤ i → runOf (drop i s) base ≡ []
 run-past s base i h = rw (drop-of-length-le s h)
 
 -- a loop that has read up to i, the value so far n: what is left is the whole's
