@@ -1,2 +1,5 @@
+pub mod Judging
+pub mod Numbers
+pub mod Putting
 pub mod Shaping
 pub mod Within
