@@ -1,5 +1,7 @@
+pub mod Decimals
 pub mod Judging
 pub mod Numbers
 pub mod Putting
 pub mod Shaping
+pub mod Standing
 pub mod Within

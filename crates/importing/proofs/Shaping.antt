@@ -104,7 +104,7 @@ number-many s at end e some more =
 
 -- ---- a line
 
-line-run : (run s : List ℕ) → lineFrom run s ≡ lineFrom (run ++ runOf s 10) (drop (length (runOf s 10)) s)
+pub line-run : (run s : List ℕ) → lineFrom run s ≡ lineFrom (run ++ runOf s 10) (drop (length (runOf s 10)) s)
 unfolding lineFrom
 line-run run [] = refl
 line-run run (b ∷ s) =
@@ -112,7 +112,7 @@ line-run run (b ∷ s) =
     (λ y. rw (y, lineFrom) (rw (y, runOf) (line-run (run ++ (b ∷ [])) s ∙ ap (λ (l : List ℕ). lineFrom l (drop (length (runOf s 10)) s)) (append-assoc run (b ∷ []) (runOf s 10)))))
     (λ y. rw (y, runOf) (ap (λ (l : List ℕ). lineFrom l (b ∷ s)) (sym (append-nil run))))
 
-line-byte : (run : List ℕ) (b : ℕ) (s : List ℕ) → ltb (worth b) 10 ≡ false → lineFrom run (b ∷ s) ≡ after run b s (lineOn s)
+pub line-byte : (run : List ℕ) (b : ℕ) (s : List ℕ) → ltb (worth b) 10 ≡ false → lineFrom run (b ∷ s) ≡ after run b s (lineOn s)
 unfolding lineFrom
 line-byte run b s y = rw (y, lineFrom)
 

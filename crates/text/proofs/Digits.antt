@@ -60,7 +60,7 @@ digits-most (suc k) n h =
     omega (arith, places-long n (ltb-false n 10 f)))
 
 -- what holds of a number below ten, and of any other if it holds of its tens
-by-tens : (P : ℕ → Type 0) → ((n : ℕ) → n < 10 → P n) → ((n : ℕ) → 10 ≤ n → P (n / 10) → P n) → (s n : ℕ) → n < s → P n
+pub by-tens : (P : ℕ → Type 0) → ((n : ℕ) → n < 10 → P n) → ((n : ℕ) → 10 ≤ n → P (n / 10) → P n) → (s n : ℕ) → n < s → P n
 by-tens P short long zero n h = absurd (omega arith)
 by-tens P short long (suc s) n h =
     tested (ltb n 10)
@@ -83,7 +83,7 @@ wrote-decimal before after at k n r w e =
 
 -- ---- worth
 
-value-last : (base v : ℕ) (xs : List ℕ) (b : ℕ) → valueFrom base v (xs ++ (b ∷ [])) ≡ valueFrom base v xs * base + worth b
+pub value-last : (base v : ℕ) (xs : List ℕ) (b : ℕ) → valueFrom base v (xs ++ (b ∷ [])) ≡ valueFrom base v xs * base + worth b
 value-last base v [] b = refl
 value-last base v (x ∷ xs) b = value-last base (v * base + worth x) xs b
 
