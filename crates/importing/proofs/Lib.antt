@@ -1,5 +1,6 @@
 pub mod Decimals
 pub mod Judging
+pub mod Keeping
 pub mod Numbers
 pub mod Putting
 pub mod Shaping
