@@ -32,7 +32,7 @@ line-short s at l n next k r inside is made few =
     let step : lineSize s at k l (shape.Line n next) ≡ size.Refused 21 = rw (lt-ltb n 2 few) in
     sym step ∙ ap (lineSize s at k l) (sym made) ∙ line-there s at l k r inside is
 
-line-long : (s : List ℕ) (at l n next : ℕ) (k : Kind) (r : Shape) (q : Numeral) → at < length s → r ≡ shapeAt s at → r ≡ shape.Line n next → 2 ≤ n → q ≡ termAt s at n k l → sized next q ≡ termLineAt s at k l
+pub line-long : (s : List ℕ) (at l n next : ℕ) (k : Kind) (r : Shape) (q : Numeral) → at < length s → r ≡ shapeAt s at → r ≡ shape.Line n next → 2 ≤ n → q ≡ termAt s at n k l → sized next q ≡ termLineAt s at k l
 line-long s at l n next k r q inside is made many term =
     let step : lineSize s at k l (shape.Line n next) ≡ sized next (termAt s at n k l) = rw (le-ltb n 2 many) in
     ap (sized next) term ∙ sym step ∙ ap (lineSize s at k l) (sym made) ∙ line-there s at l k r inside is

@@ -35,7 +35,7 @@ use Rattle.importing.specs.Lines.{Line, line, broken, lineOn}
 use Rattle.importing.specs.Import.{Judged, taken, refused, andThen, otherCount, onLine, below, termKeeps, termOf, termsFrom}
 use Rattle.importing.specs.inner.Places.{counted, shapeAt, withinAt, onward, eachAt, boysAt, termAt, sized, lineSize, termLineAt, tooMany, endAt, onSize, termsAt}
 use Rattle.importing.proofs.Standing.{standing, Exported, line-reads, nextPlace, stands-next, stands-in, stands-under, stands-over}
-use Rattle.importing.proofs.Judging.{line-missing, end-right}
+use Rattle.importing.proofs.Judging.{line-missing, line-short, line-broken, line-long, end-right, end-short, end-many, end-broken}
 
 -- ---- prefactors and terms: tests and limits
 
@@ -178,5 +178,106 @@ unfolding termsBytes
 totalled-more z count t (taken ts) = ap (λ (n : ℕ). imported.Roll n count) (omega (arith, length-append (termBytes t) (termsBytes ts)))
 totalled-more z count t (refused r n) = refl
 
-inside-cons : (s : List ℕ) (at : ℕ) → at < length s → (b : ℕ) × (t : List ℕ) × (drop at s ≡ b ∷ t)
-inside-cons s at inside = (_, _, drop-cons s at 0 inside)
+pub shape-line : (s : List ℕ) (at : ℕ) (ns rest : List ℕ) → lineOn (drop at s) ≡ line ns rest → shapeAt s at ≡ shape.Line (length ns) (length s - length rest)
+unfolding shapeAt
+shape-line s at ns rest e = ap (counted (length s) 0) e ∙ ap (λ (n : ℕ). shape.Line n (length s - length rest)) (omega arith)
+
+pub shape-broken : (s : List ℕ) (at : ℕ) → lineOn (drop at s) ≡ broken → shapeAt s at ≡ shape.Broken
+unfolding shapeAt
+shape-broken s at e = ap (counted (length s) 0) e
+
+-- a line of a term in order, and one that isn't
+line-kept : (s : List ℕ) (at : ℕ) (k : Kind) (l scale boys : ℕ) (ps rest : List ℕ) → at < length s → l ≤ 100 → lineOn (drop at s) ≡ line (scale ∷ boys ∷ ps) rest → termKeeps k l (termOn scale boys ps) ≡ true
+    → termLineAt s at k l ≡ size.Is (length (termBytes (termOn scale boys ps))) (length s - length rest)
+line-kept s at k l scale boys ps rest inside small e keeps =
+    let next = length s - length rest in
+    sym (line-long s at l (suc (suc (length ps))) next k (shapeAt s at) (termAt s at (suc (suc (length ps))) k l) inside refl (shape-line s at (scale ∷ boys ∷ ps) rest e) (omega arith) refl)
+    ∙ term-stands k l scale boys ps s at rest next small (line-reads (drop at s) (scale ∷ boys ∷ ps) rest e .text)
+    ∙ rw keeps (ap (λ (z : ℕ). size.Is z next) (term-length k l (termOn scale boys ps) small (keeps-fits k l (termOn scale boys ps) keeps)))
+
+line-not-kept : (s : List ℕ) (at : ℕ) (k : Kind) (l scale boys : ℕ) (ps rest : List ℕ) → at < length s → l ≤ 100 → lineOn (drop at s) ≡ line (scale ∷ boys ∷ ps) rest → termKeeps k l (termOn scale boys ps) ≡ false
+    → termLineAt s at k l ≡ size.Refused 22
+line-not-kept s at k l scale boys ps rest inside small e keeps =
+    let next = length s - length rest in
+    sym (line-long s at l (suc (suc (length ps))) next k (shapeAt s at) (termAt s at (suc (suc (length ps))) k l) inside refl (shape-line s at (scale ∷ boys ∷ ps) rest e) (omega arith) refl)
+    ∙ term-stands k l scale boys ps s at rest next small (line-reads (drop at s) (scale ∷ boys ∷ ps) rest e .text)
+    ∙ rw keeps
+
+module _ (s : List ℕ) (k : Kind) (l count : ℕ) (small : l ≤ 100) where
+  -- what the lines after this one say
+  abbrev Later : ℕ → ℕ → Type 0
+  Later number left = (next z : ℕ) → termsAt s next (number + 1) left k l z count ≡ totalled z count (termsFrom k l (number + 1) left (drop next s))
+
+  abbrev afterTerm : ℕ → ℕ → List ℕ → Term → Judged (List Term)
+  afterTerm number left rest t = andThen (termsFrom k l (number + 1) left rest) (λ ts. taken (t ∷ ts))
+
+  abbrev sizes : ℕ → ℕ → ℕ → ℕ → ℕ → Imported
+  sizes number left z more next = termsAt s next (number + 1) left k l (z + more) count
+
+  terms-line : (at number left z : ℕ) (ns rest : List ℕ) → at < length s → lineOn (drop at s) ≡ line ns rest → 2 ≤ length ns → Later number left
+      → onSize (termLineAt s at k l) number (sizes number left z) ≡ totalled z count (andThen (termOf k l number ns) (afterTerm number left rest))
+  terms-line at number left z [] rest inside e two later = absurd (omega arith)
+  terms-line at number left z (n ∷ []) rest inside e two later = absurd (omega arith)
+  terms-line at number left z (scale ∷ boys ∷ ps) rest inside e two later =
+      let t = termOn scale boys ps in
+      let next = length s - length rest in
+      tested (termKeeps k l t)
+      (λ y.
+      rw (line-kept s at k l scale boys ps rest inside small e y, y)
+      (later next (z + length (termBytes t))
+      ∙ ap (λ (x : List ℕ). totalled (z + length (termBytes t)) count (termsFrom k l (number + 1) left x)) (line-rest s at (scale ∷ boys ∷ ps) rest inside e)
+      ∙ totalled-more z count t (termsFrom k l (number + 1) left rest)))
+      (λ y. rw (line-not-kept s at k l scale boys ps rest inside small e y, y))
+
+  terms-step : (at number left z : ℕ) (x : Line) → at < length s → lineOn (drop at s) ≡ x → Later number left
+      → onSize (termLineAt s at k l) number (sizes number left z) ≡ totalled z count (onLine otherCount x number (λ ns rest. andThen (termOf k l number ns) (afterTerm number left rest)))
+  terms-step at number left z (line ns rest) inside e later =
+      tested (leb 2 (length ns))
+      (λ y. rw y (terms-line at number left z ns rest inside e (leb-true 2 (length ns) y) later))
+      (λ y.
+      let short : size.Refused 21 ≡ termLineAt s at k l = line-short s at l (length ns) (length s - length rest) k (shapeAt s at) inside refl (shape-line s at ns rest e) (leb-false 2 (length ns) y) in
+      rw (y, ← short))
+  terms-step at number left z broken inside e later =
+      let none : size.Refused 21 ≡ termLineAt s at k l = line-broken s at l k (shapeAt s at) inside refl (shape-broken s at e) in
+      rw (← none)
+
+  terms-end : (at number z : ℕ) (x : Line) → at < length s → lineOn (drop at s) ≡ x
+      → endAt s at number z count ≡ totalled z count (onLine otherCount x number (λ ns rest. refused 22 number))
+  terms-end at number z (line ns rest) inside e =
+      tested (leb 2 (length ns))
+      (λ y. rw y (sym (end-many s at number z count (length ns) (length s - length rest) (shapeAt s at) inside refl (shape-line s at ns rest e) (leb-true 2 (length ns) y))))
+      (λ y. rw y (sym (end-short s at number z count (length ns) (length s - length rest) (shapeAt s at) inside refl (shape-line s at ns rest e) (leb-false 2 (length ns) y))))
+  terms-end at number z broken inside e = sym (end-broken s at number z count (shapeAt s at) inside refl (shape-broken s at e))
+
+  from-end : (at number : ℕ) → at < length s → termsFrom k l number 0 (drop at s) ≡ onLine otherCount (lineOn (drop at s)) number (λ ns rest. refused 22 number)
+  unfolding termsFrom
+  from-end at number inside =
+      let c = drop-cons s at 0 inside in
+      ap (termsFrom k l number 0) c ∙ ap (λ (x : List ℕ). onLine {A = List Term} otherCount (lineOn x) number (λ ns rest. refused 22 number)) (sym c)
+
+  from-line : (at number left : ℕ) → at < length s → termsFrom k l number (suc left) (drop at s) ≡ onLine otherCount (lineOn (drop at s)) number (λ ns rest. andThen (termOf k l number ns) (afterTerm number left rest))
+  unfolding termsFrom
+  from-line at number left inside =
+      let c = drop-cons s at 0 inside in
+      ap (termsFrom k l number (suc left)) c ∙ ap (λ (x : List ℕ). onLine otherCount (lineOn x) number (λ ns rest. andThen (termOf k l number ns) (afterTerm number left rest))) (sym c)
+
+  -- the lines of the terms by places say what their numbers say
+  pub terms-stand : (left at number z : ℕ) → termsAt s at number left k l z count ≡ totalled z count (termsFrom k l number left (drop at s))
+  unfolding termsAt termsFrom termsBytes
+  terms-stand zero at number z =
+      tested (ltb at (length s))
+      (λ y.
+      let inside = ltb-true at (length s) y in
+      terms-end at number z (lineOn (drop at s)) inside refl ∙ ap (totalled z count) (sym (from-end at number inside)))
+      (λ y.
+      let past = ltb-false at (length s) y in
+      rw (drop-of-length-le s past) (sym (end-right s at number z count past) ∙ ap (λ (n : ℕ). imported.Roll n count) (omega arith)))
+  terms-stand (suc left) at number z =
+      tested (ltb at (length s))
+      (λ y.
+      let inside = ltb-true at (length s) y in
+      terms-step at number left z (lineOn (drop at s)) inside refl (λ next z. terms-stand left next (number + 1) z) ∙ ap (totalled z count) (sym (from-line at number left inside)))
+      (λ y.
+      let past = ltb-false at (length s) y in
+      let missing : size.Refused 22 ≡ termLineAt s at k l = line-missing s at l k past in
+      rw (drop-of-length-le s past, ← missing))
