@@ -1,4 +1,5 @@
 pub mod Decimals
+pub mod FirstLines
 pub mod Judging
 pub mod Keeping
 pub mod Numbers
