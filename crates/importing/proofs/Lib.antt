@@ -6,4 +6,5 @@ pub mod Numbers
 pub mod Putting
 pub mod Shaping
 pub mod Standing
+pub mod Trips
 pub mod Within
