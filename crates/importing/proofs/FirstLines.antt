@@ -102,7 +102,7 @@ orders-stand (o ∷ os) ns s at rest i sum l stands small =
 
 -- ---- the head
 
-pub headed : Judged Header → Head
+unfoldable pub headed : Judged Header → Head
 headed (taken h) = head.Is (h .kind) (total (h .orders)) (h .terms)
 headed (refused r n) = head.Wrong
 

@@ -3,10 +3,18 @@ use Prim.Native.Nat.{ℕ, zero, suc, _+_, _*_, _-_, _^_, _≤_, _<_}
 use mathlib.Core.Path.{_≡_, refl, sym, ap, _∙_}
 use mathlib.Core.List.{List}
 use native.Mathlib.Omega.{arith}
-use borrow.Author.Tests.{lt-ltb, le-ltb, le-leb, lt-leb}
+use mathlib.Core.Bool.{true}
+use borrow.Author.Tests.{lt-ltb, le-ltb, le-leb, lt-leb, eq-eqb, ne-eqb}
+use lib.Dec.{eqb}
 use lib.ListN.{length}
-use Rattle.kind.specs.Limits.{mostTerms}
+use Rattle.kind.specs.Kinds.{ordersOf}
 use Rattle.kind.specs.declared.Kind.{Kind}
+use Rattle.number.specs.Numbers.{lengthOf}
+use Rattle.number.proofs.Writing.{length-few}
+use Rattle.importing.specs.declared.numerals.Head.{Head}
+use Rattle.importing.specs.declared.numerals.Head.the-variants as head
+use Rattle.importing.specs.Import.{firstCount}
+use Rattle.importing.proofs.Numbers.{orders-room}
 use Rattle.importing.specs.declared.Imported.{Imported}
 use Rattle.importing.specs.declared.Imported.the-variants as imported
 use Rattle.importing.specs.declared.lines.Shape.{Shape}
@@ -15,7 +23,7 @@ use Rattle.importing.specs.declared.numerals.Numeral.{Numeral}
 use Rattle.importing.specs.declared.numerals.Numeral.the-variants as numeral
 use Rattle.importing.specs.declared.judge.Size.{Size}
 use Rattle.importing.specs.declared.judge.Size.the-variants as size
-use Rattle.importing.specs.inner.Places.{shapeAt, termAt, sized, lineSize, termLineAt, tooMany, endAt, onSize, termsAt}
+use Rattle.importing.specs.inner.Places.{shapeAt, termAt, sized, lineSize, termLineAt, tooMany, endAt, onSize, termsAt, headAt, onHead, headLineAt}
 
 -- ---- a term's line
 
@@ -73,14 +81,14 @@ end-broken s at number z count r inside is made = ap (tooMany number) (sym made)
 
 -- ---- the lines
 
--- a size of 32 bits is added for each term, so the sum stays below 2^64
+-- a size of 32 bits is added for each term, of which there are below 2^32, so the sum stays below 2^64
 pub record Lines (s : List ℕ) (at count : ℕ) (k : Kind) (l first place z number left : ℕ) : Type 0 where
-  pub few : number + left ≤ mostTerms + 2
-  pub small : z + 4294967296 * left ≤ 9007199254740992
+  pub few : number + left ≤ 4294967298
+  pub small : z + 4294967296 * left ≤ 18446744069414584420
   pub whole : termsAt s place number left k l z count ≡ termsAt s at 2 count k l first count
 
-pub lines-first : (s : List ℕ) (at count l first : ℕ) (k : Kind) → (count ≤ mostTerms) × (first ≤ 100) → Lines s at count k l first at first 2 count
-lines-first s at count l first k may = record { few = omega (arith, may .0); small = omega (arith, may .0, may .1); whole = refl }
+pub lines-first : (s : List ℕ) (at count l first : ℕ) (k : Kind) → first ≤ 100 → count < 2 ^ 32 → Lines s at count k l first at first 2 count
+lines-first s at count l first k may word = record { few = omega arith; small = omega arith; whole = refl }
 
 pub lines-size : (s : List ℕ) (at count l first place z number left more : ℕ) (k : Kind) → Lines s at count k l first place z number left → 0 < left → more < 2 ^ 32 → z + more < 2 ^ 64
 lines-size s at count l first place z number left more k i some small = omega (arith, i .small)
@@ -110,3 +118,35 @@ pub lines-done : (s : List ℕ) (at count l first place z number left : ℕ) (k 
 unfolding termsAt
 lines-done s at count l first place z number zero k r i none e = e ∙ i .whole
 lines-done s at count l first place z number (suc left) k r i none e = absurd (omega arith)
+
+-- ---- the first line
+
+pub count-eight : (n : ℕ) → n ≡ 8 → true ≡ firstCount n
+count-eight n e = rw (eq-eqb n 8 e)
+
+pub count-eleven : (n : ℕ) → (n ≡ 8 → ⊥) → n ≡ 11 → true ≡ firstCount n
+count-eleven n a e = rw (ne-eqb n 8 a, eq-eqb n 11 e)
+
+pub count-fourteen : (n : ℕ) → (n ≡ 8 → ⊥) → (n ≡ 11 → ⊥) → eqb n 14 ≡ firstCount n
+count-fourteen n a b = rw (ne-eqb n 8 a, ne-eqb n 11 b)
+
+pub first-small : (k : Kind) (places terms bytes : ℕ) → places ≡ ordersOf k → bytes ≡ lengthOf terms → 1 + places + bytes ≤ 100
+first-small k places terms bytes e b = omega (arith, orders-room k places e, b, length-few terms)
+
+pub first-adds : (k : Kind) (places terms bytes : ℕ) → places ≡ ordersOf k → bytes ≡ lengthOf terms → 1 + places + bytes < 2 ^ 64
+first-adds k places terms bytes e b = omega (arith, first-small k places terms bytes e b)
+
+pub first-adds-one : (k : Kind) (places : ℕ) → places ≡ ordersOf k → 1 + places < 2 ^ 64
+first-adds-one k places e = omega (arith, orders-room k places e)
+
+pub numbers-judged : (s : List ℕ) (n next l terms places bytes first : ℕ) (k : Kind) (h : Head) (r : Imported) → h ≡ headAt s n → h ≡ head.Is k l terms → places ≡ ordersOf k → bytes ≡ lengthOf terms
+    → first ≡ 1 + places + bytes → r ≡ termsAt s next 2 terms k l first terms → r ≡ headLineAt s n next
+unfolding headLineAt
+numbers-judged s n next l terms places bytes first k h r is made p b f e =
+    let size-is : first ≡ 1 + ordersOf k + lengthOf terms = omega arith in
+    e ∙ ap (λ (z : ℕ). termsAt s next 2 terms k l z terms) size-is
+    ∙ ap (λ (x : Head). onHead x (λ k l terms. termsAt s next 2 terms k l (1 + ordersOf k + lengthOf terms) terms)) (sym made ∙ is)
+
+pub numbers-wrong : (s : List ℕ) (n next : ℕ) (h : Head) → h ≡ headAt s n → h ≡ head.Wrong → imported.Refused 22 1 ≡ headLineAt s n next
+unfolding headLineAt
+numbers-wrong s n next h is made = ap (λ (x : Head). onHead x (λ k l terms. termsAt s next 2 terms k l (1 + ordersOf k + lengthOf terms) terms)) (sym made ∙ is)

@@ -1,7 +1,9 @@
+pub mod Answers
 pub mod Decimals
 pub mod FirstLines
 pub mod Judging
 pub mod Keeping
+pub mod Laying
 pub mod Numbers
 pub mod Putting
 pub mod Shaping

@@ -1,12 +1,14 @@
 // The judge of a text: lines from the first on, shape before numbers.
 ghost use mathlib.Core.Path.{_≡_};
-ghost use Prim.Native.Nat.{_+_, _≤_};
-ghost use Rattle.kind.specs.Limits.{mostTerms};
-ghost use Rattle.importing.specs.inner.Places.{termLineAt, endAt, termsAt};
+ghost use Prim.Native.Nat.{_≤_};
+ghost use Rattle.importing.specs.Import.{firstCount, rollOf};
+ghost use Rattle.importing.specs.inner.Places.{termLineAt, endAt, termsAt, headLineAt, measured};
 use crate::Imported;
 use crate::lines::Shape;
 use crate::lines::shape_at;
+use crate::numerals::Head;
 use crate::numerals::Numeral;
+use crate::numerals::first_line;
 use crate::numerals::term;
 use kind::Kind;
 
@@ -64,7 +66,7 @@ fn judge_terms(
     l: u8,
     first: usize,
 ) -> Imported
-    requires { ⌜ (count ≤ mostTerms) × (first ≤ 100) ⌝ }
+    requires { ⌜ first ≤ 100 ⌝ }
     ensures { λ r. ⌜ r ≡ termsAt (now (s .entry)) at 2 count kind l first count ⌝ }
 {
     let mut place = at;
@@ -83,4 +85,45 @@ fn judge_terms(
         left -= 1;
     }
     end(s, place, number, size, count)
+}
+
+// By shape the first line has 8, 11 or 14 numbers.
+fn first_count(n: usize) -> bool
+    ensures { λ r. ⌜ r ≡ firstCount n ⌝ }
+{
+    if n == 8 {
+        return true;
+    }
+    if n == 11 {
+        return true;
+    }
+    n == 14
+}
+
+// A first line of `n` numbers, and the lines from `next` on. The kind and each order have one byte.
+fn judge_numbers(s: &[u8], n: usize, next: usize) -> Imported
+    ensures { λ r. ⌜ r ≡ headLineAt (now (s .entry)) n next ⌝ }
+{
+    match first_line(s, n) {
+        Head::Is(kind, l, terms) => {
+            let first = 1 + kind.orders() + number::length(terms);
+            judge_terms(s, next, terms, kind, l, first)
+        }
+        Head::Wrong => Imported::Refused(22, 1),
+    }
+}
+
+// The length and the terms of the roll that a text imports as, or the first line that is wrong.
+pub(crate) fn judge_text(s: &[u8]) -> Imported
+    ensures { λ r. ⌜ r ≡ measured (rollOf (now (s .entry))) ⌝ }
+{
+    match shape_at(s, 0) {
+        Shape::Line(n, next) => {
+            if first_count(n) {
+                return judge_numbers(s, n, next);
+            }
+            Imported::Refused(21, 1)
+        }
+        Shape::Broken => Imported::Refused(21, 1),
+    }
 }

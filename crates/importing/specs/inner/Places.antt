@@ -17,7 +17,8 @@ use Rattle.number.specs.Numbers.{bytesOf, lengthOf}
 use Rattle.text.specs.declared.Parsed.{Parsed}
 use Rattle.text.specs.declared.Parsed.the-variants as parsed
 use Rattle.text.specs.Reading.{decimalAt}
-use Rattle.roll.specs.Reading.{mostBoys, sumAfter}
+use Rattle.roll.specs.Bytes.{rollBytes}
+use Rattle.roll.specs.Reading.{mostBoys, sumAfter, Roll}
 use Rattle.importing.specs.declared.lines.Shape.{Shape}
 use Rattle.importing.specs.declared.lines.Shape.the-variants as shape
 use Rattle.importing.specs.declared.numerals.Numeral.{Numeral}
@@ -29,6 +30,7 @@ use Rattle.importing.specs.declared.judge.Size.the-variants as size
 use Rattle.importing.specs.declared.writing.Spot.{Spot}
 use Rattle.importing.specs.declared.Imported.{Imported}
 use Rattle.importing.specs.declared.Imported.the-variants as imported
+use Rattle.importing.specs.Import.{Judged, taken, refused}
 use Rattle.importing.specs.Lines.{Line, line, broken, lineOn}
 
 -- ---- shape
@@ -131,6 +133,19 @@ numberedHead s n numeral.Wrong = head.Wrong
 -- a first line of n numbers: its kind, L and term count
 unfoldable pub headAt : List ℕ → ℕ → Head
 headAt s n = numberedHead s n (withinAt s 0 0 (numberOf Coulomb))
+
+abbrev pub onHead : Head → (Kind → ℕ → ℕ → Imported) → Imported
+onHead (head.Is k l terms) rest = rest k l terms
+onHead head.Wrong rest = imported.Refused 22 1
+
+-- the whole text, after a first line of n numbers that ends at a place
+unfoldable pub headLineAt : List ℕ → ℕ → ℕ → Imported
+headLineAt s n next = onHead (headAt s n) (λ k l terms. termsAt s next 2 terms k l (1 + ordersOf k + lengthOf terms) terms)
+
+-- how long a roll is, and its terms
+abbrev pub measured : Judged Roll → Imported
+measured (taken r) = imported.Roll (length (rollBytes (r .kind) (r .orders) (r .terms))) (length (r .terms))
+measured (refused r n) = imported.Refused r n
 
 -- ---- what is written
 
