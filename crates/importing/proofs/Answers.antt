@@ -85,6 +85,7 @@ head-either (named.Is k) ns X t f = by (eqb (length ns) (ordersOf k + 1) && head
   where
     made : Header
     made = record { kind = k; orders = take (ordersOf k) ns; terms = getD ns (ordersOf k) 0 }
+
     by : (b : Bool) → (eqb (length ns) (ordersOf k + 1) && headKeeps made) ≡ b → X (cond b (taken made) (refused 22 1))
     by true y = t made (rw y)
     by false y = f

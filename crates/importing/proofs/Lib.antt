@@ -5,6 +5,7 @@ pub mod Judging
 pub mod Keeping
 pub mod Laying
 pub mod Numbers
+pub mod Only
 pub mod Putting
 pub mod Shaping
 pub mod Standing

@@ -5,12 +5,12 @@ use mathlib.Core.Bool.{Bool, true, false, cond, _&&_, _||_}
 use mathlib.Core.List.{List, [], _∷_, _++_}
 use native.Mathlib.Numerals.{add-one}
 use native.Mathlib.Omega.{arith}
-use borrow.Author.Tests.{le-leb, eq-eqb, ne-eqb, leb-true, eqb-true}
+use borrow.Author.Tests.{le-leb, le-ltb, eq-eqb, ne-eqb, leb-true, eqb-true}
 use lib.Dec.{leb, eqb}
 use lib.ListN.{length, getD, take, length-append}
 use lib.Seq.{take-append-seam, getD-append-seam, length-take-le}
 use Rattle.laws.specs.Total.{total}
-use Rattle.laws.specs.Placed.{placedWhereFits}
+use Rattle.laws.specs.Placed.{placed, placedWhereFits}
 use Rattle.laws.proofs.Cases.{clash, tested, and-left, and-right, false-not-true}
 use Rattle.kind.specs.Limits.{mostTerms}
 use Rattle.kind.specs.Kinds.{kindOf, numberOf, ordersOf}
@@ -21,11 +21,14 @@ use Rattle.kind.specs.declared.Named.the-variants as named
 use Rattle.kind.proofs.KindNumber.{kind-number, number-kind}
 use Rattle.term.specs.Terms.{Term}
 use Rattle.roll.specs.Bytes.{rollBytes}
-use Rattle.roll.specs.Reading.{Header, Roll}
+use Rattle.number.specs.Numbers.{Bytes}
+use Rattle.roll.specs.Reading.{got, rollAt, Header, Roll}
+use Rattle.roll.proofs.Written.{roll-read}
 use Rattle.roll.specs.Fits.{CentresFit, TermFits, TermsFit, RollFits}
 use Rattle.exporting.specs.Text.{lineOf, headNumbers, termNumbers, termLines, textOf}
+use Rattle.importing.specs.declared.Imported.the-variants as imported
 use Rattle.importing.specs.Lines.{Line, line, broken, lineFrom, lineOn}
-use Rattle.importing.specs.Import.{Judged, taken, refused, andThen, firstCount, otherCount, onLine, centresKeep, headKeeps, headAs, headOf, termKeeps, termOf, termsFrom, rollOf}
+use Rattle.importing.specs.Import.{Judged, taken, refused, andThen, firstCount, otherCount, onLine, centresKeep, headKeeps, headAs, headOf, termKeeps, termOf, termsFrom, rollOf, importedOf, importedOut}
 use Rattle.importing.proofs.Standing.{Exported, line-reads, line-back}
 use Rattle.importing.proofs.Keeping.{keeps-fits, fits-keeps}
 use Rattle.importing.proofs.FirstLines.{centres-fit, fit-centres, split-last}
@@ -65,6 +68,7 @@ head-named (named.Is k) n ns h is e = by (eqb (length ns) (ordersOf k + 1) && he
   where
     made : Header
     made = record { kind = k; orders = take (ordersOf k) ns; terms = getD ns (ordersOf k) 0 }
+
     by : (b : Bool) → (eqb (length ns) (ordersOf k + 1) && headKeeps made) ≡ b → cond b (taken made) (refused 22 1) ≡ taken h → HeadTaken (n ∷ ns) h
     by true y e =
         let same : made ≡ h = taken-same made h e in
@@ -110,6 +114,7 @@ term-taken k l at (scale ∷ boys ∷ ps) t e = by (termKeeps k l made) refl e
   where
     made : Term
     made = record { scale = scale; boys = boys; prefactors = ps }
+
     by : (b : Bool) → termKeeps k l made ≡ b → cond b (taken made) (refused 22 at) ≡ taken t → TermTaken k l (scale ∷ boys ∷ ps) t
     by true y e = let same : made ≡ t = taken-same made t e in rw (← same) (record { fits = keeps-fits k l made y; numbers = refl })
     by false y e = absurd (clash (cc e))
@@ -227,3 +232,29 @@ export-import r f =
     let long : suc (length numbers) ≡ ordersOf (r .kind) + 2 = omega (arith, f .places, length-append (r .orders) (length (r .terms) ∷ [])) in
     rw (read, first-count (r .kind) (suc (length numbers)) long)
     (rw (head-back (r .kind) (r .orders) (length (r .terms)) (f .places) (f .sums) (f .terms-least) (f .most), terms-back (r .terms) (r .kind) (total (r .orders)) 2 (f .terms)))
+
+-- ---- in bytes
+
+abbrev bytesOfRoll : Roll → List ℕ
+bytesOfRoll r = rollBytes (r .kind) (r .orders) (r .terms)
+
+pub record Imports (text bytes out : List ℕ) (start terms : ℕ) : Type 0 where
+  pub answer : importedOf text out start ≡ imported.Roll (length bytes) terms
+  pub holds : importedOut text out start ≡ placed out start bytes
+
+-- every roll that reads: its text imports, where there is room, as the same bytes
+pub same-bytes : (s : List ℕ) (r : Roll) (end : ℕ) (out : List ℕ) (start : ℕ) → Bytes s → rollAt s ≡ got r end → start + length s ≤ length out → Imports (textOf r) s out start (length (r .terms))
+unfolding importedOf importedOut
+same-bytes s r end out start bytes reads room =
+    let w = roll-read s r end bytes reads in
+    let is = export-import r (w .1) in
+    let size : length s ≡ length (bytesOfRoll r) = ap length (w .0) in
+    let fits : leb (start + length (bytesOfRoll r)) (length out) ≡ true = le-leb (start + length (bytesOfRoll r)) (length out) (omega arith) in
+    record {
+      answer = rw (is, le-ltb (length out) start (omega arith), le-ltb (length out) (start + length (bytesOfRoll r)) (omega arith)) (ap (λ (n : ℕ). imported.Roll n (length (r .terms))) (sym size));
+      holds = rw (is, fits) (ap (placed out start) (sym (w .0)));
+    }
+
+-- so a text that imports is the only one of its roll
+pub only-text : (s t : List ℕ) (r : Roll) → rollOf s ≡ taken r → rollOf t ≡ taken r → s ≡ t
+only-text s t r a b = import-export s r a .text ∙ sym (import-export t r b .text)

@@ -58,14 +58,7 @@ fn end(s: &[u8], at: usize, number: u64, size: usize, count: u32) -> Imported
 }
 
 // The lines of the terms, from the second on, after a first line whose writing has `first` bytes.
-fn judge_terms(
-    s: &[u8],
-    at: usize,
-    count: u32,
-    kind: Kind,
-    l: u8,
-    first: usize,
-) -> Imported
+fn judge_terms(s: &[u8], at: usize, count: u32, kind: Kind, l: u8, first: usize) -> Imported
     requires { ⌜ first ≤ 100 ⌝ }
     ensures { λ r. ⌜ r ≡ termsAt (now (s .entry)) at 2 count kind l first count ⌝ }
 {

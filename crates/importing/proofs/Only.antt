@@ -1,0 +1,13 @@
+-- One answer alone, with what the buffer then holds, meets each public contract of this crate, and it is the definition's.
+use Prim.Native.Nat.{ℕ}
+use mathlib.Core.List.{List}
+use contract.Lifetimes.{Lfts}
+use Rattle.laws.proofs.Contract.{Alone, alone, Lent, _then_, _▸_, end}
+use Rattle.importing.specs.declared.Imported.{Imported}
+use Rattle.importing.specs.Import.{importedOf, importedOut}
+use Rattle.importing.proofs.import.Reads.{Post as Import}
+
+pub import-only : (κs : Lfts 2) (text out : Lent ℕ) (start : ℕ) →
+    Alone {A = Imported × List ℕ} (λ x. Import κs (text ▸ out ▸ start ▸ end) (x .0) (text ▸ out then (x .1) ▸ start ▸ end))
+    (importedOf (text .now) (out .now) start, importedOut (text .now) (out .now) start)
+import-only κs text out start = alone (λ x p i. (p .answer i, p .out i))
