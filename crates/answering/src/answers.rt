@@ -62,7 +62,11 @@ pub(crate) const ROOT: usize = 28;
 
 pub(crate) const CONFIRMED: usize = 29;
 
-pub(crate) const WAIT: usize = 30;
+pub(crate) const TEXT: usize = 30;
+
+pub(crate) const REFUSED_LINE: usize = 31;
+
+pub(crate) const WAIT: usize = 32;
 
 // The refusal of an output that has no room.
 const NO_ROOM: u64 = 6;
@@ -114,6 +118,20 @@ pub(crate) fn refused(refusal: u8, place: usize) -> Told {
 fn form_of(refusal: u8) -> usize {
     match refusal {
         7 | 14 | 20 => REFUSED_AT,
+        _ => REFUSED,
+    }
+}
+
+// A refusal, with its line where a text breaks a rule.
+pub(crate) fn refused_line(refusal: u8, line: u64) -> Told {
+    let numbers = [refusal as u64, line, 0, 0];
+    bytes(line_form_of(refusal), numbers, 0, 0)
+}
+
+// 21 and 22 tell a line of a text.
+fn line_form_of(refusal: u8) -> usize {
+    match refusal {
+        21 | 22 => REFUSED_LINE,
         _ => REFUSED,
     }
 }

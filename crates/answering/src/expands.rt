@@ -1,10 +1,12 @@
-// `expand KIND o1 .. o12 ..`, `expand2 KIND o1 .. o12 ..` and `measure KIND o1 .. o12`: the roll of a request, and its size.
+// `expand KIND o1 .. o12 ..`, `expand2 KIND o1 .. o12 ..` and `measure KIND o1 .. o12`: the roll of a request, and its size. `import HEX ..`: the roll of
+// comma-separated lines.
 use crate::answers;
 use asking::forms;
 use asking::numbers;
 use asking::words;
 use expansion::Expanded;
 use forms::Told;
+use importing::Imported;
 use kind::Kind;
 use numbers::byte;
 use words::NUMBERS;
@@ -25,6 +27,14 @@ pub(crate) fn told(answer: Expanded, start: usize) -> Told {
     match answer {
         Expanded::Roll(long, terms) => answers::roll(long, terms, start),
         Expanded::Refused(refusal) => answers::refused(refusal, 0),
+    }
+}
+
+// The roll of a text, which was written from a place on. 21 and 22 tell a line.
+pub(crate) fn imported(answer: Imported, start: usize) -> Told {
+    match answer {
+        Imported::Roll(long, terms) => answers::roll(long, terms, start),
+        Imported::Refused(refusal, line) => answers::refused_line(refusal, line),
     }
 }
 

@@ -66,6 +66,10 @@ enum Question {
     SmallExpand,
     SmallExpandIn,
     Confirm,
+    Export,
+    ExportIn,
+    Import,
+    ImportIn,
     Unknown,
 }
 
@@ -118,6 +122,10 @@ fn of(shape: usize) -> Question {
         36 => Question::SmallExpand,
         37 => Question::SmallExpandIn,
         38 => Question::Confirm,
+        39 => Question::Export,
+        40 => Question::ExportIn,
+        41 => Question::Import,
+        42 => Question::ImportIn,
         _ => Question::Unknown,
     }
 }
@@ -129,8 +137,12 @@ fn lends(q: Question, n: [u64; NUMBERS]) -> Lent {
         Question::ShellIn => said(n[1], n[2]),
         Question::Expand | Question::Expand2 | Question::SmallExpand => usual(shapes::LARGE as u64),
         Question::ExpandIn | Question::Expand2In | Question::SmallExpandIn => said(n[13], n[14]),
-        Question::Form2 | Question::Form1 | Question::Salvage => usual(shapes::LARGE as u64),
+        Question::Form2 | Question::Form1 | Question::Salvage | Question::Import => {
+            usual(shapes::LARGE as u64)
+        }
         Question::Form2In | Question::Form1In | Question::SalvageIn => said(n[0], n[1]),
+        Question::ExportIn | Question::ImportIn => said(n[0], n[1]),
+        Question::Export => usual(shapes::TEXT as u64),
         Question::List => usual(LISTING_LENT),
         Question::Compare => usual(shapes::LARGEST as u64),
         Question::Grouped => said(n[0], 0),
@@ -295,6 +307,14 @@ fn in_bytes(
         ),
         Question::Salvage | Question::SalvageIn => salvages::told(
             salvaging::salvage(roll, lent, start),
+            start,
+        ),
+        Question::Export | Question::ExportIn => lists::exported(
+            exporting::export(roll, lent, start),
+            start,
+        ),
+        Question::Import | Question::ImportIn => expands::imported(
+            importing::import(roll, lent, start),
             start,
         ),
         Question::Compare => compares::told(roll, n[0], lent),

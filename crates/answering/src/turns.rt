@@ -10,7 +10,7 @@ use forms::Told;
 use lines::State;
 use words::Asked;
 
-// Shapes: B, W and P are numbers below 2^8, 2^32 and 2^64, L a buffer's length, G a grouping buffer's, R a roll, S a second one, C a centre, N a count of nuclei
+// Shapes: B, W and P are numbers below 2^8, 2^32 and 2^64, L a buffer's length, G a grouping buffer's, T that of an export, R a roll, S a second one, C a centre, N a count of nuclei
 // and as many centres, M a count of primitives and as many, H a count of floats and as many, F a float, * floats, + one number below 2^8 or none, ^ any bytes; the first is the empty line. `questions::of` has their numbers.
 pub fn turn(
     input: &[u8],
@@ -62,6 +62,10 @@ small R
 small-expand B B B B B B B B B B B B B
 small-expand B B B B B B B B B B B B B L P
 confirm R
+export R
+export R T P
+import R
+import R L P
 ",
         line,
         given,
@@ -212,6 +216,8 @@ refused # at # left
 refused # at # right
 root $
 confirmed # # #~ place #
+text # |
+refused # line #
 !",
         t,
         line,

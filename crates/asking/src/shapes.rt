@@ -8,6 +8,9 @@ use words::NUMBERS;
 // The most bytes that a question can have lent to the library: more than any roll takes (D-89).
 pub const LARGE: usize = 16777216;
 
+// The bytes that an export has lent, and the most that it can have.
+pub const TEXT: usize = 3145728;
+
 // The most bytes of a grouping buffer.
 pub const LARGEST: usize = 67108864;
 
@@ -67,7 +70,7 @@ fn ended(a: Asked, end: usize) -> Asked {
 fn item(mark: u8, line: &[u8], a: Asked, bytes: &mut [u8], floats: &mut [f64]) -> Asked {
     match mark {
         b'\n' => ended(a, line.len()),
-        b'B' | b'W' | b'P' | b'L' | b'G' => words::number(line, a, most(mark)),
+        b'B' | b'W' | b'P' | b'L' | b'G' | b'T' => words::number(line, a, most(mark)),
         b'+' => words::perhaps(line, a, most(mark)),
         b'R' => words::roll(line, a, bytes),
         b'S' => words::second(line, a, bytes),
@@ -88,6 +91,7 @@ fn most(mark: u8) -> u64 {
         b'B' | b'+' => 255,
         b'W' => words::MOST_WORD,
         b'L' => LARGE as u64,
+        b'T' => TEXT as u64,
         b'G' => LARGEST as u64,
         _ => u64::MAX,
     }

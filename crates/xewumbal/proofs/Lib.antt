@@ -1,3 +1,4 @@
+pub mod CommasFields
 pub mod Fields
 pub mod Only
 pub mod SmallFields

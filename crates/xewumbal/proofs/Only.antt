@@ -13,6 +13,8 @@ use Rattle.form2.specs.Moves.{inForm1, inForm2, movedOf, outOf}
 use Rattle.salvaging.specs.Salvage.{salvagedOf, outOf as salvageOut}
 use Rattle.grouping.specs.Evaluation.{ofRoll as groupedOfRoll, bufferOf}
 use Rattle.small.specs.Expand.{smallNamed}
+use Rattle.exporting.specs.Export.{exportOf, exportOut}
+use Rattle.importing.specs.Import.{importedOf, importedOut}
 use Rattle.jk.specs.Outcome.{jkOf, refusalOf as jkRefusal}
 use Rattle.geometry.specs.declared.Centre.{Centre}
 use Rattle.nuclei.specs.declared.Nuclei.{Nuclei}
@@ -26,6 +28,9 @@ use Rattle.xewumbal.specs.declared.xew_salvaged.{«xew_salvaged»}
 use Rattle.xewumbal.specs.declared.xew_pair.{«xew_pair»}
 use Rattle.xewumbal.specs.declared.xew_value.{«xew_value»}
 use Rattle.xewumbal.specs.Answers.{hostExpanded, hostListed, hostMoved, hostSalvaged, compareAnswer, compareNextAnswer, measureAnswer, shell2Answer, shell4Answer, openAnswer, checkAnswer, nextAnswer, open2Answer, check2Answer, next2Answer}
+use Rattle.xewumbal.specs.declared.xew_text.{«xew_text»}
+use Rattle.xewumbal.specs.declared.xew_imported.{«xew_imported»}
+use Rattle.xewumbal.specs.Commas.{hostText, hostImported}
 use Rattle.xewumbal.specs.Small.{confirmAnswer, smallCheckAnswer}
 use Rattle.xewumbal.specs.Answers.{scaleTotalAnswer, rollTotalAnswer, prefactorsAnswer, evaluateAnswer, nuclearAnswer, contractedAnswer, rootAnswer, groupedTermAnswer, hostValue}
 use Rattle.xewumbal.proofs.xew_expand.Reads.{Post as Expand}
@@ -43,6 +48,8 @@ use Rattle.xewumbal.proofs.xew_next2.Reads.{Post as Next2}
 use Rattle.xewumbal.proofs.xew_to_form2.Reads.{Post as ToForm2}
 use Rattle.xewumbal.proofs.xew_to_form1.Reads.{Post as ToForm1}
 use Rattle.xewumbal.proofs.xew_salvage.Reads.{Post as Salvage}
+use Rattle.xewumbal.proofs.xew_export.Reads.{Post as Export}
+use Rattle.xewumbal.proofs.xew_import.Reads.{Post as Import}
 use Rattle.xewumbal.proofs.xew_confirm.Reads.{Post as Confirm}
 use Rattle.xewumbal.proofs.xew_small_check.Reads.{Post as SmallCheck}
 use Rattle.xewumbal.proofs.xew_small_expand.Reads.{Post as SmallExpand}
@@ -123,6 +130,14 @@ module _ (κs : Lfts 2) (roll out : Lent ℕ) (start : ℕ) where
       Alone {A = «xew_moved» × List ℕ} (λ x. ToForm1 κs (roll ▸ out ▸ start ▸ end) (x .0) (roll ▸ out then (x .1) ▸ start ▸ end))
       (hostMoved (movedOf inForm1 (rollAt2 (roll .now)) (out .now) start), outOf inForm1 (rollAt2 (roll .now)) (out .now) start)
   to-form1-only = alone (λ x p i. (p .answer i, p .out i))
+
+  pub export-only :
+      Alone {A = «xew_text» × List ℕ} (λ x. Export κs (roll ▸ out ▸ start ▸ end) (x .0) (roll ▸ out then (x .1) ▸ start ▸ end)) (hostText (exportOf (roll .now) (out .now) start), exportOut (roll .now) (out .now) start)
+  export-only = alone (λ x p i. (p .answer i, p .out i))
+
+  pub import-only :
+      Alone {A = «xew_imported» × List ℕ} (λ x. Import κs (roll ▸ out ▸ start ▸ end) (x .0) (roll ▸ out then (x .1) ▸ start ▸ end)) (hostImported (importedOf (roll .now) (out .now) start), importedOut (roll .now) (out .now) start)
+  import-only = alone (λ x p i. (p .answer i, p .out i))
 
 pub salvage-only : (κs : Lfts 2) (roll out : Lent ℕ) (start : ℕ) →
     Alone {A = «xew_salvaged» × List ℕ} (λ x. Salvage κs (roll ▸ out ▸ start ▸ end) (x .0) (roll ▸ out then (x .1) ▸ start ▸ end))

@@ -1,2 +1,3 @@
 pub mod Answers
+pub mod Commas
 pub mod Small

@@ -1,11 +1,13 @@
 // The exported functions, under their C names. Each lends what it gets to the function below it, and turns the answer
 // into a plain struct: refusal 0 is success, and zeros stand beside a refusal. include/xewumbal.h is for the host (D-76).
 mod answers;
+mod commas;
 
 ghost use mathlib.Core.Path.{_≡_};
 ghost use Rattle.xewumbal.specs.Answers.{ExpandCallTold, Expand2CallTold, ListCallTold, ToForm2CallTold, ToForm1CallTold, SalvageCallTold, GroupedCallTold, JkCallTold};
 ghost use Rattle.xewumbal.specs.Answers.{measureAnswer, shell2Answer, shell4Answer, openAnswer, checkAnswer, nextAnswer, open2Answer, check2Answer, next2Answer, compareAnswer, compareNextAnswer};
 ghost use Rattle.xewumbal.specs.Answers.{scaleTotalAnswer, rollTotalAnswer, prefactorsAnswer, evaluateAnswer, nuclearAnswer, contractedAnswer, groupedTermAnswer, rootAnswer};
+ghost use Rattle.xewumbal.specs.Commas.{ExportCallTold, ImportCallTold};
 ghost use Rattle.xewumbal.specs.Small.{confirmAnswer, smallCheckAnswer, SmallExpandCallTold};
 use kind::Kind;
 
@@ -125,6 +127,22 @@ pub struct xew_restored {
 pub struct xew_moved {
     pub length: usize,
     pub place: usize,
+    pub terms: u32,
+    pub refusal: u8,
+}
+
+#[repr(C)]
+pub struct xew_text {
+    pub length: usize,
+    pub place: usize,
+    pub refusal: u8,
+}
+
+// `line` is counted from 1.
+#[repr(C)]
+pub struct xew_imported {
+    pub length: usize,
+    pub line: u64,
     pub terms: u32,
     pub refusal: u8,
 }
@@ -355,6 +373,20 @@ pub extern "C" fn xew_compare_next(cursor: xew_pair, left: &[u8], right: &[u8]) 
     ensures { λ r. ⌜ r ≡ compareNextAnswer cursor (now (left .entry)) (now (right .entry)) ⌝ }
 {
     answers::met(answers::pair_in(cursor).next(left, right))
+}
+
+#[no_mangle]
+pub extern "C" fn xew_export(roll: &[u8], out: &mut [u8], start: usize) -> xew_text
+    ensures { λ r. ⌜ ExportCallTold (now (roll .entry)) (now (out .entry)) start r (now (out .exit)) ⌝ }
+{
+    commas::exported(exporting::export(roll, out, start))
+}
+
+#[no_mangle]
+pub extern "C" fn xew_import(text: &[u8], out: &mut [u8], start: usize) -> xew_imported
+    ensures { λ r. ⌜ ImportCallTold (now (text .entry)) (now (out .entry)) start r (now (out .exit)) ⌝ }
+{
+    commas::imported(importing::import(text, out, start))
 }
 
 #[no_mangle]

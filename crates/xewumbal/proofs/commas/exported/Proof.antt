@@ -1,0 +1,20 @@
+-- `exported` meets its contract: each case in fields. Assumes nothing.
+use Rattle.xewumbal.proofs.CommasFields.{text-written, text-refused}
+use borrow.Author.Needs.{needs}
+use Rattle.xewumbal.proofs.commas.exported.Statement.{statement}
+use Rattle.xewumbal.proofs.commas.exported.Tie as tie
+
+enum-known-answer : tie.Need-enum-known-answer
+enum-known-answer c = search needs
+
+enum-known-answer-2 : tie.Need-enum-known-answer-2
+enum-known-answer-2 c = search needs
+
+returns : tie.Need-returns
+returns c = search text-written
+
+returns-2 : tie.Need-returns-2
+returns-2 c = search text-refused
+
+pub exported-spec : {M : Type 1} → statement M
+exported-spec = tie.close (tie.spec enum-known-answer enum-known-answer-2 returns returns-2)
