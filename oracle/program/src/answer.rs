@@ -48,6 +48,9 @@ fn write_refusal(out: &mut Vec<u8>, refusal: Refusal) {
     if refusal.carries_place() {
         write(out, &format!(" at {}", refusal.place));
     }
+    if refusal.carries_line() {
+        write(out, &format!(" line {}", refusal.place));
+    }
 }
 
 fn write(out: &mut Vec<u8>, text: &str) {
@@ -100,6 +103,16 @@ fn answer(question: Question, out: &mut Vec<u8>) -> Result<(), Refusal> {
             start,
         } => small_expand(out, kind, &orders, buffer, start),
         Question::Confirm(roll) => confirm(out, &roll),
+        Question::Export {
+            roll,
+            buffer,
+            start,
+        } => export(out, &roll, buffer, start),
+        Question::Import {
+            text,
+            buffer,
+            start,
+        } => import(out, &text, buffer, start),
         Question::Eval(evaluation) => eval(out, &evaluation),
         Question::Grouped { buffer, evaluation } => grouped(out, buffer, &evaluation),
         Question::Nuclei(asked) => nuclei(out, &asked),
@@ -295,6 +308,23 @@ fn confirm(out: &mut Vec<u8>, roll: &[u8]) -> Result<(), Refusal> {
     let fresh = rust_side::roll_in(form, header.kind, &header.orders);
     second::check_expansion(roll, &fresh)?;
     told(out, "confirmed", &header)
+}
+
+/// The refusals of reading, then those of the output.
+fn export(out: &mut Vec<u8>, roll: &[u8], buffer: usize, start: u64) -> Result<(), Refusal> {
+    let text = second::exported(roll)?;
+    second::check_room(text.len(), buffer, start)?;
+    write(out, &format!("text {} ", text.len()));
+    write(out, &text.replace('\n', "|"));
+    Ok(())
+}
+
+/// The refusals of the text, then those of the output.
+fn import(out: &mut Vec<u8>, text: &[u8], buffer: usize, start: u64) -> Result<(), Refusal> {
+    let (count, roll) = second::imported(text)?;
+    second::check_room(roll.len(), buffer, start)?;
+    written(out, &roll, count);
+    Ok(())
 }
 
 fn opened(out: &mut Vec<u8>, header: &Header) -> Result<(), Refusal> {

@@ -26,3 +26,4 @@ pub mod rust_side;
 pub mod salvage_rolls;
 pub mod second;
 pub mod small_rolls;
+pub mod texts;

@@ -56,8 +56,13 @@ const USUAL_BUFFER: u64 = 1_048_576;
 
 /// BUFFER and START around every boundary for an output of `need` bytes.
 pub fn append_room(random: &mut Random, line: &mut Vec<u8>, need: u64) {
+    append_room_up_to(random, line, need, LARGEST_BUFFER)
+}
+
+/// The same where a question lends at most `largest`.
+pub fn append_room_up_to(random: &mut Random, line: &mut Vec<u8>, need: u64, largest: usize) {
     let most = if need > USUAL_BUFFER || random.once_in(100) {
-        LARGEST_BUFFER as u64
+        largest as u64
     } else {
         USUAL_BUFFER
     };

@@ -153,7 +153,9 @@ fn random_line(random: &mut Random) -> Vec<u8> {
 pub fn longest(kind: &str, length: usize) -> Vec<u8> {
     let mut line = match kind {
         "list" | "open" | "check" | "scales" | "open2" | "check2" | "form1" | "form2"
-        | "salvage" | "small" | "confirm" => format!("{} ", kind).into_bytes(),
+        | "salvage" | "small" | "confirm" | "export" | "import" => {
+            format!("{} ", kind).into_bytes()
+        }
         "compare" => b"compare - ".to_vec(),
         "next" => b"next 0 0 0 0 ".to_vec(),
         "next2" => b"next2 0 0 0 0 / ".to_vec(),

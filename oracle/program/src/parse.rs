@@ -6,6 +6,8 @@ use crate::second::Form;
 pub const LONGEST_LINE: usize = 2_097_152;
 /// The largest buffer that a question lends, and what the short forms lend.
 pub const LARGEST_BUFFER: usize = 16_777_216;
+/// The largest buffer for an export, and what its short form lends.
+pub const LARGEST_EXPORT: usize = 3_145_728;
 /// The largest grouping buffer that a question lends.
 pub const LARGEST_GROUPING: usize = 67_108_864;
 /// The most Boys numbers of a question.
@@ -172,6 +174,16 @@ pub enum Question {
         start: u64,
     },
     Confirm(Vec<u8>),
+    Export {
+        roll: Vec<u8>,
+        buffer: usize,
+        start: u64,
+    },
+    Import {
+        text: Vec<u8>,
+        buffer: usize,
+        start: u64,
+    },
     Eval(Evaluation),
     Grouped {
         buffer: usize,
@@ -303,10 +315,14 @@ impl<'a> Words<'a> {
 
     /// BUFFER START, or what the short form lends.
     fn room(&mut self) -> Option<(usize, u64)> {
+        self.room_up_to(LARGEST_BUFFER)
+    }
+
+    fn room_up_to(&mut self, largest: usize) -> Option<(usize, u64)> {
         if !self.more() {
-            return Some((LARGEST_BUFFER, 0));
+            return Some((largest, 0));
         }
-        let buffer = self.number(LARGEST_BUFFER as u64)? as usize;
+        let buffer = self.number(largest as u64)? as usize;
         Some((buffer, self.number(u64::MAX)?))
     }
 }
@@ -365,6 +381,24 @@ fn question(bytes: &[u8]) -> Option<Question> {
             }
         }
         b"confirm" => Question::Confirm(words.roll()?),
+        b"export" => {
+            let roll = words.roll()?;
+            let (buffer, start) = words.room_up_to(LARGEST_EXPORT)?;
+            Question::Export {
+                roll,
+                buffer,
+                start,
+            }
+        }
+        b"import" => {
+            let text = words.roll()?;
+            let (buffer, start) = words.room()?;
+            Question::Import {
+                text,
+                buffer,
+                start,
+            }
+        }
         b"eval" => Question::Eval(evaluation(&mut words)?),
         b"grouped" => Question::Grouped {
             buffer: words.number(LARGEST_GROUPING as u64)? as usize,

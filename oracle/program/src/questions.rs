@@ -4,16 +4,16 @@ use crate::compare_rolls::{self, Pair};
 use crate::cursors::{self, Walk};
 use crate::floats::{self, Taste};
 use crate::lines::{append, append_centres, append_float, append_floats, append_room};
-use crate::lines::{grouping_buffer, numbers, with_roll, with_rolls};
-use crate::parse::{LONGEST_LINE, MOST_BOYS, MOST_HOST};
+use crate::lines::{append_room_up_to, grouping_buffer, numbers, with_roll, with_rolls};
+use crate::parse::{LARGEST_EXPORT, LONGEST_LINE, MOST_BOYS, MOST_HOST};
 use crate::random::Random;
 use crate::second::{self, Form, NOW};
 use crate::{confirm_rolls, contracted, form2_rolls, matrices, nuclei, odd_lines, requests};
-use crate::{rolls, roots, runs, rust_side, salvage_rolls, small_rolls};
+use crate::{rolls, roots, runs, rust_side, salvage_rolls, small_rolls, texts};
 use std::io::{self, Write};
 
 /// The kinds of question, as `oracle/ask-both` names them.
-pub const KINDS: [&str; 29] = [
+pub const KINDS: [&str; 31] = [
     "shell",
     "component",
     "expand",
@@ -35,6 +35,8 @@ pub const KINDS: [&str; 29] = [
     "small",
     "small-expand",
     "confirm",
+    "export",
+    "import",
     "eval",
     "grouped",
     "nuclei",
@@ -62,12 +64,13 @@ pub fn write_all(kind: &str, count: u64, seed: u64, out: &mut dyn Write) -> io::
         runs::every_component(4, out)?;
     }
     let one_by_one = match kind {
-        "list" | "open" | "check" | "scales" | "next" | "eval" | "grouped" | "form2" => {
+        "list" | "open" | "check" | "scales" | "next" | "eval" | "grouped" | "form2" | "export" => {
             rolls::tried_one_by_one()
         }
         "open2" | "check2" | "next2" | "form1" => form2_rolls::tried_one_by_one(),
         "salvage" | "confirm" => salvage_rolls::tried_one_by_one(),
         "small" => small_rolls::tried_one_by_one(),
+        "import" => texts::tried_one_by_one(),
         _ => Vec::new(),
     };
     let pairs = match kind {
@@ -129,6 +132,9 @@ fn at_a_limit(kind: &str, from_end: u64) -> Option<Vec<u8>> {
         )),
         3 if kind == "compare" => Some(compared(compare_rolls::of_long_lines())),
         2 if kind == "compare" => Some(compared(compare_rolls::of_one_side())),
+        3 if kind == "export" => Some(with_roll(kind, &texts::of_the_longest_text())),
+        3 if kind == "import" => Some(with_roll(kind, &texts::of_most_lines("1,0\n"))),
+        2 if kind == "import" => Some(with_roll(kind, &texts::of_most_lines("1,0"))),
         3 if kind == "nuclei" => Some(odd_lines::nuclei_with_boys(MOST_BOYS)),
         2 if kind == "nuclei" => Some(odd_lines::nuclei_with_boys(MOST_BOYS + 1)),
         3 if kind == "contracted" => Some(odd_lines::contracted_with_host(MOST_HOST)),
@@ -166,6 +172,14 @@ fn question(random: &mut Random, kind: &str, at: u64) -> Vec<u8> {
         "small" => with_roll(kind, &small_rolls::any(random)),
         "small-expand" => small_rolls::expand(random, at),
         "confirm" => with_roll(kind, &confirm_rolls::any(random)),
+        "export" => {
+            let roll = form2_rolls::any_of_form_1(random);
+            export(random, &roll)
+        }
+        "import" => {
+            let text = texts::any(random);
+            import(random, &text)
+        }
         "compare" => {
             let (left, right) = compare_rolls::any(random);
             with_rolls(kind, &left, &right)
@@ -202,6 +216,8 @@ fn about_roll(random: &mut Random, kind: &str, roll: &[u8], walk: Walk) -> Vec<u
         "form1" => moved(random, Form::One, roll),
         "form2" => moved(random, Form::Two, roll),
         "salvage" => salvage(random, roll),
+        "export" => export(random, roll),
+        "import" => import(random, roll),
         "eval" => evaluation(random, "eval", roll, Taste::Ordinary, true),
         "grouped" => grouped_of(random, roll, Taste::Ordinary, true),
         _ => with_roll(kind, roll),
@@ -282,6 +298,25 @@ fn salvage(random: &mut Random, roll: &[u8]) -> Vec<u8> {
     let mut line = with_roll("salvage", roll);
     if random.once_in(3) {
         append_room(random, &mut line, salvage_rolls::length_salvaged(roll));
+    }
+    line
+}
+
+/// A roll to be exported, with a buffer and a start around each boundary for its text.
+fn export(random: &mut Random, roll: &[u8]) -> Vec<u8> {
+    let mut line = with_roll("export", roll);
+    if random.once_in(3) {
+        let need = texts::length_exported(roll);
+        append_room_up_to(random, &mut line, need, LARGEST_EXPORT);
+    }
+    line
+}
+
+/// A text to be imported, with a buffer and a start around each boundary for its roll.
+fn import(random: &mut Random, text: &[u8]) -> Vec<u8> {
+    let mut line = with_roll("import", text);
+    if random.once_in(3) {
+        append_room(random, &mut line, texts::length_imported(text));
     }
     line
 }

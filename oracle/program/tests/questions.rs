@@ -14,6 +14,7 @@ use oracle::runs;
 use oracle::salvage_rolls;
 use oracle::second::{self, Form, NOW};
 use oracle::small_rolls;
+use oracle::texts;
 use std::collections::{BTreeMap, BTreeSet};
 use std::io::{self, Write};
 
@@ -118,6 +119,20 @@ fn every_kind_of_answer_comes_up() {
                 "refused  7",
                 "refused 14",
                 "refused 20",
+            ],
+            "export" => &[
+                "text",
+                "refused  5",
+                "refused  6",
+                "refused  7",
+                "refused 14",
+            ],
+            "import" => &[
+                "roll",
+                "refused  5",
+                "refused  6",
+                "refused 21",
+                "refused 22",
             ],
             "eval" => &[
                 "value",
@@ -604,6 +619,28 @@ fn requests_of_the_profile_that_are_tried_one_by_one() {
     let expand = questions("small-expand", 272, 1);
     let different: BTreeSet<&[u8]> = lines(&expand).into_iter().collect();
     assert!(different.len() > 250);
+}
+
+/// checks/questions counts on this number.
+#[test]
+fn texts_that_are_tried_one_by_one() {
+    let tried = texts::tried_one_by_one();
+    // The small texts have 30, 30, 28, 28 and 40 characters and 3, 3, 3, 2 and 3 lines. Of n characters and 27
+    // to try: cut, inserted, exchanged, lost; of n lines: as they are, doubled, lost, exchanged, with three counts.
+    let characters = |n: usize| n + 27 * (n + 1) + 27 * n + n;
+    let lines_of = |n: usize| 3 * (1 + 2 * n + n * (n - 1) / 2);
+    let all: usize = [30, 30, 28, 28, 40].map(characters).iter().sum();
+    let all_lines: usize = [3, 3, 3, 2, 3].map(lines_of).iter().sum();
+    assert_eq!(tried.len(), 1 + all + all_lines);
+    assert_eq!(tried.len(), 9_010);
+    // A question may name a buffer after the text.
+    let asked = questions("import", 18_020, 1);
+    let mut line = b"import ".to_vec();
+    for (asked, text) in lines(&asked).into_iter().zip(&tried) {
+        line.truncate(7);
+        write_roll(&mut line, text);
+        assert!(asked == line || asked.starts_with(&[&line[..], b" "].concat()));
+    }
 }
 
 /// checks/questions counts on this number.

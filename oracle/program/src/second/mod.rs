@@ -3,11 +3,12 @@
 //! Everything that os86.rs, shell.rs and basis.rs do not know stands here: limits and
 //! refusals, the roll in its two forms, the reader and the cursor, the moves, what is left of a
 //! damaged roll, the listing, the comparison of two rolls, the capped count of histories, the checks of an evaluation, the
-//! grouping of terms, the charges and lists of nuclei, contracted functions, the root over whole numbers, and the small cabinet's profile. Nothing here calls the unchanged Rust. The step rules, the geometry and the
+//! grouping of terms, the charges and lists of nuclei, contracted functions, the root over whole numbers, the small cabinet's profile, and the comma-separated text. Nothing here calls the unchanged Rust. The step rules, the geometry and the
 //! sums of J and K are here too, so that the two can be held against each other.
 
 mod census;
 mod checks;
+mod commas;
 mod compare;
 mod contracted;
 mod form;
@@ -31,6 +32,7 @@ pub use checks::{check_component, check_contracted, check_counts, check_evaluati
 pub use checks::{check_grouping, check_matrices, check_measured, check_nuclei};
 pub use checks::{check_request, check_results, check_room, check_shell};
 pub use checks::{check_small_request, check_table, check_total, BYTES_OF_AN_ENTRY};
+pub use commas::{exported, imported};
 pub use compare::{compared, Side};
 pub use contracted::{element, Element};
 pub use form::{shared_length, Form};
