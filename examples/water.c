@@ -53,6 +53,8 @@ static void accept(uint8_t refusal, size_t place)
         [18] = "root of a number below 0",
         [19] = "kind, form or order outside the profile",
         [20] = "roll is not the expansion; carries the place of the first differing byte",
+        [21] = "line not of the shape; carries the line",
+        [22] = "number or count that doesn't match; carries the line",
     };
     if (refusal == 0) return;
     fprintf(stderr, "water: refused %d, place %zu: %s\n", refusal, place, words[refusal]);

@@ -6,10 +6,10 @@
  * of length 0 may have a null pointer; a pointer with no length beside it must point to what it says.
  *
  * Every call answers every input. refusal is 0 for success, or one of these numbers; beside a refusal every other
- * number and array of the answer is 0 (7, 14 and 20 also have their place, and of two rolls their side), and no lent byte
- * or float has changed, but for the grouping that xew_evaluate_grouped leaves. On success only the bytes or floats of the
- * output itself change. Where several refusals apply, the one told is the first in the order that stands at the call; 7
- * and 14 never apply to one roll at once.
+ * number and array of the answer is 0 (7, 14 and 20 also have their place, and of two rolls their side; 21 and 22 have their
+ * line), and no lent byte or float has changed, but for the grouping that xew_evaluate_grouped leaves. On success only the
+ * bytes or floats of the output itself change. Where several refusals apply, the one told is the first in the order that
+ * stands at the call; 7 and 14 never apply to one roll at once.
  *
  *    1  kind above 4, or a roll of another kind than the call takes
  *    2  an order sum the kind uses, or a shell's order, above 6
@@ -31,11 +31,13 @@
  *   18  root of a number below 0
  *   19  kind, form or order outside the profile
  *   20  roll is not the expansion; carries the place of the first differing byte
+ *   21  line not of the shape; carries the line
+ *   22  number or count that doesn't match; carries the line
  *
  * These are the words of docs/01-scope.md, which has the rules of a roll, for 14 of docs/requests/Q-5.md, for 2 and 4
  * of docs/requests/Q-6.md, which has the limits, for 15 and 16 of docs/requests/Q-1.md, for 1, 10 and 17 of
- * docs/requests/Q-10.md, for 18 of docs/requests/Q-12.md and for 19 and 20 of docs/requests/Q-13.md; the listing is not
- * exported.
+ * docs/requests/Q-10.md, for 18 of docs/requests/Q-12.md, for 19 and 20 of docs/requests/Q-13.md and for 21 and 22 of
+ * docs/requests/Q-14.md; the listing is not exported.
  *
  * Kinds: 0 overlap, 1 kinetic, 2 nuclear, 3 moment, 4 Coulomb. Orders stand by centre, x y z each: A, B; for kind 3
  * then the operator; for kind 4 then C, D. L is the sum of all orders. docs/01-scope.md defines terms and rolls.
@@ -214,6 +216,21 @@ typedef struct {
     uint8_t miscounted, after, refusal;
 } xew_salvaged;
 
+/* What was exported from the start place on: the bytes of the text. place is that of 7 and 14 in the roll. */
+typedef struct {
+    size_t length, place;
+    uint8_t refusal;
+} xew_text;
+
+/* What was imported from the start place on: the bytes and the terms of the form 1 roll. line is that of 21 and 22 in the text,
+ * counted from 1; 0 beside 5, 6 and a success. */
+typedef struct {
+    size_t length;
+    uint64_t line;
+    uint32_t terms;
+    uint8_t refusal;
+} xew_imported;
+
 /* Where both readers of a comparison stand, and the number of the position, counted from 1. */
 typedef struct {
     xew_cursor2 left, right;
@@ -341,6 +358,22 @@ xew_opened xew_small_check(const uint8_t *roll, size_t roll_len);
  * kind other than 0 and 4, or an order sum above 1 on a centre; 5, 6. 4 is never given: no such request has more than
  * XEW_SMALL_TERMS histories. */
 xew_written xew_small_expand(uint8_t kind, const uint8_t (*orders)[12], uint8_t *out, size_t out_len, size_t start);
+
+/* Writes a form 1 roll as text for a spreadsheet into out from start on: first the line kind,orders..,count, then a line
+ * scale,order,prefactors.. for each term; decimal digits without leading zeros, no blanks, a line feed (one byte, 10) at the
+ * end of each line. 4 * roll_len bytes always hold it. Nothing is written before the whole roll is judged. Refusals: 7 or 14,
+ * 5, 6. */
+xew_text xew_export(const uint8_t *roll, size_t roll_len, uint8_t *out, size_t out_len, size_t start);
+
+/* Writes the form 1 roll of such a text into out from start on. It takes exactly the texts that xew_export writes, so export
+ * and then import gives the same bytes, and import and then export the same text; like a roll that reads, an imported one may
+ * hold terms that no expansion gives (xew_confirm tells). text_len bytes always hold it. Nothing is written before the whole
+ * text is judged, line by line from the first on, in each line the shape before the numbers. Refusals: 21 for a line that is
+ * not numbers as above with single commas between them and a line feed behind, 8, 11 or 14 of them in the first line and two or
+ * more in any other; 22 for a number outside the reader's limits, however many digits it has, or a count of orders, prefactors
+ * or lines that does not match (a missing line counts as the next), both with the line; 5, 6. A carriage return, a sign, a
+ * quote, a point, a blank, or a last line without its line feed is 21. */
+xew_imported xew_import(const uint8_t *text, size_t text_len, uint8_t *out, size_t out_len, size_t start);
 
 /* Compares two rolls, each of either form, term by term; both are judged whole first, the left one first. Refusals: 7 or 14, with
  * the side. */

@@ -197,6 +197,26 @@ pub enum Salvaged {
     Refused(Refusal),
 }
 
+/// The answer of [`export`].
+#[derive(Clone, Copy, Debug, PartialEq, Eq)]
+pub enum Exported {
+    /// The text has `length` bytes from the start place on.
+    #[allow(missing_docs)]
+    Text { length: usize },
+    /// By 7 or 14, 5 or 6.
+    Refused(Refusal),
+}
+
+/// The answer of [`import`].
+#[derive(Clone, Copy, Debug, PartialEq, Eq)]
+pub enum Imported {
+    /// The form 1 roll has `length` bytes from the start place on, and `terms` terms.
+    #[allow(missing_docs)]
+    Roll { length: usize, terms: u32 },
+    /// By 21 or 22 with the line, 5 or 6.
+    Refused(Refusal),
+}
+
 /// One of the two rolls of a comparison.
 #[derive(Clone, Copy, Debug, PartialEq, Eq)]
 #[allow(missing_docs)]
@@ -453,6 +473,26 @@ pub fn salvage(roll: &[u8], out: &mut [u8], start: usize) -> Salvaged {
     match Refusal::of(answer.refusal, answer.place) {
         Some(refusal) => Salvaged::Refused(refusal),
         None => Salvaged::Roll { length, terms, kept, anew, miscounted: answer.miscounted == 1, after },
+    }
+}
+
+/// Writes a form 1 roll as text for a spreadsheet, into `out` from `start` on: the line `kind,orders..,count`, then a line
+/// `scale,order,prefactors..` for each term. Four times the roll's bytes always hold it.
+pub fn export(roll: &[u8], out: &mut [u8], start: usize) -> Exported {
+    let answer = raw::export(roll, out, start);
+    match Refusal::of(answer.refusal, answer.place) {
+        Some(refusal) => Exported::Refused(refusal),
+        None => Exported::Text { length: answer.length },
+    }
+}
+
+/// Writes the form 1 roll of a text of [`export`], into `out` from `start` on; it takes exactly such texts. As many bytes as the
+/// text has always hold it. Like a roll that reads, an imported one may hold terms that no expansion gives.
+pub fn import(text: &[u8], out: &mut [u8], start: usize) -> Imported {
+    let answer = raw::import(text, out, start);
+    match Refusal::at_line(answer.refusal, answer.line) {
+        Some(refusal) => Imported::Refused(refusal),
+        None => Imported::Roll { length: answer.length, terms: answer.terms },
     }
 }
 

@@ -163,6 +163,21 @@ pub struct Salvaged {
     pub refusal: u8,
 }
 
+#[repr(C)]
+pub struct Text {
+    pub length: usize,
+    pub place: usize,
+    pub refusal: u8,
+}
+
+#[repr(C)]
+pub struct Imported {
+    pub length: usize,
+    pub line: u64,
+    pub terms: u32,
+    pub refusal: u8,
+}
+
 /// Where both readers of a comparison stand, and the number of the position, counted from 1. `compare` gives one; one that was
 /// made up is answered too.
 #[repr(C)]
@@ -232,6 +247,7 @@ const _: () = assert!(size_of::<Cursor2>() == 48 && size_of::<Opened2>() == 72);
 const _: () = assert!(size_of::<Step2>() == 88 && size_of::<Moved>() == 24);
 const _: () = assert!(size_of::<Total>() == 16 && size_of::<Scales>() == 24);
 const _: () = assert!(size_of::<Restored>() == 40 && size_of::<Salvaged>() == 32);
+const _: () = assert!(size_of::<Text>() == 24 && size_of::<Imported>() == 24);
 const _: () = assert!(size_of::<Pair>() == 104 && size_of::<Compared>() == 152);
 const _: () = assert!(size_of::<Term>() == 32 && size_of::<Met>() == 184);
 
@@ -255,6 +271,8 @@ extern "C" {
     fn xew_confirm(roll: *const u8, roll_len: usize) -> Opened;
     fn xew_small_check(roll: *const u8, roll_len: usize) -> Opened;
     fn xew_small_expand(kind: u8, orders: *const [u8; ORDERS], out: *mut u8, out_len: usize, start: usize) -> Written;
+    fn xew_export(roll: *const u8, roll_len: usize, out: *mut u8, out_len: usize, start: usize) -> Text;
+    fn xew_import(text: *const u8, text_len: usize, out: *mut u8, out_len: usize, start: usize) -> Imported;
     fn xew_compare(left: *const u8, left_len: usize, right: *const u8, right_len: usize) -> Compared;
     fn xew_compare_next(cursor: Pair, left: *const u8, left_len: usize, right: *const u8, right_len: usize) -> Met;
     fn xew_scale_total(kind: u8, orders: *const [u8; ORDERS]) -> Total;
@@ -344,6 +362,14 @@ pub fn small_check(roll: &[u8]) -> Opened {
 
 pub fn small_expand(kind: u8, orders: &[u8; ORDERS], out: &mut [u8], start: usize) -> Written {
     unsafe { xew_small_expand(kind, orders, out.as_mut_ptr(), out.len(), start) }
+}
+
+pub fn export(roll: &[u8], out: &mut [u8], start: usize) -> Text {
+    unsafe { xew_export(roll.as_ptr(), roll.len(), out.as_mut_ptr(), out.len(), start) }
+}
+
+pub fn import(text: &[u8], out: &mut [u8], start: usize) -> Imported {
+    unsafe { xew_import(text.as_ptr(), text.len(), out.as_mut_ptr(), out.len(), start) }
 }
 
 pub fn compare(left: &[u8], right: &[u8]) -> Compared {

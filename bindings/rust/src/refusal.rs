@@ -33,6 +33,14 @@ pub enum Refusal {
     NotTheExpansion {
         place: usize,
     },
+    /// The line of the text, counted from 1.
+    LineShape {
+        line: u64,
+    },
+    /// The line of the text, counted from 1.
+    LineNumbers {
+        line: u64,
+    },
 }
 
 impl Refusal {
@@ -74,6 +82,8 @@ impl Refusal {
             Refusal::NotTheExpansion { .. } => {
                 (20, "roll is not the expansion; carries the place of the first differing byte")
             }
+            Refusal::LineShape { .. } => (21, "line not of the shape; carries the line"),
+            Refusal::LineNumbers { .. } => (22, "number or count that doesn't match; carries the line"),
         }
     }
 
@@ -103,6 +113,15 @@ impl Refusal {
             20 => Refusal::NotTheExpansion { place },
             _ => panic!("libxewumbal.a is not of this binding's version: refusal {number}"),
         })
+    }
+
+    /// The refusal of an answer that has a line in place of a place.
+    pub(crate) fn at_line(number: u8, line: u64) -> Option<Refusal> {
+        match number {
+            21 => Some(Refusal::LineShape { line }),
+            22 => Some(Refusal::LineNumbers { line }),
+            _ => Refusal::of(number, 0),
+        }
     }
 }
 
