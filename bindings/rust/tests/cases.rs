@@ -268,6 +268,132 @@ fn refusals_of_the_profile() {
     assert_eq!(room, [UNTOUCHED; 10]);
 }
 
+fn imported(text: &str) -> Imported {
+    import(text.as_bytes(), &mut vec![UNTOUCHED; text.len()], 0)
+}
+
+/// The rolls of overlap Ax1 Bx1 and Coulomb Ax1 Cx1, of moment with the operator x2, and one that no expansion gives.
+#[test]
+fn there_and_back_by_text() {
+    let moment: &[u8] = &[3, 0, 0, 0, 0, 0, 0, 2, 0, 0, 2, 1, 0, 2, 6, 6, 1, 0, 1, 9];
+    let made_up: &[u8] = &[1, 0, 0, 0, 0, 0, 0, 2, 128, 128, 252, 141, 8, 0, 1, 10, 127, 0, 0];
+    for (roll, text) in [
+        (&ROLL[..], "0,1,0,0,1,0,0,2\n1,0,0,1\n1,0,7\n"),
+        (&SMALL, "4,1,0,0,0,0,0,1,0,0,0,0,0,5\n1,0,0,2\n1,1,0,5\n1,1,4,2\n1,2,4,5\n1,1,22\n"),
+        (moment, "3,0,0,0,0,0,0,2,0,0,2\n1,0,6,6\n1,0,9\n"),
+        (made_up, "1,0,0,0,0,0,0,2\n2176778240,0,10\n127,0\n"),
+    ] {
+        assert!(matches!(check(roll), Opened::Roll { .. }));
+        let (length, size) = (text.len(), roll.len());
+        let mut room = vec![UNTOUCHED; length + 3];
+        assert_eq!(export(roll, &mut room, 2), Exported::Text { length });
+        assert_eq!(
+            (&room[..2], &room[2..length + 2], room[length + 2]),
+            (&[UNTOUCHED; 2][..], text.as_bytes(), UNTOUCHED)
+        );
+        let terms = text.lines().count() as u32 - 1;
+        assert_eq!(import(text.as_bytes(), &mut room, 1), Imported::Roll { length: size, terms });
+        assert_eq!((room[0], &room[1..=size], room[size + 1]), (UNTOUCHED, roll, text.as_bytes()[size - 1]));
+        assert!(length <= 4 * size && size <= length);
+        // Each cut of the text is 21 at its last line, or 22 at the line that is missing.
+        for cut in 0..length {
+            let lines = text[..cut].matches('\n').count() as u64;
+            let whole = cut > 0 && text[..cut].ends_with('\n');
+            let refusal =
+                if whole { Refusal::LineNumbers { line: lines + 1 } } else { Refusal::LineShape { line: lines + 1 } };
+            assert_eq!(imported(&text[..cut]), Imported::Refused(refusal), "{}", &text[..cut]);
+        }
+    }
+}
+
+#[test]
+fn refusals_of_an_export() {
+    let mut room = [UNTOUCHED; 29];
+    let mut refused = |roll: &[u8], start| match export(roll, &mut room, start) {
+        Exported::Refused(refusal) => refusal,
+        written => panic!("{written:?}"),
+    };
+    assert_eq!((refused(&[], 30), refused(&FORM2, 30)), (Refusal::CutRoll { place: 0 }, Refusal::BadRoll { place: 0 }));
+    assert_eq!(refused(&ROLL[..16], 0), Refusal::CutRoll { place: 16 });
+    assert_eq!((refused(&ROLL, 30), refused(&ROLL, 29)), (Refusal::StartBeyondEnd, Refusal::NoRoom));
+    assert_eq!(refused(&ROLL, 0), Refusal::NoRoom);
+    assert_eq!(room, [UNTOUCHED; 29]);
+}
+
+/// 21, then 22, of the first line that is wrong; shape before numbers in each line; then 5 and 6.
+#[test]
+fn refusals_of_an_import() {
+    let right = "0,1,0,0,1,0,0,2\n1,0,0,1\n1,0,7\n";
+    assert_eq!(imported(right), Imported::Roll { length: 17, terms: 2 });
+    let shape =
+        |text: &str, line| assert_eq!(imported(text), Imported::Refused(Refusal::LineShape { line }), "{text:?}");
+    let numbers =
+        |text: &str, line| assert_eq!(imported(text), Imported::Refused(Refusal::LineNumbers { line }), "{text:?}");
+    // The first line by its shape: empty, seven and nine numbers, a blank, a sign, a carriage return, a leading zero, no line feed.
+    for first in [
+        "",
+        "\n",
+        "0,1,0,0,1,0,2\n",
+        "0,1,0,0,1,0,0,0,2\n",
+        "0, 1,0,0,1,0,0,2\n",
+        "0,+1,0,0,1,0,0,2\n",
+        "0,1,0,0,1,0,0,2\r\n",
+    ] {
+        shape(&right.replacen("0,1,0,0,1,0,0,2\n", first, 1), 1);
+    }
+    shape("0,01,0,0,1,0,0,2\n1,0,0,1\n1,0,7\n", 1);
+    shape("9,1,0,0,1,0,0,2", 1); // and its numbers are not looked at
+                                 // By its numbers: a kind above 4, as many orders as another kind has, a sum above 6, counts; however many digits.
+    numbers("5,1,0,0,1,0,0,2\n1,0,0,1\n1,0,7\n", 1);
+    numbers("4,1,0,0,1,0,0,2\n1,0,0,1\n1,0,7\n", 1);
+    numbers("0,1,0,0,1,0,0,0,0,0,2\n1,0,0,1\n1,0,7\n", 1);
+    numbers("0,4,3,0,1,0,0,2\n1,0,0,1\n1,0,7\n", 1);
+    numbers("0,1,0,0,1,0,0,0\n1,0,0,1\n1,0,7\n", 1);
+    numbers("0,1,0,0,1,0,0,1048576\n1,0,0,1\n1,0,7\n", 1);
+    numbers("0,18446744073709551617,0,0,1,0,0,2\n1,0,0,1\n1,0,7\n", 1);
+    numbers("0,1,0,0,1,0,0,3\n1,0,0,1\n1,0,7\n", 4); // a line is missing
+    numbers("0,1,0,0,1,0,0,1\n1,0,0,1\n1,0,7\n", 3); // one is too many
+    shape("0,1,0,0,1,0,0,1\n1,0,0,1\n1;0,7\n", 3);
+    // Other lines.
+    let second = |line: &str| right.replacen("1,0,0,1\n", line, 1);
+    for line in [
+        "\n",
+        "1\n",
+        "1,\n",
+        ",0\n",
+        "1,,0\n",
+        "1,0,0,1 \n",
+        "1,0,\"0\",1\n",
+        "1.0,0\n",
+        "1,00\n",
+        "1,-0\n",
+        "1;0\n",
+        "1,0,0,1\r\n",
+    ] {
+        shape(&second(line), 2);
+    }
+    for line in ["0,0,0,1\n", "2176782337,0,0,1\n", "4294967297,0,0,1\n", "1,1,0,1\n", "1,0,8\n", "1,0,0,0,0\n"] {
+        numbers(&second(line), 2);
+    }
+    shape(&second("0,9,99,\n"), 2); // shape before numbers
+    numbers(&second(&format!("1,0,{}\n", "9".repeat(1000))), 2);
+    shape("0,1,0,0,1,0,0,2\n1,0,0,1\n1,0,7", 3);
+    shape("0,1,0,0,1,0,0,2\n1,0,0,1\n1,0,7\n\n", 4);
+    numbers("0,1,0,0,1,0,0,2\n0,0,0,1\n1;0,7\n", 2); // the first line that is wrong
+    let mut room = [UNTOUCHED; 16];
+    let mut refused = |text: &str, start| match import(text.as_bytes(), &mut room, start) {
+        Imported::Refused(refusal) => refusal,
+        written => panic!("{written:?}"),
+    };
+    assert_eq!(
+        (refused("", 17), refused("9,9\n", 17)),
+        (Refusal::LineShape { line: 1 }, Refusal::LineShape { line: 1 })
+    );
+    assert_eq!((refused(right, 17), refused(right, 16)), (Refusal::StartBeyondEnd, Refusal::NoRoom));
+    assert_eq!(refused(right, 0), Refusal::NoRoom);
+    assert_eq!(room, [UNTOUCHED; 16]);
+}
+
 /// Overlap Ax1 Bx1 beside overlap Ax3: three positions differ, of which the right roll alone has the third.
 #[test]
 fn what_differs() {
@@ -899,7 +1025,7 @@ macro_rules! refusal {
 }
 
 /// A call for each refusal.
-fn refusals() -> [(u8, Refusal); 20] {
+fn refusals() -> [(u8, Refusal); 22] {
     let mut room = [UNTOUCHED; 10];
     let mut request = |kind, orders, start| refusal!(Expanded, expand(kind, &orders, &mut room, start));
     let sum = |roll, a, boys| refusal!(Value, evaluate(roll, a, UNIT, UNIT, UNIT, 1.0, boys));
@@ -924,6 +1050,8 @@ fn refusals() -> [(u8, Refusal); 20] {
         (18, refusal!(Root, root(-1.0))),
         (19, refusal!(Opened, small_check(&NUCLEAR_S))),
         (20, refusal!(Opened, confirm(&[0, 0, 0, 0, 0, 0, 0, 1, 2, 0, 0]))),
+        (21, refusal!(Imported, imported("0,0,0,0,0,0,0,1\n1, 0\n"))),
+        (22, refusal!(Imported, imported("5,0,0,0,0,0,0,1\n1,0\n"))),
     ];
     assert_eq!(room, [UNTOUCHED; 10]);
     found
@@ -939,6 +1067,10 @@ fn each_refusal_comes_up_with_the_words_of_the_header() {
     assert_eq!(refusals()[6].1, Refusal::BadRoll { place: 0 });
     assert_eq!(refusals()[13].1, Refusal::CutRoll { place: 16 });
     assert_eq!(refusals()[19].1, Refusal::NotTheExpansion { place: 8 });
+    assert_eq!(
+        (refusals()[20].1, refusals()[21].1),
+        (Refusal::LineShape { line: 2 }, Refusal::LineNumbers { line: 1 })
+    );
 }
 
 #[test]

@@ -192,6 +192,32 @@ fn most_primitives() {
     assert_eq!(element(most, most, &host), Value::Refused(Refusal::HostCount));
 }
 
+/// The limits of an import are the reader's: the largest scale, the most terms, and one more of each.
+#[test]
+fn limits_of_an_import() {
+    let text = |scale: u32| format!("0,0,0,0,0,0,0,1\n{scale},0\n");
+    let mut room = vec![0; 4_000_000];
+    assert_eq!(import(text(MOST_SCALE).as_bytes(), &mut room, 0), Imported::Roll { length: 15, terms: 1 });
+    assert_eq!(
+        import(text(MOST_SCALE + 1).as_bytes(), &mut room, 0),
+        Imported::Refused(Refusal::LineNumbers { line: 2 })
+    );
+    let many = |count: u32| format!("0,0,0,0,0,0,0,{count}\n{}", "1,0\n".repeat(count as usize));
+    let length = 7 + 3 + 3 * MOST_TERMS as usize;
+    assert_eq!(import(many(MOST_TERMS).as_bytes(), &mut room, 0), Imported::Roll { length, terms: MOST_TERMS });
+    assert_eq!(room[..length], roll(MOST_TERMS, &[1, 0, 0].repeat(MOST_TERMS as usize)));
+    assert_eq!(
+        import(many(MOST_TERMS + 1).as_bytes(), &mut room, 0),
+        Imported::Refused(Refusal::LineNumbers { line: 1 })
+    );
+    let last = many(MOST_TERMS).trim_end().to_string();
+    let line = u64::from(MOST_TERMS) + 1;
+    assert_eq!(import(last.as_bytes(), &mut room, 0), Imported::Refused(Refusal::LineShape { line }));
+    let mut out = vec![0; many(MOST_TERMS).len()];
+    assert_eq!(export(&room[..length], &mut out, 0), Exported::Text { length: out.len() });
+    assert_eq!(out, many(MOST_TERMS).as_bytes());
+}
+
 /// Every request of the profile: four x orders of Coulomb, and so of y and z, have the most terms and the most bytes.
 #[test]
 fn small_terms_and_small_roll() {
