@@ -10,7 +10,7 @@
 
 static uint8_t bytes[MOST_BYTES];
 struct arena roll_arena, orders_arena, out_arena, boys_arena, i_arena, d_arena, j_arena, k_arena;
-struct arena buffer_arena, grouping_arena, right_arena;
+struct arena buffer_arena, grouping_arena, right_arena, text_arena, import_arena;
 
 static void try_shell_list(void)
 {
@@ -141,6 +141,7 @@ static void play_large(uint64_t number)
         try_nuclear(roll, expected_open(roll.mine, roll.length));
         try_contracted(roll, expected_open(roll.mine, roll.length));
         try_confirm(roll);
+        try_export(roll);
         try_grouping(roll, expected_open(roll.mine, roll.length));
         try_to_form2(roll, expected_open(roll.mine, roll.length));
         try_expand2(&largest[number]);
@@ -260,6 +261,8 @@ int main(int words, char **word)
     make_arena(&buffer_arena, MOST_BUFFER, true);
     make_arena(&grouping_arena, MOST_BUFFER, false);
     make_arena(&right_arena, MOST_BYTES, false);
+    make_arena(&text_arena, MOST_TEXT, true);
+    make_arena(&import_arena, MOST_TEXT, false);
     make_arena(&i_arena, 65537 * 8, false);
     make_arena(&d_arena, 257 * 8, false);
     make_arena(&j_arena, 257 * 8, true);
@@ -290,6 +293,7 @@ int main(int words, char **word)
                 play_compare(bytes);
                 play_confirm(bytes);
                 play_small(bytes);
+                play_commas(bytes);
             }
         else
             play();

@@ -58,6 +58,7 @@ struct request {
     const uint8_t *roll; /* or none */
 };
 #define MOST_BYTES 16777216
+#define MOST_TEXT (4 * MOST_BYTES)
 #define MOST_LIST (3 * (XEW_MOST_ORDER + 1) * (XEW_MOST_ORDER + 2) / 2)
 #define MOST_BUFFER (XEW_ENTRY * XEW_MOST_TERMS + 1000) /* for a grouping, and some more */
 #define MOST_BOYS 480 /* beyond what a list of nuclei needs */
@@ -143,6 +144,15 @@ size_t in_form1(const uint8_t *roll, size_t length, uint8_t *out); /* the way ba
 bool begins_as_form2(const uint8_t *roll, size_t length);
 xew_opened2 as_opened2(xew_opened opened); /* what form 1 answers, as form 2 does */
 xew_step2 as_step2(xew_step step);
+
+/* expected_commas.c: the text of a roll, the roll of a text, and which fault was met last: in the first line, in a later one,
+ * in one beyond the count, by shape or by numbers, or that lines are missing. */
+enum text_fault {
+    NO_TEXT_FAULT, FIRST_SHAPE, FIRST_NUMBERS, LATER_SHAPE, LATER_NUMBERS, SHAPE_BEYOND, LINE_TOO_MANY, LINE_MISSING, TEXT_FAULTS
+};
+extern enum text_fault text_fault;
+size_t expected_text(const uint8_t *roll, size_t length, uint8_t *out); /* of a roll that reads; at most MOST_TEXT */
+xew_imported expected_import(const uint8_t *text, size_t length, uint8_t *out); /* out has the roll; at most so many bytes */
 
 /* expected_grouping.c: the same of a grouping, and which of its own faults was met last. */
 enum disorder { IN_ORDER, L_BEYOND, ANOTHER_NUMBER, BOYS_FALLS, NUMBER_FALLS, ASKED_TWICE, MISSING, DISORDERS };

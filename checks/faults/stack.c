@@ -23,6 +23,8 @@ static const uint8_t most_orders[XEW_ORDERS] = { 6, 0, 0, 6, 0, 0, 6, 0, 0, 6, 0
 static uint8_t *rolls[XEW_KINDS], out[MOST_BYTES];
 static uint8_t *rolls2[XEW_KINDS]; /* in form 2 */
 static uint8_t buffer[XEW_ENTRY * XEW_MOST_TERMS]; /* for groupings */
+static uint8_t text_out[4 * MOST_BYTES], *texts[XEW_KINDS]; /* of the rolls */
+static size_t text_lengths[XEW_KINDS];
 static uint8_t *deepest_rolls[2]; /* in form 1 and form 2 */
 static size_t deepest_lengths[2];
 /* The requests of the profile, and their rolls: two centres of overlap, four of Coulomb. */
@@ -280,6 +282,20 @@ CALLER void small_expand(void)
         note(xew_small_expand(profile[i].kind, &profile[i].orders, out, XEW_SMALL_ROLL, 0).refusal);
 }
 
+CALLER void export_rolls(void)
+{
+    FROM_HERE;
+    for (int k = 0; k < XEW_KINDS; k++)
+        note(xew_export(rolls[k], lengths[k], text_out, sizeof text_out, 0).refusal);
+}
+
+CALLER void import_texts(void)
+{
+    FROM_HERE;
+    for (int k = 0; k < XEW_KINDS; k++)
+        note(xew_import(texts[k], text_lengths[k], out, sizeof out, 0).refusal);
+}
+
 CALLER void compare(void)
 {
     FROM_HERE;
@@ -391,13 +407,12 @@ static void row_of_kind(const char *call, uint8_t k, void (*calls)(void))
     row(name, calls);
 }
 
-/* A copy of what stands in out. */
-static uint8_t *kept(size_t length)
+static uint8_t *copied(const uint8_t *from, size_t length)
 {
     uint8_t *copy = malloc(length);
     if (!copy || length == 0)
         abort();
-    return memcpy(copy, out, length);
+    return memcpy(copy, from, length);
 }
 
 static void make_profile(void)
@@ -430,12 +445,14 @@ int main(int words, char **word)
             abort();
         opened[k] = xew_open(rolls[k], lengths[k]);
         lengths2[k] = xew_expand2(k, &most_terms[k], out, sizeof out, 0).length;
-        rolls2[k] = kept(lengths2[k]);
+        rolls2[k] = copied(out, lengths2[k]);
+        text_lengths[k] = xew_export(rolls[k], lengths[k], text_out, sizeof text_out, 0).length;
+        texts[k] = copied(text_out, text_lengths[k]);
     }
     deepest_lengths[0] = xew_expand(4, &deepest, out, sizeof out, 0).length;
-    deepest_rolls[0] = kept(deepest_lengths[0]);
+    deepest_rolls[0] = copied(out, deepest_lengths[0]);
     deepest_lengths[1] = xew_expand2(4, &deepest, out, sizeof out, 0).length;
-    deepest_rolls[1] = kept(deepest_lengths[1]);
+    deepest_rolls[1] = copied(out, deepest_lengths[1]);
     make_profile();
     while (nuclei.count < XEW_MOST_NUCLEI)
         nuclei.centres[nuclei.count++] = c;
@@ -469,6 +486,8 @@ int main(int words, char **word)
     row("xew_confirm, Coulomb, the deepest, both forms", confirm_deepest);
     row("xew_small_check, each roll of the profile", small_check);
     row("xew_small_expand, each request of the profile", small_expand);
+    row("xew_export, the most terms of each kind", export_rolls);
+    row("xew_import, the same as texts", import_texts);
     row("xew_compare, the most terms of each kind", compare);
     row("xew_compare_next, the same in form 2", compare_next);
     row("xew_scale_total, each kind", scale_total);

@@ -27,6 +27,8 @@ static const struct {
     [CONFIRM] = { "xew_confirm", { 7, 14, 4, 20 } },
     [SMALL_CHECK] = { "xew_small_check", { 7, 14, 19, 20 } },
     [SMALL_EXPAND] = { "xew_small_expand", { 1, 2, 3, 19, 5, 6 } },
+    [EXPORT] = { "xew_export", { 7, 14, 5, 6 } },
+    [IMPORT] = { "xew_import", { 21, 22, 5, 6 } },
     [COMPARE] = { "xew_compare", { 7, 14 } },
     [COMPARE_NEXT] = { "xew_compare_next", { 7, 14 } },
     [SCALE_TOTAL] = { "xew_scale_total", { 1, 2, 3 } },
@@ -63,6 +65,10 @@ static const struct {
     [CONFIRM_ROLL] = { CONFIRM, "roll" },
     [SMALL_CHECK_ROLL] = { SMALL_CHECK, "roll" },
     [SMALL_EXPAND_OUT] = { SMALL_EXPAND, "out" },
+    [EXPORT_ROLL] = { EXPORT, "roll" },
+    [EXPORT_OUT] = { EXPORT, "out" },
+    [IMPORT_TEXT] = { IMPORT, "text" },
+    [IMPORT_OUT] = { IMPORT, "out" },
     [COMPARE_LEFT] = { COMPARE, "left" },
     [COMPARE_RIGHT] = { COMPARE, "right" },
     [COMPARE_NEXT_LEFT] = { COMPARE_NEXT, "left" },
@@ -92,11 +98,14 @@ static const struct {
     { "895 terms", 10458 },       { "10,265 terms", 127541 },      { "380,480 terms", 4665226 },
     { "185,377 terms", 2971075 }, { "1,048,572 terms", 14908072 }, { "15,001,920 bytes", 15001920 },
 };
-enum { REFUSALS = 21, LARGE = sizeof large / sizeof *large }; /* no refusal, and 1 to 20 */
+enum { REFUSALS = 23, LARGE = sizeof large / sizeof *large }; /* no refusal, and 1 to 22 */
 
 static const char *const fault_names[FAULTS] = { "", "shares beyond", "too many", "not the longest" };
 static const char *const disorder_names[DISORDERS] = { "", "L beyond", "another number", "Boys order falls",
                                                        "number falls", "asked twice", "missing" };
+
+static const char *const text_fault_names[TEXT_FAULTS] = { "", "first shape", "first numbers", "later shape", "later numbers",
+                                                           "shape beyond", "a line too many", "a line missing" };
 
 /* What is told of a damaged roll: nothing kept, some terms, all and nothing after, all and bytes after, another count. */
 enum { NONE_KEPT, SOME_KEPT, ALL_KEPT, BYTES_AFTER, OTHER_COUNT, TOLD };
@@ -120,7 +129,7 @@ uint64_t further_calls;
 static uint64_t answers[FUNCTIONS][REFUSALS], found[FUNCTIONS][3], faults[FAULTS], rolls[LARGE], empties[EMPTIES];
 /* Roots of -0.0; of floats not below 0 by their exponents, and of subnormals among them by their digits. */
 static uint64_t minus_zeros, exponents[2048], lengths[53];
-static uint64_t helds[HELD], most_small_terms, most_small_bytes;
+static uint64_t helds[HELD], most_small_terms, most_small_bytes, text_faults[TEXT_FAULTS];
 static uint64_t disorders[DISORDERS], tolds[TOLD], lists[LISTS], elements[ELEMENTS], mets[5], left[REFUSALS], just_over, most_histories;
 
 void begin(enum function f, const char *labels, size_t words_count, const uint64_t *words)
@@ -206,6 +215,11 @@ void count_small(xew_written written)
     hold(written.terms <= XEW_SMALL_TERMS && written.length <= XEW_SMALL_ROLL, "a roll beyond the header's limits of the profile");
     most_small_terms += written.terms == XEW_SMALL_TERMS;
     most_small_bytes += written.length == XEW_SMALL_ROLL;
+}
+
+void count_text_fault(enum text_fault met)
+{
+    text_faults[met]++;
 }
 
 void count_met(uint8_t found)
@@ -323,6 +337,8 @@ bool report(void)
             show(name, "54 terms", most_small_terms);
             show(name, "348 bytes", most_small_bytes);
         }
+        for (int i = 1; f == IMPORT && i < TEXT_FAULTS; i++)
+            show(name, text_fault_names[i], text_faults[i]);
         for (int i = 0; f == COMPARE_NEXT && i < 5; i++)
             show(name, met_names[i], mets[i]);
         for (int i = 0; f == NUCLEAR && i < LISTS; i++)

@@ -6,7 +6,7 @@
 
 enum function {
     EXPAND, MEASURE, EXPAND2, SHELL_LIST, SHELL2, SHELL4, OPEN, CHECK, NEXT, OPEN2, CHECK2, NEXT2, TO_FORM2, TO_FORM1,
-    SALVAGE, CONFIRM, SMALL_CHECK, SMALL_EXPAND, COMPARE, COMPARE_NEXT, SCALE_TOTAL, ROLL_TOTAL, PREFACTORS, ROOT, EVALUATE, NUCLEAR, CONTRACTED,
+    SALVAGE, CONFIRM, SMALL_CHECK, SMALL_EXPAND, EXPORT, IMPORT, COMPARE, COMPARE_NEXT, SCALE_TOTAL, ROLL_TOTAL, PREFACTORS, ROOT, EVALUATE, NUCLEAR, CONTRACTED,
     EVALUATE_GROUPED, GROUPED_TERM, JK,
     FUNCTIONS
 };
@@ -15,12 +15,12 @@ enum function {
 enum empty {
     EXPAND_OUT, EXPAND2_OUT, LIST_OUT, OPEN_ROLL, CHECK_ROLL, NEXT_ROLL, OPEN2_ROLL, CHECK2_ROLL, NEXT2_ROLL,
     TO_FORM2_ROLL, TO_FORM2_OUT, TO_FORM1_ROLL, TO_FORM1_OUT, SALVAGE_ROLL, SALVAGE_OUT, CONFIRM_ROLL, SMALL_CHECK_ROLL,
-    SMALL_EXPAND_OUT, COMPARE_LEFT, COMPARE_RIGHT, COMPARE_NEXT_LEFT, COMPARE_NEXT_RIGHT, TOTAL_ROLL, EVALUATE_ROLL, EVALUATE_BOYS, NUCLEAR_ROLL, NUCLEAR_BOYS,
+    SMALL_EXPAND_OUT, EXPORT_ROLL, EXPORT_OUT, IMPORT_TEXT, IMPORT_OUT, COMPARE_LEFT, COMPARE_RIGHT, COMPARE_NEXT_LEFT, COMPARE_NEXT_RIGHT, TOTAL_ROLL, EVALUATE_ROLL, EVALUATE_BOYS, NUCLEAR_ROLL, NUCLEAR_BOYS,
     CONTRACTED_ROLL, CONTRACTED_HOST, GROUPED_ROLL, GROUPED_BOYS, GROUPED_BUFFER, GROUPING, JK_I, JK_D, JK_J, JK_K, EMPTIES
 };
 
 extern struct arena roll_arena, orders_arena, out_arena, boys_arena, i_arena, d_arena, j_arena, k_arena;
-extern struct arena buffer_arena, grouping_arena, right_arena;
+extern struct arena buffer_arena, grouping_arena, right_arena, text_arena, import_arena;
 extern uint64_t further_calls; /* second calls with the same arguments, and steps through a roll */
 
 /* tally.c */
@@ -40,6 +40,7 @@ void count_disorder(enum disorder met); /* of a grouping */
 void count_salvaged(xew_salvaged told); /* what was told of a damaged roll */
 void count_confirmed(uint8_t refusal, bool two); /* of a roll of form 2 or 1 */
 void count_small(xew_written written); /* a roll of the profile */
+void count_text_fault(enum text_fault met); /* of a text */
 void count_met(uint8_t found); /* of xew_compare_next */
 void count_list(uint32_t nuclei, bool only_negative); /* nuclei of a total, and whether each value of theirs is -0.0 */
 /* Primitives of the two functions of an element, and whether each right one's part is -0.0. */
@@ -110,6 +111,11 @@ void play_quotients(void);
 void try_confirm(struct slice roll);
 void play_confirm(uint8_t *bytes); /* an expansion, or one with other terms */
 void play_small(uint8_t *bytes);
+
+/* commas.c: calls that write a roll as text and read it back, each made twice */
+void try_export(struct slice roll);
+void try_import(struct slice text);
+void play_commas(uint8_t *bytes);
 
 /* compare.c: calls on two rolls, each made twice */
 void play_compare(uint8_t *bytes);

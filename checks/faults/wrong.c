@@ -3,6 +3,7 @@
 #include "../../include/xewumbal.h"
 #include <math.h>
 #include <stdbool.h>
+#include <stdio.h>
 #include <stdlib.h>
 #include <string.h>
 
@@ -637,6 +638,109 @@ xew_written __wrap_xew_small_expand(uint8_t kind, const uint8_t (*orders)[12], u
     if (is("small-expands-beyond-the-roll") && !written.refusal && start + written.length < out_len)
         out[start + written.length] ^= 1;
     return written;
+}
+
+xew_text __real_xew_export(const uint8_t *roll, size_t roll_len, uint8_t *out, size_t out_len, size_t start);
+xew_text __wrap_xew_export(const uint8_t *roll, size_t roll_len, uint8_t *out, size_t out_len, size_t start)
+{
+    if (is("exports-before-it-has-read") && start < out_len)
+        out[start] ^= 1;
+    xew_text text = __real_xew_export(roll, roll_len, out, out_len, start);
+    if (is("exports-a-cut-roll-as-7") && text.refusal == 14)
+        text.refusal = 7;
+    if (is("exports-form-2") && text.refusal == 7 && is_form2(roll, roll_len) && !xew_check2(roll, roll_len).refusal) {
+        xew_opened2 opened = xew_open2(roll, roll_len);
+        size_t most = roll_len + (size_t)opened.cursor.cursor.left * opened.cursor.cursor.l;
+        uint8_t *form1 = malloc(most + 1);
+        if (!form1)
+            abort();
+        text = __real_xew_export(form1, __real_xew_to_form1(roll, roll_len, form1, most, 0).length, out, out_len, start);
+        free(form1);
+    }
+    if (text.refusal)
+        return text;
+    if (is("exports-without-the-last-feed"))
+        text.length--;
+    if (is("exports-a-comma-too-many") && text.length > 20)
+        out[start + text.length - 2] = ',';
+    if (is("exports-beyond-the-text") && start + text.length < out_len)
+        out[start + text.length] ^= 1;
+    return text;
+}
+
+/* A text as a wrong reader takes it: without a leading zero, without carriage returns, with a line feed at its end, or with
+ * numbers that have gone round at 2^32. Answers its length. */
+static size_t as_taken(const uint8_t *text, size_t length, uint8_t *out)
+{
+    size_t at = 0;
+    for (size_t i = 0; i < length;) {
+        size_t digits = 0;
+        uint32_t number = 0;
+        while (i + digits < length && text[i + digits] >= '0' && text[i + digits] <= '9')
+            number = 10 * number + (uint32_t)(text[i + digits++] - '0');
+        if (is("takes-a-leading-zero") && digits > 1 && text[i] == '0')
+            i++;
+        else if (is("takes-numbers-modulo-2-to-the-32") && digits > 9) {
+            at += (size_t)sprintf((char *)out + at, "%u", number);
+            i += digits;
+        } else if (is("takes-carriage-returns") && text[i] == '\r')
+            i++;
+        else
+            do
+                out[at++] = text[i++];
+            while (digits-- > 1);
+    }
+    if (is("takes-a-missing-last-feed") && at > 0 && out[at - 1] != '\n')
+        out[at++] = '\n';
+    return at;
+}
+
+/* Where a line begins. */
+static size_t line_begins(const uint8_t *text, size_t length, uint64_t line)
+{
+    size_t at = 0;
+    for (; line > 1 && at < length; at++)
+        line -= text[at] == '\n';
+    return at;
+}
+
+xew_imported __real_xew_import(const uint8_t *text, size_t text_len, uint8_t *out, size_t out_len, size_t start);
+xew_imported __wrap_xew_import(const uint8_t *text, size_t text_len, uint8_t *out, size_t out_len, size_t start)
+{
+    if (is("reads-a-text-past-its-end") && text)
+        seen = text[text_len];
+    if (is("imports-before-it-has-judged") && start < out_len)
+        out[start] ^= 1;
+    xew_imported imported = __real_xew_import(text, text_len, out, out_len, start);
+    size_t begins = line_begins(text, text_len, imported.line);
+    bool other = is("takes-a-leading-zero") || is("takes-numbers-modulo-2-to-the-32") || is("takes-carriage-returns")
+        || is("takes-a-missing-last-feed");
+    if (other && imported.line > 0) {
+        uint8_t *taken = malloc(text_len + 100);
+        if (!taken)
+            abort();
+        xew_imported answer = __real_xew_import(taken, as_taken(text, text_len, taken), out, out_len, start);
+        free(taken);
+        return answer;
+    }
+    if (is("drops-a-line-too-many") && imported.refusal == 22) {
+        xew_imported shorter = __real_xew_import(text, begins, out, out_len, start);
+        return shorter.refusal ? imported : shorter;
+    }
+    if (is("judges-numbers-before-shape") && imported.refusal == 21 && imported.line > 1 && begins < text_len
+        && text[begins] == '0')
+        imported.refusal = 22; /* a scale of 0 */
+    if (is("counts-lines-from-0") && imported.line > 0)
+        imported.line--;
+    if (is("counts-lines-in-a-byte"))
+        imported.line = (uint8_t)imported.line;
+    if (is("says-22-at-the-line-after") && imported.refusal == 22)
+        imported.line++;
+    if (is("tells-a-line-beside-6") && imported.refusal == 6)
+        imported.line = 1;
+    if (is("imports-beyond-the-roll") && !imported.refusal && start + imported.length < out_len)
+        out[start + imported.length] ^= 1;
+    return imported;
 }
 
 xew_compared __real_xew_compare(const uint8_t *left, size_t left_len, const uint8_t *right, size_t right_len);
