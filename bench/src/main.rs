@@ -1,6 +1,7 @@
 //! The library and the unchanged Rust side by side. bench/run calls it: `list` the requests, `measure` each in runs of
 //! its own, then the table or the picture from what was measured, on standard input.
 
+mod commas;
 mod compare;
 mod components;
 mod confirm;
@@ -83,6 +84,7 @@ fn run(words: &[&str]) -> Result<(), String> {
         ["contracted"] => return table::print_elements(),
         ["root"] => return table::print_roots(),
         ["confirm"] => return table::print_confirmations(),
+        ["commas"] => return table::print_commas(&requests::measured()),
         ["native"] => return table::print(&rows()?, true),
         ["emulated"] => return table::print(&rows()?, false),
         ["picture"] => picture::print(&rows()?),

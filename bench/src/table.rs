@@ -1,5 +1,6 @@
 //! The table: ratios of both sides, natively beside the goals.
 
+use crate::commas;
 use crate::components::{self, COUNT};
 use crate::compare;
 use crate::confirm::{self, CONFIRM};
@@ -359,6 +360,27 @@ fn print_profile() -> Result<(), String> {
     Ok(())
 }
 
+/// A text is measured before it is written, by the same functions, and judged before the roll is; so each way goes over it twice.
+pub fn print_commas(requests: &[Request]) -> Result<(), String> {
+    heading("comma-separated | terms | text, bytes | xew_check, ns a term | xew_export | xew_import | xew_export, ns a byte of text | xew_import, ns a byte of text");
+    for request in requests {
+        let took = commas::times(request, Duration::from_millis(100))?;
+        let terms = f64::from(ours::measure(request).terms);
+        println!(
+            "| {} | {} | {} | {:.1} | {:.1} | {:.1} | {:.2} | {:.2} |",
+            request.title(),
+            terms,
+            took.bytes,
+            took.check / terms,
+            took.export / terms,
+            took.import / terms,
+            took.export / took.bytes,
+            took.import / took.bytes
+        );
+    }
+    Ok(())
+}
+
 /// A comparison judges both rolls, then steps through both.
 fn print_compare(rows: &[&Row]) -> Result<(), String> {
     heading("comparison | xew_check, ns a term | xew_compare with itself, ns a term | with its form 2 | with itself, times check");
@@ -394,8 +416,10 @@ pub fn print(rows: &[Row], has_goals: bool) -> Result<(), String> {
     print_matrices()?;
     print_forms(&accepted)?;
     print_salvage(&accepted)?;
-    table.print_confirm(&accepted.iter().map(|row| row.request.clone()).collect::<Vec<_>>())?;
+    let requests: Vec<Request> = accepted.iter().map(|row| row.request.clone()).collect();
+    table.print_confirm(&requests)?;
     print_profile()?;
+    print_commas(&requests)?;
     print_compare(&accepted)?;
     table.print_nuclei()?;
     table.print_contracted()?;
