@@ -372,7 +372,8 @@ xew_text xew_export(const uint8_t *roll, size_t roll_len, uint8_t *out, size_t o
  * not numbers as above with single commas between them and a line feed behind, 8, 11 or 14 of them in the first line and two or
  * more in any other; 22 for a number outside the reader's limits, however many digits it has, or a count of orders, prefactors
  * or lines that does not match (a missing line counts as the next), both with the line; 5, 6. A carriage return, a sign, a
- * quote, a point, a blank, or a last line without its line feed is 21. */
+ * quote, a point, a blank, or a last line without its line feed is 21; so is a comma at the end of a line, which spreadsheets
+ * put behind the shorter lines when they save. */
 xew_imported xew_import(const uint8_t *text, size_t text_len, uint8_t *out, size_t out_len, size_t start);
 
 /* Compares two rolls, each of either form, term by term; both are judged whole first, the left one first. Refusals: 7 or 14, with
