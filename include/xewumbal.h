@@ -361,7 +361,7 @@ xew_written xew_small_expand(uint8_t kind, const uint8_t (*orders)[12], uint8_t 
 
 /* Writes a form 1 roll as text for a spreadsheet into out from start on: first the line kind,orders..,count, then a line
  * scale,order,prefactors.. for each term; decimal digits without leading zeros, no blanks, a line feed (one byte, 10) at the
- * end of each line. 4 * roll_len bytes always hold it. Nothing is written before the whole roll is judged. Refusals: 7 or 14,
+ * end of each line. 3 * roll_len bytes always hold it. Nothing is written before the whole roll is judged. Refusals: 7 or 14,
  * 5, 6. */
 xew_text xew_export(const uint8_t *roll, size_t roll_len, uint8_t *out, size_t out_len, size_t start);
 

@@ -17,7 +17,7 @@ pub struct Commas {
 /// The way back has to give the roll.
 pub fn times(request: &Request, time: Duration) -> Result<Commas, String> {
     let roll = ours::roll(request);
-    let mut text = vec![0; 4 * roll.len()];
+    let mut text = vec![0; 3 * roll.len()];
     let written = raw::export(&roll, &mut text, 0);
     text.truncate(written.length);
     let mut back = vec![0; roll.len()];

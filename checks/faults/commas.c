@@ -33,7 +33,7 @@ void try_export(struct slice roll)
     }
     if (checked.refusal)
         return;
-    hold(need <= 4 * roll.length, "a text that has more than four bytes for each of its roll");
+    hold(need <= 3 * roll.length, "a text that has more than three bytes for each of its roll");
     xew_imported imported = expected_import(written, need, back);
     hold(imported.length == roll.length && !memcmp(back, roll.mine, roll.length), "the text of a roll is not imported as it");
 }

@@ -58,7 +58,7 @@ struct request {
     const uint8_t *roll; /* or none */
 };
 #define MOST_BYTES 16777216
-#define MOST_TEXT (4 * MOST_BYTES)
+#define MOST_TEXT (3 * MOST_BYTES)
 #define MOST_LIST (3 * (XEW_MOST_ORDER + 1) * (XEW_MOST_ORDER + 2) / 2)
 #define MOST_BUFFER (XEW_ENTRY * XEW_MOST_TERMS + 1000) /* for a grouping, and some more */
 #define MOST_BOYS 480 /* beyond what a list of nuclei needs */

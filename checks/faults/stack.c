@@ -23,7 +23,7 @@ static const uint8_t most_orders[XEW_ORDERS] = { 6, 0, 0, 6, 0, 0, 6, 0, 0, 6, 0
 static uint8_t *rolls[XEW_KINDS], out[MOST_BYTES];
 static uint8_t *rolls2[XEW_KINDS]; /* in form 2 */
 static uint8_t buffer[XEW_ENTRY * XEW_MOST_TERMS]; /* for groupings */
-static uint8_t text_out[4 * MOST_BYTES], *texts[XEW_KINDS]; /* of the rolls */
+static uint8_t text_out[3 * MOST_BYTES], *texts[XEW_KINDS]; /* of the rolls */
 static size_t text_lengths[XEW_KINDS];
 static uint8_t *deepest_rolls[2]; /* in form 1 and form 2 */
 static size_t deepest_lengths[2];

@@ -477,7 +477,7 @@ pub fn salvage(roll: &[u8], out: &mut [u8], start: usize) -> Salvaged {
 }
 
 /// Writes a form 1 roll as text for a spreadsheet, into `out` from `start` on: the line `kind,orders..,count`, then a line
-/// `scale,order,prefactors..` for each term. Four times the roll's bytes always hold it.
+/// `scale,order,prefactors..` for each term. Three times the roll's bytes always hold it.
 pub fn export(roll: &[u8], out: &mut [u8], start: usize) -> Exported {
     let answer = raw::export(roll, out, start);
     match Refusal::of(answer.refusal, answer.place) {

@@ -294,7 +294,7 @@ fn there_and_back_by_text() {
         let terms = text.lines().count() as u32 - 1;
         assert_eq!(import(text.as_bytes(), &mut room, 1), Imported::Roll { length: size, terms });
         assert_eq!((room[0], &room[1..=size], room[size + 1]), (UNTOUCHED, roll, text.as_bytes()[size - 1]));
-        assert!(length <= 4 * size && size <= length);
+        assert!(length <= 3 * size && size <= length);
         // Each cut of the text is 21 at its last line, or 22 at the line that is missing.
         for cut in 0..length {
             let lines = text[..cut].matches('\n').count() as u64;
