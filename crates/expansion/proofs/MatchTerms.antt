@@ -1,6 +1,6 @@
 -- A term compared: its bytes are put into a small buffer, and held against those at the place.
 use Prim.Native.Nat.{ℕ, _+_, _-_, _^_, _≤_, _<_}
-use mathlib.Core.Path.{_≡_, refl, sym, ap, ap₂, subst, _∙_}
+use mathlib.Core.Path.{_≡_, refl, sym, ap, ap₂, _∙_}
 use mathlib.Core.Bool.{Bool, true, false, cond}
 use mathlib.Core.List.{List, [], _∷_}
 use native.Mathlib.Omega.{arith}
@@ -8,8 +8,9 @@ use native.Mathlib.Nat.{zero-add}
 use borrow.Author.Tests.{eq-eqb, ne-eqb}
 use lib.Dec.{eqb}
 use lib.ListN.{length, getD, take, drop, length-drop}
-use lib.Seq.{sets-eq, length-sets, length-take-le, take-at}
+use lib.Seq.{sets, sets-eq, length-sets, length-take-le, take-at}
 use Rattle.laws.proofs.Parts.{part-all}
+use Rattle.term.specs.Terms.{Term}
 use Rattle.number.specs.Numbers.{lengthOf}
 use Rattle.number.proofs.Writing.{length-few}
 use Rattle.roll.specs.Bytes.{termBytes}
@@ -17,12 +18,12 @@ use Rattle.form2.specs.Bytes.{shared, termBytes2}
 use Rattle.form2.proofs.Sharing.{shares}
 use Rattle.expansion.specs.declared.Path.{Path}
 use Rattle.expansion.specs.declared.matching.Beside.{Beside}
-use Rattle.expansion.specs.inner.View.{pathPrefactors, pathTerm, TermMay, Emitted}
-use Rattle.expansion.specs.inner.Sinks.{inForm1, formBytes, bytesAfter, TermMay2}
-use Rattle.expansion.specs.inner.Matching.{BesideTold, matchOf, differing, matchedAll, Matched, TermApt}
+use Rattle.expansion.specs.inner.View.{pathPrefactors, pathTerm, Emitted}
+use Rattle.expansion.specs.inner.Sinks.{inForm1, inForm2, size2, Sink, sinkOf, formBytes, storedIn, withTerm, withTerms, endOf, Took, EmitMay}
+use Rattle.expansion.specs.inner.Matching.{writtenIn, BesideTold, matchOf, differing, matchedAll, Matched, TermApt}
 use Rattle.expansion.proofs.TermsWords.{length-prefactors}
 use Rattle.expansion.proofs.TermsBytes.{term-length}
-use Rattle.expansion.proofs.FurtherBytes.{after-length, shared-most, term-bytes2}
+use Rattle.expansion.proofs.FurtherBytes.{after-length, term-bytes2}
 use Rattle.expansion.proofs.MatchLaws.{one-is, matched-ended}
 
 -- what was put at the front of a buffer that has room for it
@@ -40,13 +41,31 @@ all-inside before bytes all after room put = let n = put .next in let l = ap len
 pub as-many : (all : ℕ) (after : List ℕ) → all ≤ length after → all ≡ length (take all after)
 as-many all after room = sym (length-take-le all after room)
 
-pub alone-one : (p : Path) (out : List ℕ) → p .scale < 2 ^ 32 → p .boys < 128 → p .count < 25 → 32 ≤ length out → TermMay p 0 out
-alone-one p out scale boys few room = record { scale = scale; boys = boys; count = few; room = let l = term-length p boys few in let s = length-few (p .scale) in omega arith }
+-- a form's sink writes, and its bytes are the form's
+pub written-one : (form : ℕ) → form ≡ inForm1 → inForm1 ≡ writtenIn form
+unfolding writtenIn
+written-one form e = sym (rw (eq-eqb form inForm1 e) refl)
 
-pub alone-two : (count low high : ℕ) (p : Path) (same : ℕ) → same ≡ shared (pathPrefactors count low high) (pathTerm p .prefactors) → (out : List ℕ) → p .scale < 2 ^ 32 → p .boys < 128 → p .count < 25 → 32 ≤ length out → TermMay2 p same 0 out
-alone-two count low high p same is out scale boys few room =
-    let h = shared-most (pathPrefactors count low high) p in
-    record { scale = scale; boys = boys; count = few; shares = omega arith; room = let l = after-length p same in let s = length-few (p .scale) in omega arith }
+pub written-two : (form : ℕ) → (form ≡ inForm1 → ⊥) → inForm2 ≡ writtenIn form
+unfolding writtenIn
+written-two form e = sym (rw (ne-eqb form inForm1 e) refl)
+
+module _ (form : ℕ) (earlier : List ℕ) (t : Term) where
+  written-bytes : formBytes (writtenIn form) earlier t ≡ formBytes form earlier t
+  unfolding formBytes writtenIn
+  written-bytes = by (eqb form inForm1)
+    where
+      by : (b : Bool) → cond (eqb (cond b inForm1 inForm2) inForm1) (termBytes t) (termBytes2 earlier t) ≡ cond b (termBytes t) (termBytes2 earlier t)
+      by true = refl
+      by false = refl
+
+written-writes : (form : ℕ) → writtenIn form ≡ size2 → ⊥
+unfolding writtenIn
+written-writes form = by (eqb form inForm1)
+  where
+    by : (b : Bool) → cond b inForm1 inForm2 ≡ size2 → ⊥
+    by true e = omega arith
+    by false e = omega arith
 
 module _ (form count low high : ℕ) (p : Path) (boys : p .boys < 128) (few : p .count < 25) where
   abbrev earlier : List ℕ
@@ -55,35 +74,56 @@ module _ (form count low high : ℕ) (p : Path) (boys : p .boys < 128) (few : p 
   scale-few : lengthOf (p .scale) ≤ 5
   scale-few = length-few (p .scale)
 
-  module _ (one : form ≡ inForm1) where
-    in-one : formBytes form earlier (pathTerm p) ≡ termBytes (pathTerm p)
-    unfolding formBytes
-    in-one = ap (λ (b : Bool). cond b (termBytes (pathTerm p)) (termBytes2 earlier (pathTerm p))) (eq-eqb form inForm1 one)
-
-    pub put-one : (out : List ℕ) (r : ℕ) (after : List ℕ) → Emitted (termBytes (pathTerm p)) 0 out r after → Emitted (formBytes form earlier (pathTerm p)) 0 out r after
-    put-one out r after put = subst (λ (l : List ℕ). Emitted l 0 out r after) (sym in-one) put
-
-  module _ (two : form ≡ inForm1 → ⊥) (same : ℕ) (is : same ≡ shared earlier (pathTerm p .prefactors)) where
-    in-two : formBytes form earlier (pathTerm p) ≡ bytesAfter p same
-    unfolding formBytes
-    in-two =
-        ap (λ (b : Bool). cond b (termBytes (pathTerm p)) (termBytes2 earlier (pathTerm p))) (ne-eqb form inForm1 two)
-        ∙ term-bytes2 earlier p same boys few is
-
-    pub put-two : (out : List ℕ) (r : ℕ) (after : List ℕ) → Emitted (bytesAfter p same) 0 out r after → Emitted (formBytes form earlier (pathTerm p)) 0 out r after
-    put-two out r after put = subst (λ (l : List ℕ). Emitted l 0 out r after) (sym in-two) put
-
   -- a term in either form has no more than 32 bytes
   pub form-short : length (formBytes form earlier (pathTerm p)) ≤ 32
-  form-short = by (eqb form inForm1) refl
+  unfolding formBytes
+  form-short = by (eqb form inForm1)
     where
-      by : (b : Bool) → eqb form inForm1 ≡ b → length (formBytes form earlier (pathTerm p)) ≤ 32
-      by true e = let o = ap length (in-one (borrow.Author.Tests.eqb-true form inForm1 e)) in let l = term-length p boys few in let s = scale-few in omega arith
-      by false e =
-          let o = ap length (in-two (borrow.Author.Tests.eqb-false form inForm1 e) (shared earlier (pathTerm p .prefactors)) refl) in
+      by : (b : Bool) → length (cond b (termBytes (pathTerm p)) (termBytes2 earlier (pathTerm p))) ≤ 32
+      by true = let l = term-length p boys few in let s = scale-few in omega arith
+      by false =
+          let o = ap length (term-bytes2 earlier p (shared earlier (pathTerm p .prefactors)) boys few refl) in
           let l = after-length p (shared earlier (pathTerm p .prefactors)) in
           let s = scale-few in
           omega arith
+
+module _ (form w count low high : ℕ) (is : w ≡ writtenIn form) (p : Path) (out : List ℕ) (boys : p .boys < 128) (few : p .count < 25) where
+  abbrev at-front : Sink
+  at-front = sinkOf (w ∷ 0 ∷ count ∷ low ∷ high ∷ []) out
+
+  abbrev before-it : List ℕ
+  before-it = pathPrefactors count low high
+
+  same-bytes : formBytes w before-it (pathTerm p) ≡ formBytes form before-it (pathTerm p)
+  same-bytes = ap (λ (i : ℕ). formBytes i before-it (pathTerm p)) is ∙ written-bytes form before-it (pathTerm p)
+
+  writes : w ≡ size2 → ⊥
+  writes e = written-writes form (sym is ∙ e)
+
+  pub alone-may : p .scale < 2 ^ 32 → count < 25 → 32 ≤ length out → EmitMay p at-front
+  unfolding sinkOf withTerms withTerm endOf
+  alone-may scale short room =
+      record {
+        scale = scale;
+        boys = boys;
+        count = few;
+        room =
+            record {
+              fits = rw (ne-eqb w size2 writes) (let a = form-short form count low high p boys few in let b = ap length same-bytes in omega arith);
+              few = let l = length-prefactors count low high in omega arith;
+            };
+      }
+
+  pub alone-put : (words after : List ℕ) → Took at-front (pathTerm p ∷ []) (sinkOf words after) → Emitted (formBytes form before-it (pathTerm p)) 0 out (getD words 1 0) after
+  unfolding sinkOf withTerms withTerm storedIn
+  alone-put words after took =
+      record {
+        next = ap (λ (s : Sink). s .place) (took .is) ∙ ap (λ (l : List ℕ). 0 + length l) same-bytes;
+        out =
+            ap (λ (s : Sink). s .out) (took .is)
+            ∙ ap (λ (b : Bool). cond b out (sets out 0 (formBytes w before-it (pathTerm p)))) (ne-eqb w size2 writes)
+            ∙ ap (sets out 0) same-bytes;
+      }
 
 module _ (s words : List ℕ) (p : Path) (may : TermApt s p (matchOf words)) where
   pub earlier-few : getD words 3 0 < 25

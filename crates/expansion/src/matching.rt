@@ -7,15 +7,14 @@ ghost use lib.ListN.{length};
 ghost use Rattle.expansion.specs.inner.View.{pathPrefactors, pathTerm, Emitted};
 ghost use Rattle.expansion.specs.inner.Sinks.{formBytes};
 ghost use Rattle.expansion.specs.inner.Walking.{termsBelow, termsFrom};
-ghost use Rattle.expansion.specs.inner.Matching.{matchOf, differing, BesideTold, Matched, TermApt, NodeApt, BranchApt};
+ghost use Rattle.expansion.specs.inner.Matching.{matchOf, differing, writtenIn, BesideTold, Matched, TermApt, NodeApt, BranchApt};
 use crate::Child;
 use crate::Lowered;
 use crate::Lowering;
 use crate::Path;
-use crate::further::put_term2;
-use crate::further::shared_with;
 use crate::sink::FORM1;
-use crate::terms::put_term;
+use crate::sink::FORM2;
+use crate::sink::emit;
 use crate::walk::child;
 use crate::walk::choose;
 use form2::alike;
@@ -50,16 +49,24 @@ fn differing(same: usize, all: usize) -> u64
     1
 }
 
+// What a sink does that writes in a form.
+fn written(form: u64) -> u64
+    ensures { λ r. ⌜ r ≡ writtenIn form ⌝ }
+{
+    if form == FORM1 {
+        return FORM1;
+    }
+    FORM2
+}
+
 // Writes a term at the front of a buffer, in a form and behind a term whose prefactors are held as a path holds them.
 fn put_alone(out: &mut [u8], form: u64, count: u64, low: u64, high: u64, path: Path) -> usize
     requires { ⌜ (path .scale < 2 ^ 32) × (path .boys < 128) × (path .count < 25) × (count < 25) × (32 ≤ length (now out)) ⌝ }
     ensures { λ r. ⌜ Emitted (formBytes form (pathPrefactors count low high) (pathTerm path)) 0 (now (out .entry)) r (now (out .exit)) ⌝ }
 {
-    if form == FORM1 {
-        return put_term(out, 0, path);
-    }
-    let same = shared_with(count, low, high, path);
-    put_term2(out, 0, same, path)
+    let mut sink = [written(form), 0, count, low, high];
+    emit(out, &mut sink, path);
+    sink[1] as usize
 }
 
 // The place after so many bytes more.

@@ -15,7 +15,7 @@ use Rattle.expansion.specs.declared.Path.{Path}
 use Rattle.expansion.specs.declared.matching.Beside.{Beside}
 use Rattle.expansion.specs.Expanding.{termsOf}
 use Rattle.expansion.specs.inner.View.{pathPrefactors}
-use Rattle.expansion.specs.inner.Sinks.{formBytes}
+use Rattle.expansion.specs.inner.Sinks.{inForm1, inForm2, formBytes}
 use Rattle.expansion.specs.inner.Walking.{Good, TurnMay}
 use Rattle.expansion.specs.inner.Requests.{RequestWithin, Packed, formOf, headOf}
 
@@ -33,6 +33,10 @@ matchOf words = record { form = getD words 0 0; place = getD words 1 0; earlier 
 -- 0 where all bytes are shared
 unfoldable pub differing : ℕ → ℕ → ℕ
 differing same all = cond (eqb same all) 0 1
+
+-- what a sink does that writes in a form
+unfoldable pub writtenIn : ℕ → ℕ
+writtenIn form = cond (eqb form inForm1) inForm1 inForm2
 
 -- how many of a term's bytes stand from the place on
 unfoldable pub besideTerm : List ℕ → Match → Term → ℕ

@@ -1,38 +1,24 @@
--- `put_alone` meets its contract: by the form.
-use Rattle.expansion.proofs.MatchTerms.{alone-one, put-one, alone-two, put-two}
+-- `put_alone` meets its contract: by a sink of its own.
 use borrow.Author.Needs.{needs}
+use Rattle.expansion.proofs.MatchTerms.{alone-may, alone-put}
 use Rattle.expansion.proofs.matching.put_alone.Statement.{statement}
 use Rattle.expansion.proofs.matching.put_alone.Tie as tie
 
-put-term-requires : tie.Need-put-term-requires
-put-term-requires c κs = search alone-one
+written-requires : tie.Need-written-requires
+written-requires c κs = search needs
+
+emit-requires : tie.Need-emit-requires
+emit-requires c κs = search alone-may
+
+array-read-result : tie.Need-array-read-result
+array-read-result c = search needs
 
 same-length : tie.Need-same-length
 same-length c = search needs
 
 returns : tie.Need-returns
-returns c = search put-one
-
-shared-with-requires : tie.Need-shared-with-requires
-shared-with-requires c κs = search needs
-
-put-term2-requires : tie.Need-put-term2-requires
-put-term2-requires c κs = search alone-two
-
-same-length-2 : tie.Need-same-length-2
-same-length-2 c = search needs
-
-returns-2 : tie.Need-returns-2
-returns-2 c = search put-two
+returns c = search alone-put
 
 pub put-alone-spec : {M : Type 1} → statement M
 put-alone-spec =
-    tie.close
-    (tie.spec
-    put-term-requires
-    same-length
-    returns
-    shared-with-requires
-    put-term2-requires
-    same-length-2
-    returns-2)
+    tie.close (tie.spec written-requires emit-requires array-read-result same-length returns)
