@@ -32,11 +32,12 @@ use Rattle.importing.specs.declared.lines.Shape.the-variants as shape
 use Rattle.importing.specs.Lines.{Line, line, broken, lineOn}
 use Rattle.importing.specs.Import.{Judged, taken, refused, andThen, firstCount, onLine, headKeeps, headAs, headOf, termsFrom, rollOf}
 use Rattle.importing.specs.inner.Places.{shapeAt, headAt, onHead, headLineAt, measured, termsAt}
+use Rattle.importing.specs.Wrong.{HeadFits}
 use Rattle.importing.proofs.Standing.{standing, Exported, line-reads}
 use Rattle.importing.proofs.Numbers.{orders-room}
 use Rattle.importing.proofs.Keeping.{shape-line, shape-broken, line-rest, totalled, terms-stand}
 use Rattle.importing.proofs.FirstLines.{headed, head-stands}
-use Rattle.importing.proofs.Trips.{HeadTaken, head-taken, HeadFits, head-fits, TermsTaken, terms-taken}
+use Rattle.importing.proofs.Trips.{HeadTaken, head-taken, head-fits, TermsTaken, terms-taken}
 
 -- ---- how long a roll is
 

@@ -11,3 +11,4 @@ pub mod Shaping
 pub mod Standing
 pub mod Trips
 pub mod Within
+pub mod WrongLines

@@ -29,6 +29,7 @@ use Rattle.exporting.specs.Text.{lineOf, headNumbers, termNumbers, termLines, t
 use Rattle.importing.specs.declared.Imported.the-variants as imported
 use Rattle.importing.specs.Lines.{Line, line, broken, lineFrom, lineOn}
 use Rattle.importing.specs.Import.{Judged, taken, refused, andThen, firstCount, otherCount, onLine, centresKeep, headKeeps, headAs, headOf, termKeeps, termOf, termsFrom, rollOf, importedOf, importedOut}
+use Rattle.importing.specs.Wrong.{HeadFits}
 use Rattle.importing.proofs.Standing.{Exported, line-reads, line-back}
 use Rattle.importing.proofs.Keeping.{keeps-fits, fits-keeps}
 use Rattle.importing.proofs.FirstLines.{centres-fit, fit-centres, split-last}
@@ -80,13 +81,6 @@ head-named (named.Is k) n ns h is e = by (eqb (length ns) (ordersOf k + 1) && he
 pub head-taken : (ns : List ℕ) (h : Header) → headOf ns ≡ taken h → HeadTaken ns h
 head-taken [] h e = absurd (clash (cc e))
 head-taken (n ∷ ns) h e = head-named (kindOf n) n ns h refl e
-
--- what a head keeps
-pub record HeadFits (h : Header) : Type 0 where
-  pub places : length (h .orders) ≡ ordersOf (h .kind)
-  pub sums : CentresFit (h .orders)
-  pub some : 1 ≤ h .terms
-  pub most : h .terms ≤ mostTerms
 
 pub head-fits : (h : Header) → headKeeps h ≡ true → HeadFits h
 unfolding headKeeps
@@ -183,7 +177,7 @@ import-export s r e =
 
 -- ---- back
 
-term-back : (k : Kind) (l at : ℕ) (t : Term) → TermFits k l t → termOf k l at (termNumbers t) ≡ taken t
+pub term-back : (k : Kind) (l at : ℕ) (t : Term) → TermFits k l t → termOf k l at (termNumbers t) ≡ taken t
 term-back k l at t f = rw (fits-keeps k l t f)
 
 no-line : (ns rest : List ℕ) → line ns rest ≡ lineOn [] → ⊥
@@ -213,7 +207,7 @@ first-count Nuclear n e = rw e
 first-count Moment n e = rw e
 first-count Coulomb n e = rw e
 
-head-back : (k : Kind) (os : List ℕ) (count : ℕ) → length os ≡ ordersOf k → CentresFit os → 1 ≤ count → count ≤ mostTerms
+pub head-back : (k : Kind) (os : List ℕ) (count : ℕ) → length os ≡ ordersOf k → CentresFit os → 1 ≤ count → count ≤ mostTerms
     → headOf (headNumbers k os count) ≡ taken (record { kind = k; orders = os; terms = count })
 unfolding headKeeps
 head-back k os count places sums some most =

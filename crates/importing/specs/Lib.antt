@@ -1,3 +1,4 @@
 pub mod Import
 pub mod Lines
+pub mod Wrong
 pub mod inner
