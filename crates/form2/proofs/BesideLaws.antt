@@ -1,5 +1,5 @@
 -- Bytes that two lists begin with, counted one by one, and the same of lists one behind the other.
-use Prim.Native.Nat.{ℕ, suc, _+_, _-_, _≤_, _<_, min}
+use Prim.Native.Nat.{ℕ, suc, _+_, _≤_, _<_, min}
 use mathlib.Core.Path.{_≡_, refl, sym, ap, ap₂, _∙_}
 use mathlib.Core.Bool.{Bool, true, false, cond}
 use mathlib.Core.List.{List, [], _∷_, _++_}
@@ -10,7 +10,7 @@ use lib.ListN.{length, getD, take, drop, drop-of-length-le}
 use lib.Seq.{take-all}
 use Rattle.laws.proofs.Lists.{drop-head}
 use Rattle.form2.specs.Bytes.{shared}
-use Rattle.form2.proofs.Sharing.{shared-none, Shares, shares}
+use Rattle.form2.proofs.Sharing.{shared-none, shares}
 
 pub shared-heads : (p q : ℕ) (ps qs : List ℕ) (b : Bool) → eqb p q ≡ b → shared (p ∷ ps) (q ∷ qs) ≡ cond b (suc (shared ps qs)) 0
 unfolding shared
