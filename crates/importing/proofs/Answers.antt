@@ -1,14 +1,14 @@
 -- The judge and the writer by places say what the definition says of the whole text.
-use Prim.Native.Nat.{ℕ, zero, suc, _+_, _*_, _-_, _≤_, _<_}
+use Prim.Native.Nat.{ℕ, _+_, _*_, _-_, _≤_, _<_}
 use mathlib.Core.Path.{_≡_, refl, sym, ap, _∙_}
 use mathlib.Core.Bool.{Bool, true, false, cond, _&&_}
-use mathlib.Core.List.{List, [], _∷_, _++_, append-assoc}
+use mathlib.Core.List.{List, [], _∷_, _++_}
 use native.Mathlib.Omega.{arith}
 use lib.Dec.{eqb}
 use lib.ListN.{length, getD, take, drop, length-append}
 use Rattle.laws.specs.Total.{total}
-use Rattle.laws.proofs.Cases.{clash, tested}
-use Rattle.kind.specs.Limits.{mostOrder, requestOrders}
+use Rattle.laws.proofs.Cases.{clash}
+use Rattle.kind.specs.Limits.{mostOrder}
 use Rattle.kind.specs.Kinds.{kindOf, numberOf, ordersOf}
 use Rattle.kind.specs.declared.Kind.{Kind}
 use Rattle.kind.specs.declared.Named.{Named}
@@ -17,27 +17,23 @@ use Rattle.kind.proofs.Within.{number-within}
 use Rattle.number.specs.Numbers.{bytesOf, lengthOf}
 use Rattle.number.proofs.Writing.{length-last}
 use Rattle.term.specs.Terms.{Term}
-use Rattle.roll.specs.Bytes.{numbersBytes, termBytes, termsBytes, rollBytes}
+use Rattle.roll.specs.Bytes.{numbersBytes, termsBytes, rollBytes}
 use Rattle.roll.specs.Reading.{Header, Roll}
-use Rattle.roll.specs.Fits.{CentresFit, RollFits}
-use Rattle.text.specs.Digits.{decimalOf}
-use Rattle.exporting.specs.Text.{lineOf, afterCommas, feed}
-use Rattle.importing.proofs.Decimals.{decimal-some}
+use Rattle.roll.specs.Fits.{CentresFit}
 use Rattle.importing.specs.declared.Imported.{Imported}
 use Rattle.importing.specs.declared.Imported.the-variants as imported
 use Rattle.importing.specs.declared.numerals.Head.{Head}
-use Rattle.importing.specs.declared.numerals.Head.the-variants as head
 use Rattle.importing.specs.declared.lines.Shape.{Shape}
 use Rattle.importing.specs.declared.lines.Shape.the-variants as shape
 use Rattle.importing.specs.Lines.{Line, line, broken, lineOn}
-use Rattle.importing.specs.Import.{Judged, taken, refused, andThen, firstCount, onLine, headKeeps, headAs, headOf, termsFrom, rollOf}
-use Rattle.importing.specs.inner.Places.{shapeAt, headAt, onHead, headLineAt, measured, termsAt}
+use Rattle.importing.specs.Import.{Judged, taken, refused, andThen, firstCount, headKeeps, headAs, headOf, termsFrom, rollOf}
+use Rattle.importing.specs.inner.Places.{shapeAt, onHead, headLineAt, measured, termsAt}
 use Rattle.importing.specs.Wrong.{HeadFits}
-use Rattle.importing.proofs.Standing.{standing, Exported, line-reads}
+use Rattle.importing.proofs.Standing.{line-inside, line-reads}
 use Rattle.importing.proofs.Numbers.{orders-room}
 use Rattle.importing.proofs.Keeping.{shape-line, shape-broken, line-rest, totalled, terms-stand}
 use Rattle.importing.proofs.FirstLines.{headed, head-stands}
-use Rattle.importing.proofs.Trips.{HeadTaken, head-taken, head-fits, TermsTaken, terms-taken}
+use Rattle.importing.proofs.Trips.{head-taken, head-fits, terms-taken}
 
 -- ---- how long a roll is
 
@@ -107,16 +103,12 @@ head-judged s next n ns rest after =
     (λ ts t. terms-taken (h .terms) (h .kind) (total (h .orders)) 2 rest ts t .count))
     refl
 
-line-inside : (s : List ℕ) (n : ℕ) (ns rest : List ℕ) → s ≡ lineOf (n ∷ ns) ++ rest → 0 < length s
-unfolding lineOf
-line-inside s n ns rest e = omega (arith, ap length e, length-append (lineOf (n ∷ ns)) rest, length-append (decimalOf n) (afterCommas ns ++ feed), decimal-some n)
-
 line-judged : (s ns rest : List ℕ) → lineOn s ≡ line ns rest → firstCount (length ns) ≡ true → headLineAt s (length ns) (length s - length rest) ≡ measured (rollOf s)
 unfolding headLineAt rollOf
 line-judged s [] rest e count = absurd (let x = line-reads s [] rest e in omega (arith, x .some))
 line-judged s (n ∷ ns) rest e count =
     let x = line-reads s (n ∷ ns) rest e in
-    let inside : 0 < length s = line-inside s n ns rest (x .text) in
+    let inside : 0 < length s = line-inside s 0 n ns rest (x .text) in
     rw (e, count)
     (ap (λ (h : Head). onHead h (λ k l terms. termsAt s (length s - length rest) 2 terms k l (1 + ordersOf k + lengthOf terms) terms)) (head-stands n ns s rest (x .text))
     ∙ head-judged s (length s - length rest) n ns rest (line-rest s 0 (n ∷ ns) rest inside e))

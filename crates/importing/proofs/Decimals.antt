@@ -1,18 +1,17 @@
 -- Digits that are a number are the decimal of what they are worth, and a decimal is such digits.
-use Prim.Native.Nat.{ℕ, zero, suc, _+_, _-_, _*_, _/_, _%_, _≤_, _<_}
+use Prim.Native.Nat.{ℕ, suc, _+_, _*_, _/_, _%_, _≤_, _<_}
 use mathlib.Core.Path.{_≡_, refl, sym, ap, _∙_}
-use mathlib.Core.Bool.{Bool, true, false}
+use mathlib.Core.Bool.{Bool, true, false, false≢true}
 use mathlib.Core.List.{List, [], _∷_, _++_, append-assoc, append-nil}
 use native.Mathlib.Numerals.{add-one}
-use native.Mathlib.Nat.{add-suc}
 use native.Mathlib.Omega.{arith}
-use borrow.Author.Tests.{lt-ltb, le-ltb, ltb-true, ltb-false}
+use borrow.Author.Tests.{lt-ltb, ltb-true, ltb-false}
 use lib.Dec.{ltb}
-use lib.ListN.{length, getD, length-append, List·getD-append}
+use lib.ListN.{length, getD, List·getD-append}
 use Rattle.laws.proofs.Cases.{tested}
 use Rattle.text.specs.Digits.{glyph, worth, digits, decimalOf, valueFrom}
 use Rattle.text.specs.Reading.{runOf}
-use Rattle.text.proofs.Digits.{decimal-short, decimal-long, places-short, places-long, by-tens, decimal-digits, decimal-value, run-decimal, worth-below, worth-figure, worth-between, worth-letter, worth-above}
+use Rattle.text.proofs.Digits.{decimal-short, decimal-long, places-short, places-long, by-tens, decimal-digits, run-decimal, worth-below, worth-figure}
 use Rattle.importing.specs.Lines.{isNumber}
 use Rattle.importing.proofs.Shaping.{digit-high}
 
@@ -75,7 +74,7 @@ decimal-long-is run all long =
     sym (decimal-digits w) ∙ ap (λ (n : ℕ). digits 10 n w) (sym same) ∙ digits-value run 0 0 all
 
 pub decimal-is : (run : List ℕ) → AllDigits run → isNumber run ≡ true → decimalOf (valueFrom 10 0 run) ≡ run
-decimal-is [] all is = absurd (mathlib.Core.Bool.false≢true is)
+decimal-is [] all is = absurd (false≢true is)
 decimal-is (d ∷ []) all is =
     let h : worth d < 10 = all .0 in
     let none : 0 * 10 + worth d ≡ worth d = omega arith in

@@ -1,11 +1,10 @@
 -- The first line: what its numbers keep as tests is what the reader's limits say, and places in the text say what the numbers say.
-use Prim.Native.Nat.{ℕ, zero, suc, _+_, _-_, _%_, _^_, _≤_, _<_}
+use Prim.Native.Nat.{ℕ, zero, suc, _+_, _-_, _%_, _≤_, _<_}
 use mathlib.Core.Path.{_≡_, refl, sym, ap, _∙_}
-use mathlib.Core.Bool.{Bool, true, false, cond, _&&_}
+use mathlib.Core.Bool.{Bool, true, cond, _&&_, false≢true}
 use mathlib.Core.List.{List, [], _∷_, _++_}
-use native.Mathlib.Numerals.{add-one}
 use native.Mathlib.Omega.{arith}
-use borrow.Author.Tests.{lt-ltb, le-ltb, le-leb, lt-leb, eq-eqb, ne-eqb, ltb-true, ltb-false, leb-true, leb-false, eqb-true, eqb-false}
+use borrow.Author.Tests.{le-leb, lt-leb, eq-eqb, ne-eqb, ltb-true, ltb-false, leb-true, leb-false, eqb-true, eqb-false}
 use lib.Dec.{ltb, leb, eqb}
 use lib.ListN.{length, getD, take, drop}
 use lib.Seq.{take-suc, take-all, length-take-le}
@@ -20,20 +19,19 @@ use Rattle.kind.specs.declared.Named.the-variants as named
 use Rattle.roll.specs.Reading.{sumAfter, Header}
 use Rattle.roll.specs.Fits.{CentresFit}
 use Rattle.roll.proofs.HeaderLaws.{sum-small}
-use Rattle.importing.specs.declared.numerals.Numeral.{Numeral}
 use Rattle.importing.specs.declared.numerals.Numeral.the-variants as numeral
 use Rattle.importing.specs.declared.numerals.Head.{Head}
 use Rattle.importing.specs.declared.numerals.Head.the-variants as head
 use Rattle.importing.specs.Import.{Judged, taken, refused, centresKeep, headKeeps, headAs, headOf}
-use Rattle.importing.specs.inner.Places.{withinAt, onward, ordersAt, countedHead, orderedHead, headOrdersAt, namedHead, numberedHead, headAt}
+use Rattle.importing.specs.inner.Places.{withinAt, ordersAt, countedHead, headOrdersAt, namedHead, headAt}
 use Rattle.importing.proofs.Standing.{standing, nextPlace, stands-next, stands-in, stands-under, stands-over}
 
 -- ---- order sums
 
 pub centres-fit : (os : List ℕ) → centresKeep os ≡ true → CentresFit os
 centres-fit [] e = tt
-centres-fit (x ∷ []) e = absurd (mathlib.Core.Bool.false≢true e)
-centres-fit (x ∷ y ∷ []) e = absurd (mathlib.Core.Bool.false≢true e)
+centres-fit (x ∷ []) e = absurd (false≢true e)
+centres-fit (x ∷ y ∷ []) e = absurd (false≢true e)
 centres-fit (x ∷ y ∷ z ∷ os) e =
     (leb-true (x + y + z) mostOrder (and-left (leb (x + y + z) mostOrder) (centresKeep os) e), centres-fit os (and-right (leb (x + y + z) mostOrder) (centresKeep os) e))
 

@@ -1,40 +1,36 @@
 -- What a line's numbers keep as tests is what the reader's limits say, and places in the text say what the numbers say.
-use Prim.Native.Nat.{ℕ, zero, suc, _+_, _-_, _^_, _≤_, _<_}
+use Prim.Native.Nat.{ℕ, zero, suc, _+_, _-_, _≤_, _<_}
 use mathlib.Core.Path.{_≡_, refl, sym, ap, _∙_}
 use mathlib.Core.Bool.{Bool, true, false, cond, _&&_}
 use mathlib.Core.List.{List, [], _∷_, _++_}
 use native.Mathlib.Omega.{arith}
-use borrow.Author.Tests.{lt-ltb, le-ltb, le-leb, lt-leb, ltb-true, ltb-false, leb-true, leb-false}
+use borrow.Author.Tests.{lt-ltb, le-ltb, le-leb, ltb-true, ltb-false, leb-true, leb-false}
 use lib.Dec.{ltb, leb}
 use lib.ListN.{length, drop, length-append, length-drop, drop-of-length-le}
 use lib.Seq.{drop-cons}
-use Rattle.laws.proofs.Cases.{tested, and-left, and-right, false-not-true}
+use Rattle.laws.proofs.Cases.{tested, and-left, and-right}
 use Rattle.laws.proofs.Lists.{drop-after}
-use Rattle.kind.specs.Limits.{mostScale, mostTerms, tablePlaces}
+use Rattle.kind.specs.Limits.{mostScale, tablePlaces}
 use Rattle.kind.specs.Kinds.{tableOf, mostPrefactors}
 use Rattle.kind.specs.declared.Kind.{Kind}
-use Rattle.kind.specs.declared.Kind.the-variants.{Overlap, Kinetic, Nuclear, Moment, Coulomb}
 use Rattle.kind.proofs.Within.{some-entries, table-within}
 use Rattle.number.specs.Numbers.{bytesOf, lengthOf}
 use Rattle.number.proofs.Writing.{length-last}
 use Rattle.term.specs.Terms.{Term}
 use Rattle.roll.specs.Bytes.{numbersBytes, termBytes, termsBytes}
 use Rattle.roll.specs.Reading.{mostBoys}
-use Rattle.roll.specs.Fits.{Below, TermFits, TermsFit}
+use Rattle.roll.specs.Fits.{Below, TermFits}
 use Rattle.roll.proofs.Back.{most-boys}
 use Rattle.exporting.specs.Text.{lineOf}
 use Rattle.importing.specs.declared.Imported.{Imported}
 use Rattle.importing.specs.declared.Imported.the-variants as imported
-use Rattle.importing.specs.declared.numerals.Numeral.{Numeral}
-use Rattle.importing.specs.declared.numerals.Numeral.the-variants as numeral
-use Rattle.importing.specs.declared.judge.Size.{Size}
 use Rattle.importing.specs.declared.judge.Size.the-variants as size
-use Rattle.importing.specs.declared.lines.Shape.{Shape}
 use Rattle.importing.specs.declared.lines.Shape.the-variants as shape
 use Rattle.importing.specs.Lines.{Line, line, broken, lineOn}
 use Rattle.importing.specs.Import.{Judged, taken, refused, andThen, otherCount, onLine, below, termKeeps, termOf, termsFrom}
-use Rattle.importing.specs.inner.Places.{counted, shapeAt, withinAt, onward, eachAt, boysAt, termAt, sized, lineSize, termLineAt, tooMany, endAt, onSize, termsAt}
-use Rattle.importing.proofs.Standing.{standing, Exported, line-reads, nextPlace, stands-next, stands-in, stands-under, stands-over}
+use Rattle.importing.specs.inner.Places.{counted, shapeAt, eachAt, boysAt, termAt, sized, termLineAt, endAt, onSize, termsAt}
+use Rattle.importing.proofs.Numbers.{prefactors-most}
+use Rattle.importing.proofs.Standing.{standing, line-reads, nextPlace, stands-next, stands-in, stands-under, stands-over}
 use Rattle.importing.proofs.Judging.{line-missing, line-short, line-broken, line-long, end-right, end-short, end-many, end-broken}
 
 -- ---- prefactors and terms: tests and limits
@@ -75,13 +71,6 @@ small-length table [] few b = refl
 small-length table (p ∷ ps) few b =
     let under : p < table = b .0 in
     omega (arith, length-append (bytesOf p) (numbersBytes ps), length-last p (omega arith), small-length table ps few (b .1))
-
-prefactors-most : (k : Kind) (l : ℕ) → mostPrefactors k l ≤ l + 1
-prefactors-most Overlap l = omega arith
-prefactors-most Kinetic l = omega arith
-prefactors-most Nuclear l = omega arith
-prefactors-most Moment l = omega arith
-prefactors-most Coulomb l = omega arith
 
 pub term-length : (k : Kind) (l : ℕ) (t : Term) → l ≤ 100 → TermFits k l t → lengthOf (t .scale) + suc (suc (length (t .prefactors))) ≡ length (termBytes t)
 unfolding termBytes lengthOf

@@ -1,43 +1,37 @@
 -- What is written of a text that imports is the writing of its roll; and the answers of `import`.
-use Prim.Native.Nat.{ℕ, zero, suc, _+_, _*_, _-_, _≤_, _<_}
+use Prim.Native.Nat.{ℕ, suc, _+_, _*_, _-_, _≤_, _<_}
 use mathlib.Core.Path.{_≡_, refl, sym, ap, _∙_}
-use mathlib.Core.Bool.{Bool, true, false, cond}
+use mathlib.Core.Bool.{true}
 use mathlib.Core.List.{List, [], _∷_, _++_, append-assoc, append-nil}
 use native.Mathlib.Omega.{arith}
 use borrow.Author.Tests.{lt-ltb, le-ltb, le-leb, lt-leb}
-use lib.Dec.{ltb, leb}
-use lib.ListN.{length, drop, length-append, length-drop}
+use lib.Dec.{leb}
+use lib.ListN.{length, drop}
 use lib.Seq.{sets}
 use Rattle.laws.specs.Total.{total}
-use Rattle.laws.specs.Placed.{placed, placedWhereFits}
 use Rattle.laws.proofs.Cases.{clash}
 use Rattle.laws.proofs.Parts.{room-placed}
-use Rattle.kind.specs.Limits.{mostOrder, mostTerms, mostScale, tablePlaces}
-use Rattle.kind.specs.Kinds.{numberOf, ordersOf, tableOf, mostPrefactors}
+use Rattle.kind.specs.Limits.{mostOrder, tablePlaces}
+use Rattle.kind.specs.Kinds.{numberOf, tableOf}
 use Rattle.kind.specs.declared.Kind.{Kind}
-use Rattle.kind.specs.declared.Kind.the-variants.{Overlap, Kinetic, Nuclear, Moment, Coulomb}
 use Rattle.kind.proofs.Within.{number-within, table-within}
 use Rattle.number.specs.Numbers.{bytesOf}
 use Rattle.term.specs.Terms.{Term}
-use Rattle.text.specs.Digits.{decimalOf}
 use Rattle.roll.specs.Bytes.{numbersBytes, termBytes, termsBytes, rollBytes}
-use Rattle.roll.specs.Reading.{mostBoys, Roll}
+use Rattle.roll.specs.Reading.{Roll}
 use Rattle.roll.specs.Fits.{CentresFit, Below, TermFits, TermsFit, RollFits}
 use Rattle.roll.proofs.Back.{most-boys}
-use Rattle.exporting.specs.Text.{afterCommas, feed, lineOf, headNumbers, termNumbers, termLines, textOf}
+use Rattle.exporting.specs.Text.{headNumbers, termNumbers, termLines, textOf}
 use Rattle.importing.specs.declared.Imported.{Imported}
 use Rattle.importing.specs.declared.Imported.the-variants as imported
-use Rattle.importing.specs.declared.lines.Shape.{Shape}
-use Rattle.importing.specs.declared.lines.Shape.the-variants as shape
 use Rattle.importing.specs.Lines.{line, lineOn}
-use Rattle.importing.specs.Import.{Judged, taken, refused, rollOf, answerOf, outOf, importedOf, importedOut, ImportTold}
-use Rattle.importing.specs.inner.Places.{shapeAt, withinAt, mostWord, copiedAt, pastAt, further, termPut, onShape, termsPut, rollPut, measured}
-use Rattle.importing.proofs.Decimals.{decimal-some}
-use Rattle.importing.proofs.Standing.{standing, line-back, nextPlace, stands-next, stands-in}
-use Rattle.importing.proofs.Numbers.{orders-room}
+use Rattle.importing.specs.Import.{Judged, taken, refused, rollOf, importedOf, importedOut, ImportTold}
+use Rattle.importing.specs.inner.Places.{mostWord, copiedAt, pastAt, further, termPut, termsPut, rollPut, measured}
+use Rattle.importing.proofs.Standing.{standing, line-inside, line-back, nextPlace, stands-next, stands-in}
+use Rattle.importing.proofs.Numbers.{orders-room, prefactors-most}
 use Rattle.importing.proofs.Keeping.{shape-line, line-rest}
 use Rattle.importing.proofs.Answers.{centres-length}
-use Rattle.importing.proofs.Trips.{RollTaken, import-export}
+use Rattle.importing.proofs.Trips.{import-export}
 
 -- ---- numbers of 32 bits
 
@@ -76,15 +70,16 @@ copied-all ns s at rest w stands = copied-stands ns [] s at rest w (stands ∙ a
 
 -- ---- a term, the terms
 
-term-laid : (k : Kind) (l : ℕ) (t : Term) (s : List ℕ) (at : ℕ) (rest : List ℕ) → l ≤ 100 → mostPrefactors k l ≤ 200 → TermFits k l t → drop at s ≡ standing (termNumbers t) ++ rest
+term-laid : (k : Kind) (l : ℕ) (t : Term) (s : List ℕ) (at : ℕ) (rest : List ℕ) → l ≤ 100 → TermFits k l t → drop at s ≡ standing (termNumbers t) ++ rest
     → termPut s at (length (termNumbers t)) ≡ termBytes t
 unfolding termPut termBytes numbersBytes
-term-laid k l t s at rest small most f stands =
+term-laid k l t s at rest small f stands =
     let ps = t .prefactors in
     let scale = f .scale in
     let boys = f .boys in
     let count = f .count in
     let few = most-boys k l in
+    let most = prefactors-most k l in
     let c = copied-stands (t .scale ∷ t .boys ∷ []) ps s at rest (omega arith, (omega arith, tt)) stands in
     let n : further (suc (suc (length ps))) ≡ length ps = omega arith in
     let after = copied-all ps s (pastAt s at 2) rest (words-below (tableOf k) ps (table-within k) (f .prefactors)) (c .after) in
@@ -92,19 +87,15 @@ term-laid k l t s at rest small most f stands =
     (append-assoc (bytesOf (t .scale)) (bytesOf (t .boys) ++ []) (bytesOf (length ps) ++ numbersBytes ps)
     ∙ ap (λ (l : List ℕ). bytesOf (t .scale) ++ l) (append-assoc (bytesOf (t .boys)) [] (bytesOf (length ps) ++ numbersBytes ps)))
 
-line-inside : (s : List ℕ) (at n : ℕ) (ns rest : List ℕ) → drop at s ≡ lineOf (n ∷ ns) ++ rest → at < length s
-unfolding lineOf
-line-inside s at n ns rest e = omega (arith, length-drop at s, ap length e, length-append (lineOf (n ∷ ns)) rest, length-append (decimalOf n) (afterCommas ns ++ feed), decimal-some n)
-
-terms-laid : (ts : List Term) (k : Kind) (l : ℕ) (s : List ℕ) (at : ℕ) → l ≤ 100 → mostPrefactors k l ≤ 200 → TermsFit k l ts → drop at s ≡ termLines ts → termsPut s at (length ts) ≡ termsBytes ts
+terms-laid : (ts : List Term) (k : Kind) (l : ℕ) (s : List ℕ) (at : ℕ) → l ≤ 100 → TermsFit k l ts → drop at s ≡ termLines ts → termsPut s at (length ts) ≡ termsBytes ts
 unfolding termsPut termsBytes termLines
-terms-laid [] k l s at small most fit e = refl
-terms-laid (t ∷ ts) k l s at small most fit e =
+terms-laid [] k l s at small fit e = refl
+terms-laid (t ∷ ts) k l s at small fit e =
     let inside = line-inside s at (t .scale) (t .boys ∷ t .prefactors) (termLines ts) e in
     let read : lineOn (drop at s) ≡ line (termNumbers t) (termLines ts) = ap lineOn e ∙ line-back (t .scale) (t .boys ∷ t .prefactors) (termLines ts) in
     let is = shape-line s at (termNumbers t) (termLines ts) read in
     let next = line-rest s at (termNumbers t) (termLines ts) inside read in
-    rw (is, term-laid k l t s at (termLines ts) small most (fit .0) e, terms-laid ts k l s (length s - length (termLines ts)) small most (fit .1) next)
+    rw (is, term-laid k l t s at (termLines ts) small (fit .0) e, terms-laid ts k l s (length s - length (termLines ts)) small (fit .1) next)
 
 -- ---- the roll
 
@@ -112,13 +103,6 @@ numbers-append : (xs ys : List ℕ) → numbersBytes (xs ++ ys) ≡ numbersBytes
 unfolding numbersBytes
 numbers-append [] ys = refl
 numbers-append (x ∷ xs) ys = ap (λ (l : List ℕ). bytesOf x ++ l) (numbers-append xs ys) ∙ sym (append-assoc (bytesOf x) (numbersBytes xs) (numbersBytes ys))
-
-prefactors-most : (k : Kind) (l : ℕ) → l ≤ 100 → mostPrefactors k l ≤ 200
-prefactors-most Overlap l h = omega arith
-prefactors-most Kinetic l h = omega arith
-prefactors-most Nuclear l h = omega arith
-prefactors-most Moment l h = omega arith
-prefactors-most Coulomb l h = omega arith
 
 head-bytes : (k : Kind) (os ts : List ℕ) (count : ℕ) → numbersBytes (headNumbers k os count) ++ ts ≡ bytesOf (numberOf k) ++ (numbersBytes os ++ (bytesOf count ++ ts))
 unfolding numbersBytes
@@ -141,7 +125,7 @@ roll-laid s r f e =
     let kind = number-within (r .kind) in
     let most = f .most in
     let words : Words numbers = (omega arith, words-more (r .orders) (length (r .terms) ∷ []) (words-orders (r .orders) (f .sums)) (omega arith, tt)) in
-    rw (is, copied-all numbers s 0 lines words e, terms-laid (r .terms) (r .kind) (total (r .orders)) s (length s - length lines) small (prefactors-most (r .kind) (total (r .orders)) small) (f .terms) next)
+    rw (is, copied-all numbers s 0 lines words e, terms-laid (r .terms) (r .kind) (total (r .orders)) s (length s - length lines) small (f .terms) next)
     (head-bytes (r .kind) (r .orders) (termsBytes (r .terms)) (length (r .terms)))
 
 -- ---- the answers

@@ -9,6 +9,7 @@ pub mod Only
 pub mod Putting
 pub mod Shaping
 pub mod Standing
+pub mod Texts
 pub mod Trips
 pub mod Within
 pub mod WrongLines

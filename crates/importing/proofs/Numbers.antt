@@ -1,12 +1,11 @@
 -- The numbers of a line, one after the other: what is left says what the whole says.
-use Prim.Native.Nat.{ℕ, zero, suc, _+_, _*_, _-_, _%_, _^_, _≤_, _<_}
-use mathlib.Core.Path.{_≡_, refl, sym, ap, subst, _∙_}
-use mathlib.Core.Bool.{Bool, true, false, cond}
+use Prim.Native.Nat.{ℕ, zero, suc, _+_, _*_, _-_, _^_, _≤_, _<_}
+use mathlib.Core.Path.{_≡_, refl, sym, ap, _∙_}
+use mathlib.Core.Bool.{true, false}
 use mathlib.Core.List.{List}
 use native.Mathlib.Omega.{arith}
 use borrow.Author.Tests.{lt-ltb, le-ltb, eq-eqb, ne-eqb}
-use lib.Dec.{ltb, eqb}
-use lib.ListN.{length}
+use lib.Dec.{eqb}
 use Rattle.laws.proofs.Cases.{clash}
 use Rattle.laws.proofs.Counting.{left-one, left-none}
 use Rattle.kind.specs.Limits.{mostOrder, mostTerms, mostScale, requestOrders}
@@ -106,12 +105,6 @@ orders-few (suc n) s at i sum l m next e =
     let rest = orders-few n s (o .1) (i + 1) (sumAfter i sum (o .0)) (l + o .0) m next (o .3) in
     omega arith
 
-pub sum-new : (i sum order : ℕ) → i % 3 ≡ 2 → 0 ≡ sumAfter i sum order
-sum-new i sum order e = rw (eq-eqb (i % 3) 2 e)
-
-pub sum-more : (i sum order : ℕ) → (i % 3 ≡ 2 → ⊥) → sum + order ≡ sumAfter i sum order
-sum-more i sum order e = rw (ne-eqb (i % 3) 2 e)
-
 -- ---- the first line
 
 orders-places : (k : Kind) → ordersOf k ≤ requestOrders
@@ -184,24 +177,24 @@ table-some k table e = omega (arith, e, some-entries k)
 pub table-fits : (k : Kind) (table : ℕ) → table ≡ tableOf k → table < 2 ^ 32
 table-fits k table e = omega (arith, e, table-within k)
 
-prefactors-few : (k : Kind) (l : ℕ) → l < 256 → mostPrefactors k l ≤ 256
-prefactors-few Overlap l h = omega arith
-prefactors-few Kinetic l h = omega arith
-prefactors-few Nuclear l h = omega arith
-prefactors-few Moment l h = omega arith
-prefactors-few Coulomb l h = omega arith
+pub prefactors-most : (k : Kind) (l : ℕ) → mostPrefactors k l ≤ l + 1
+prefactors-most Overlap l = omega arith
+prefactors-most Kinetic l = omega arith
+prefactors-most Nuclear l = omega arith
+prefactors-most Moment l = omega arith
+prefactors-most Coulomb l = omega arith
 
 pub most-fits : (k : Kind) (l most : ℕ) → most ≡ mostPrefactors k l → l < 256 → most + 2 < 2 ^ 64
-most-fits k l most e byte = omega (arith, e, prefactors-few k l byte)
+most-fits k l most e byte = omega (arith, e, prefactors-most k l)
 
 pub numbers-fit : (k : Kind) (l most n : ℕ) → most ≡ mostPrefactors k l → l < 256 → n ≤ most + 2 → n < 2 ^ 32
-numbers-fit k l most n e byte few = omega (arith, e, prefactors-few k l byte)
+numbers-fit k l most n e byte few = omega (arith, e, prefactors-most k l)
 
 pub bytes-fit : (scale bytes : ℕ) → bytes ≡ lengthOf scale → bytes < 2 ^ 32
 bytes-fit scale bytes e = omega (arith, e, length-few scale)
 
 pub size-fits : (k : Kind) (l most n scale bytes : ℕ) → most ≡ mostPrefactors k l → l < 256 → n ≤ most + 2 → bytes ≡ lengthOf scale → bytes + n < 2 ^ 32
-size-fits k l most n scale bytes e byte few b = omega (arith, e, b, prefactors-few k l byte, length-few scale)
+size-fits k l most n scale bytes e byte few b = omega (arith, e, b, prefactors-most k l, length-few scale)
 
 pub boys-most : (k : Kind) (l : ℕ) → usesBoys k ≡ true → l ≡ mostBoys k l
 boys-most k l e = rw e

@@ -1,7 +1,7 @@
 -- What is written, number after number and line after line: what is still to be written, put down here, is the whole put down at the start.
-use Prim.Native.Nat.{ℕ, zero, suc, _+_, _-_, _^_, min, _≤_, _<_}
+use Prim.Native.Nat.{ℕ, zero, suc, _+_, _-_, _≤_, _<_}
 use mathlib.Core.Path.{_≡_, refl, sym, ap, subst, _∙_}
-use mathlib.Core.List.{List, [], _∷_, _++_}
+use mathlib.Core.List.{List, [], _++_}
 use native.Mathlib.Omega.{arith}
 use borrow.Author.Tests.{le-leb}
 use lib.ListN.{length, length-append}
@@ -17,7 +17,7 @@ use Rattle.importing.specs.declared.lines.Shape.the-variants as shape
 use Rattle.importing.specs.declared.numerals.Numeral.{Numeral}
 use Rattle.importing.specs.declared.numerals.Numeral.the-variants as numeral
 use Rattle.importing.specs.declared.writing.Spot.{Spot}
-use Rattle.importing.specs.inner.Places.{shapeAt, withinAt, mostWord, onto, copiedAt, past, pastAt, Copied, further, termPut, onShape, termsPut, rollPut, Wrote}
+use Rattle.importing.specs.inner.Places.{shapeAt, withinAt, mostWord, copiedAt, pastAt, Copied, further, termPut, termsPut, rollPut, Wrote}
 
 -- ---- a number
 

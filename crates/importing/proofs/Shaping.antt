@@ -3,19 +3,17 @@ use Prim.Native.Nat.{ℕ, zero, suc, _+_, _-_, _≤_, _<_}
 use mathlib.Core.Path.{_≡_, refl, sym, ap, _∙_}
 use mathlib.Core.Bool.{Bool, true, false}
 use mathlib.Core.List.{List, [], _∷_, _++_, append-assoc, append-nil}
-use native.Mathlib.Numerals.{add-one}
 use native.Mathlib.Omega.{arith}
-use borrow.Author.Tests.{lt-ltb, le-ltb, ltb-true, ltb-false, eq-eqb, ne-eqb}
-use lib.Dec.{ltb, eqb}
+use borrow.Author.Tests.{ltb-true, ltb-false, eq-eqb, ne-eqb}
+use lib.Dec.{ltb}
 use lib.ListN.{length, getD, drop, length-drop, drop-of-length-le}
-use lib.Seq.{drop-cons, drop-drop, getD-drop}
+use lib.Seq.{drop-cons, drop-drop}
 use Rattle.laws.proofs.Cases.{tested}
 use Rattle.laws.proofs.Lists.{drop-head}
 use Rattle.text.specs.Digits.{worth, valueFrom}
 use Rattle.text.specs.Reading.{runOf}
 use Rattle.text.proofs.Digits.{worth-below, worth-figure, worth-between, worth-letter, worth-above}
 use Rattle.text.proofs.Reading.{run-more, run-end, run-past}
-use Rattle.importing.specs.declared.lines.Shape.{Shape}
 use Rattle.importing.specs.declared.lines.Shape.the-variants as shape
 use Rattle.importing.specs.Lines.{isNumber, Line, line, broken, before, after, lineFrom, lineOn}
 use Rattle.importing.specs.inner.Places.{counted, shapeAt}

@@ -1,10 +1,10 @@
 -- A line of the shape is the export's line of its numbers, and that line is one of the shape. So numbers that stand at a place are read there, one after the other.
-use Prim.Native.Nat.{ℕ, zero, suc, _+_, _-_, _^_, _≤_, _<_}
+use Prim.Native.Nat.{ℕ, _+_, _^_, _≤_, _<_}
 use mathlib.Core.Path.{_≡_, refl, sym, ap, _∙_}
-use mathlib.Core.Bool.{Bool, true, false}
-use mathlib.Core.List.{List, [], _∷_, _++_, append-assoc, append-nil}
+use mathlib.Core.Bool.{false}
+use mathlib.Core.List.{List, [], _∷_, _++_, append-assoc}
 use native.Mathlib.Omega.{arith}
-use borrow.Author.Tests.{lt-ltb, le-ltb, le-leb, lt-leb, ltb-true, ltb-false, eq-eqb, eqb-true}
+use borrow.Author.Tests.{lt-ltb, le-ltb, ltb-true, ltb-false, eq-eqb, eqb-true}
 use lib.Dec.{ltb, eqb}
 use lib.ListN.{length, drop, length-append, length-drop}
 use lib.Seq.{append-snoc, drop-append-seam}
@@ -12,16 +12,14 @@ use Rattle.laws.proofs.Cases.{clash, tested}
 use Rattle.laws.proofs.Lists.{drop-after}
 use Rattle.text.specs.Digits.{worth, decimalOf, valueFrom}
 use Rattle.text.specs.Reading.{runOf, valueAt, decimalAt}
-use Rattle.text.specs.declared.Parsed.{Parsed}
 use Rattle.text.specs.declared.Parsed.the-variants as parsed
 use Rattle.text.proofs.Digits.{decimal-value}
-use Rattle.exporting.specs.Text.{comma, feed, afterCommas, lineOf}
-use Rattle.importing.specs.declared.numerals.Numeral.{Numeral}
+use Rattle.exporting.specs.Text.{feed, afterCommas, lineOf}
 use Rattle.importing.specs.declared.numerals.Numeral.the-variants as numeral
 use Rattle.importing.specs.Lines.{isNumber, Line, line, broken, before, after, lineFrom, lineOn}
 use Rattle.importing.specs.inner.Places.{limited, withinAt}
 use Rattle.importing.proofs.Shaping.{line-run, line-byte}
-use Rattle.importing.proofs.Decimals.{AllDigits, digits-last, decimal-is, decimal-number-is, run-number}
+use Rattle.importing.proofs.Decimals.{AllDigits, decimal-some, digits-last, decimal-is, decimal-number-is, run-number}
 use Rattle.importing.proofs.Within.{limited-low, limited-high, limited-is}
 
 -- ---- the export's line, number by number
@@ -117,6 +115,10 @@ line-back n [] rest =
 line-back n (m ∷ ms) rest =
     ap lineOn (line-comma n m ms rest) ∙ line-number n 44 (lineOf (m ∷ ms) ++ rest) refl
     ∙ rw (decimal-number-is n, decimal-value n, line-back m ms rest)
+
+pub line-inside : (s : List ℕ) (at n : ℕ) (ns rest : List ℕ) → drop at s ≡ lineOf (n ∷ ns) ++ rest → at < length s
+unfolding lineOf
+line-inside s at n ns rest e = omega (arith, length-drop at s, ap length e, length-append (lineOf (n ∷ ns)) rest, length-append (decimalOf n) (afterCommas ns ++ feed), decimal-some n)
 
 -- ---- a number that stands at a place
 

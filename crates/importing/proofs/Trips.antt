@@ -1,17 +1,16 @@
 -- There and back: a text that imports is the export's text of its roll, which keeps the reader's limits; and the text of every such roll imports as it.
-use Prim.Native.Nat.{ℕ, zero, suc, _+_, _-_, _≤_, _<_}
+use Prim.Native.Nat.{ℕ, zero, suc, _+_, _≤_}
 use mathlib.Core.Path.{_≡_, refl, sym, ap, _∙_}
-use mathlib.Core.Bool.{Bool, true, false, cond, _&&_, _||_}
+use mathlib.Core.Bool.{Bool, true, false, cond, _&&_}
 use mathlib.Core.List.{List, [], _∷_, _++_}
-use native.Mathlib.Numerals.{add-one}
 use native.Mathlib.Omega.{arith}
-use borrow.Author.Tests.{le-leb, le-ltb, eq-eqb, ne-eqb, leb-true, eqb-true}
+use borrow.Author.Tests.{le-leb, le-ltb, eq-eqb, leb-true, eqb-true}
 use lib.Dec.{leb, eqb}
 use lib.ListN.{length, getD, take, length-append}
-use lib.Seq.{take-append-seam, getD-append-seam, length-take-le}
+use lib.Seq.{take-append-seam, getD-append-seam}
 use Rattle.laws.specs.Total.{total}
-use Rattle.laws.specs.Placed.{placed, placedWhereFits}
-use Rattle.laws.proofs.Cases.{clash, tested, and-left, and-right, false-not-true}
+use Rattle.laws.specs.Placed.{placed}
+use Rattle.laws.proofs.Cases.{clash, tested, and-left, and-right}
 use Rattle.kind.specs.Limits.{mostTerms}
 use Rattle.kind.specs.Kinds.{kindOf, numberOf, ordersOf}
 use Rattle.kind.specs.declared.Kind.{Kind}
@@ -23,6 +22,7 @@ use Rattle.term.specs.Terms.{Term}
 use Rattle.roll.specs.Bytes.{rollBytes}
 use Rattle.number.specs.Numbers.{Bytes}
 use Rattle.roll.specs.Reading.{got, rollAt, Header, Roll}
+use Rattle.roll.proofs.Back.{roll-back}
 use Rattle.roll.proofs.Written.{roll-read}
 use Rattle.roll.specs.Fits.{CentresFit, TermFits, TermsFit, RollFits}
 use Rattle.exporting.specs.Text.{lineOf, headNumbers, termNumbers, termLines, textOf}
@@ -30,7 +30,7 @@ use Rattle.importing.specs.declared.Imported.the-variants as imported
 use Rattle.importing.specs.Lines.{Line, line, broken, lineFrom, lineOn}
 use Rattle.importing.specs.Import.{Judged, taken, refused, andThen, firstCount, otherCount, onLine, centresKeep, headKeeps, headAs, headOf, termKeeps, termOf, termsFrom, rollOf, importedOf, importedOut}
 use Rattle.importing.specs.Wrong.{HeadFits}
-use Rattle.importing.proofs.Standing.{Exported, line-reads, line-back}
+use Rattle.importing.proofs.Standing.{line-reads, line-back}
 use Rattle.importing.proofs.Keeping.{keeps-fits, fits-keeps}
 use Rattle.importing.proofs.FirstLines.{centres-fit, fit-centres, split-last}
 
@@ -252,3 +252,7 @@ same-bytes s r end out start bytes reads room =
 -- so a text that imports is the only one of its roll
 pub only-text : (s t : List ℕ) (r : Roll) → rollOf s ≡ taken r → rollOf t ≡ taken r → s ≡ t
 only-text s t r a b = import-export s r a .text ∙ sym (import-export t r b .text)
+
+-- import then export: the bytes written read as the roll whose text the text is
+pub same-text : (s : List ℕ) (r : Roll) → rollOf s ≡ taken r → (rollAt (bytesOfRoll r) ≡ got r (length (bytesOfRoll r))) × (s ≡ textOf r)
+same-text s r e = let t = import-export s r e in (roll-back r (t .fits), t .text)

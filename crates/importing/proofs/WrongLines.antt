@@ -19,8 +19,8 @@ use Rattle.roll.specs.Fits.{TermFits, TermsFit}
 use Rattle.exporting.specs.Text.{lineOf, headNumbers, termNumbers, termLines}
 use Rattle.importing.specs.Lines.{Line, line, broken, lineOn}
 use Rattle.importing.specs.Import.{Judged, taken, refused, andThen, firstCount, otherCount, onLine, headKeeps, headAs, headOf, termKeeps, termOf, termsFrom, rollOf}
-use Rattle.importing.specs.Wrong.{Begins, NoLine, HeadFits, WrongHead, WrongFirst, Unshaped, Missing, WrongTerm, WrongOther, WrongLater, FirstWrong}
-use Rattle.importing.proofs.Standing.{Exported, line-reads, line-back}
+use Rattle.importing.specs.Wrong.{Begins, NoLine, HeadFits, WrongOther, FirstWrong}
+use Rattle.importing.proofs.Standing.{line-reads, line-back}
 use Rattle.importing.proofs.Trips.{head-taken, head-fits, head-back, term-taken, term-back}
 
 -- ---- shape
@@ -62,6 +62,7 @@ line-refused {A} right s at judge r n none e = by (lineOn s) refl e
     count ns rest l false y e =
         let x = refused-number {A = A} 21 at r n e in
         inl (record { refusal = x .0; number = x .1; none = no-line-count right s ns rest none l y })
+
     by : (x : Line) → lineOn s ≡ x → onLine right x at judge ≡ refused r n → ShapeRefused right s at r n ⊎ LineRefused right s judge r n
     by (line ns rest) l e = count ns rest l (right (length ns)) refl e
     by broken l e =
@@ -115,6 +116,7 @@ term-number k l at (scale ∷ boys ∷ ps) r n e = by (termKeeps k l made) e
   where
     made : Term
     made = record { scale = scale; boys = boys; prefactors = ps }
+
     by : (b : Bool) → cond b (taken made) (refused 22 at) ≡ refused r n → (r ≡ 22) × (n ≡ at)
     by true e = absurd (clash (cc e))
     by false e = refused-number {A = Term} 22 at r n e
@@ -150,6 +152,7 @@ terms-wrong (suc left) k l at (b ∷ s) r n e =
         let y = term-taken k l at ns t is in
         wrong-after k l at left (b ∷ s) rest t r n (y .fits) (begins .text ∙ ap (λ (l : List ℕ). lineOf l ++ rest) (y .numbers)) (again rest r n x)
     later again ns rest t begins is (inr x) = absurd (clash (cc (x .2)))
+
     by : ((s : List ℕ) (r n : ℕ) → termsFrom k l (at + 1) left s ≡ refused r n → TermsWrong k l (at + 1) left s r n)
         → ShapeRefused otherCount (b ∷ s) at r n ⊎ LineRefused otherCount (b ∷ s) (λ ns rest. andThen (termOf k l at ns) (λ t. andThen (termsFrom k l (at + 1) left rest) (λ ts. taken (t ∷ ts)))) r n
         → TermsWrong k l at (suc left) (b ∷ s) r n
@@ -170,6 +173,7 @@ head-number (named.Is k) ns r n e = by (eqb (length ns) (ordersOf k + 1) && head
   where
     made : Header
     made = record { kind = k; orders = take (ordersOf k) ns; terms = getD ns (ordersOf k) 0 }
+
     by : (b : Bool) → cond b (taken made) (refused 22 1) ≡ refused r n → (r ≡ 22) × (n ≡ 1)
     by true e = absurd (clash (cc e))
     by false e = refused-number {A = Header} 22 1 r n e
@@ -189,8 +193,10 @@ first-wrong s r n e = by (line-refused firstCount s 1 judge r n refl e)
   where
     after : List ℕ → Header → Judged Roll
     after rest h = andThen (termsFrom (h .kind) (total (h .orders)) 2 (h .terms) rest) (λ ts. taken (record { kind = h .kind; orders = h .orders; terms = ts }))
+
     judge : List ℕ → List ℕ → Judged Roll
     judge ns rest = andThen (headOf ns) (after rest)
+
     later : (ns rest : List ℕ) (h : Header) → Begins firstCount s ns rest → headOf ns ≡ taken h
         → (termsFrom (h .kind) (total (h .orders)) 2 (h .terms) rest ≡ refused r n) ⊎ ((a : List Term) × (termsFrom (h .kind) (total (h .orders)) 2 (h .terms) rest ≡ taken a) × (_≡_ {A = Judged Roll} (taken (record { kind = h .kind; orders = h .orders; terms = a })) (refused r n)))
         → FirstWrong s r n
@@ -209,12 +215,14 @@ first-wrong s r n e = by (line-refused firstCount s 1 judge r n refl e)
           wrong = w .wrong;
         })
     later ns rest h begins is (inr x) = absurd (clash (cc (x .2)))
+
     judged : (ns rest : List ℕ) → Begins firstCount s ns rest → (headOf ns ≡ refused r n) ⊎ ((h : Header) × (headOf ns ≡ taken h) × (after rest h ≡ refused r n)) → FirstWrong s r n
     judged ns rest begins (inl y) =
         let z = first-number ns r n y in
         inl (z .1, inr (z .0, record { ns = ns; rest = rest; begins = begins; none = λ h f is. none-heads ns r n h y f is }))
     judged ns rest begins (inr y) =
         later ns rest (y .0) begins (y .1) (andThen-refused (termsFrom (y .0 .kind) (total (y .0 .orders)) 2 (y .0 .terms) rest) (λ ts. taken (record { kind = y .0 .kind; orders = y .0 .orders; terms = ts })) r n (y .2))
+
     by : ShapeRefused firstCount s 1 r n ⊎ LineRefused firstCount s judge r n → FirstWrong s r n
     by (inl x) = inl (x .number, inl (x .refusal, x .none))
     by (inr x) = judged (x .ns) (x .rest) (x .begins) (andThen-refused (headOf (x .ns)) (after (x .rest)) r n (x .judged))

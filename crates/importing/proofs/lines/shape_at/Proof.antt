@@ -1,6 +1,5 @@
 -- `shape_at` meets its contract: the numbers counted, and the line that is left, are the whole line. Assumes nothing.
 use Prim.Native.Nat.{_-_}
-use native.Mathlib.Omega.{arith}
 use borrow.Author.Needs.{needs}
 use lib.ListN.{length}
 use Rattle.importing.proofs.Shaping.{Counting, counting-first, counting-cut, counting-past, counting-not, counting-feed, counting-neither, counting-more}

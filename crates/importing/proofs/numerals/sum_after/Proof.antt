@@ -1,5 +1,5 @@
 -- `sum_after` meets its contract: after a third order the next centre begins. Assumes nothing.
-use Rattle.importing.proofs.Numbers.{sum-new, sum-more}
+use Rattle.roll.proofs.HeaderLaws.{sum-new, sum-more}
 use borrow.Author.Needs.{needs}
 use Rattle.importing.proofs.numerals.sum_after.Statement.{statement}
 use Rattle.importing.proofs.numerals.sum_after.Tie as tie
