@@ -90,7 +90,7 @@ termOf k l at (scale ∷ boys ∷ ps) =
 
 -- ---- lines
 
--- the lines from number `at` on, of which as many as are left are terms: a missing line counts as the next, and one too many is wrong
+-- the lines from number `at` on, of which as many as are left are terms: a missing line counts as the next, and one too many is wrong (D-119)
 unfoldable pub termsFrom : Kind → ℕ → ℕ → ℕ → List ℕ → Judged (List Term)
 termsFrom k l at zero [] = taken []
 termsFrom k l at zero (b ∷ s) = onLine otherCount (lineOn (b ∷ s)) at (λ ns rest. refused 22 at)
