@@ -67,3 +67,28 @@ long-digits = refl
 order-sum : rollOf (48 ∷ 44 ∷ 51 ∷ 44 ∷ 51 ∷ 44 ∷ 49 ∷ 44 ∷ 48 ∷ 44 ∷ 48 ∷ 44 ∷ 48 ∷ 44 ∷ 49 ∷ 10 ∷ 49 ∷ 44 ∷ 48 ∷ 10 ∷ []) ≡ refused 22 1
 unfolding rollOf lineFrom worth headKeeps termKeeps termsFrom total
 order-sum = refl
+
+-- more orders than the kind has
+orders-too-many : rollOf (48 ∷ 44 ∷ 48 ∷ 44 ∷ 48 ∷ 44 ∷ 48 ∷ 44 ∷ 48 ∷ 44 ∷ 48 ∷ 44 ∷ 48 ∷ 44 ∷ 49 ∷ 44 ∷ 48 ∷ 44 ∷ 48 ∷ 44 ∷ 48 ∷ 10 ∷ 49 ∷ 44 ∷ 48 ∷ 10 ∷ []) ≡ refused 22 1
+unfolding rollOf lineFrom worth headKeeps termKeeps termsFrom total
+orders-too-many = refl
+
+-- a prefactor more than L
+prefactors-too-many : rollOf (48 ∷ 44 ∷ 48 ∷ 44 ∷ 48 ∷ 44 ∷ 48 ∷ 44 ∷ 48 ∷ 44 ∷ 48 ∷ 44 ∷ 48 ∷ 44 ∷ 49 ∷ 10 ∷ 49 ∷ 44 ∷ 48 ∷ 44 ∷ 48 ∷ 10 ∷ []) ≡ refused 22 2
+unfolding rollOf lineFrom worth headKeeps termKeeps termsFrom total
+prefactors-too-many = refl
+
+-- a kind that has no name
+unknown-kind : rollOf (53 ∷ 44 ∷ 48 ∷ 44 ∷ 48 ∷ 44 ∷ 48 ∷ 44 ∷ 48 ∷ 44 ∷ 48 ∷ 44 ∷ 48 ∷ 44 ∷ 49 ∷ 10 ∷ 49 ∷ 44 ∷ 48 ∷ 10 ∷ []) ≡ refused 22 1
+unfolding rollOf lineFrom worth headKeeps termKeeps termsFrom total
+unknown-kind = refl
+
+-- an empty number
+empty-number : rollOf (48 ∷ 44 ∷ 44 ∷ 48 ∷ 44 ∷ 48 ∷ 44 ∷ 48 ∷ 44 ∷ 48 ∷ 44 ∷ 48 ∷ 44 ∷ 49 ∷ 10 ∷ 49 ∷ 44 ∷ 48 ∷ 10 ∷ []) ≡ refused 21 1
+unfolding rollOf lineFrom worth headKeeps termKeeps termsFrom total
+empty-number = refl
+
+-- numbers that are wrong in a line that is not of the shape
+shape-first : rollOf (48 ∷ 44 ∷ 48 ∷ 44 ∷ 48 ∷ 44 ∷ 48 ∷ 44 ∷ 48 ∷ 44 ∷ 48 ∷ 44 ∷ 48 ∷ 44 ∷ 49 ∷ 10 ∷ 48 ∷ 44 ∷ 57 ∷ 57 ∷ 44 ∷ 32 ∷ 49 ∷ 10 ∷ []) ≡ refused 21 2
+unfolding rollOf lineFrom worth headKeeps termKeeps termsFrom total
+shape-first = refl
