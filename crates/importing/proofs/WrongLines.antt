@@ -5,20 +5,23 @@ use mathlib.Core.Bool.{Bool, true, false, cond, _&&_, true≢false}
 use mathlib.Core.List.{List, [], _∷_, _++_, append-assoc}
 use mathlib.Core.Logic.{_⊎_, inl, inr}
 use native.Mathlib.Omega.{arith}
-use lib.Dec.{eqb}
+use borrow.Author.Tests.{lt-leb, ltb-true}
+use lib.Dec.{ltb, eqb}
 use lib.ListN.{length, getD, take}
 use Rattle.laws.specs.Total.{total}
-use Rattle.laws.proofs.Cases.{clash}
+use Rattle.laws.proofs.Cases.{clash, tested}
 use Rattle.kind.specs.Kinds.{kindOf, ordersOf}
 use Rattle.kind.specs.declared.Kind.{Kind}
 use Rattle.kind.specs.declared.Named.{Named}
 use Rattle.kind.specs.declared.Named.the-variants as named
 use Rattle.term.specs.Terms.{Term}
+use Rattle.roll.specs.Bytes.{rollBytes}
 use Rattle.roll.specs.Reading.{Header, Roll}
 use Rattle.roll.specs.Fits.{TermFits, TermsFit}
 use Rattle.exporting.specs.Text.{lineOf, headNumbers, termNumbers, termLines}
+use Rattle.importing.specs.declared.Imported.the-variants as imported
 use Rattle.importing.specs.Lines.{Line, line, broken, lineOn}
-use Rattle.importing.specs.Import.{Judged, taken, refused, andThen, firstCount, otherCount, onLine, headKeeps, headAs, headOf, termKeeps, termOf, termsFrom, rollOf}
+use Rattle.importing.specs.Import.{Judged, taken, refused, andThen, firstCount, otherCount, onLine, headKeeps, headAs, headOf, termKeeps, termOf, termsFrom, rollOf, answerOf, outOf, importedOf, importedOut}
 use Rattle.importing.specs.Wrong.{Begins, NoLine, HeadFits, WrongOther, FirstWrong}
 use Rattle.importing.proofs.Standing.{line-reads, line-back}
 use Rattle.importing.proofs.Trips.{head-taken, head-fits, head-back, term-taken, term-back}
@@ -226,3 +229,40 @@ first-wrong s r n e = by (line-refused firstCount s 1 judge r n refl e)
     by : ShapeRefused firstCount s 1 r n ⊎ LineRefused firstCount s judge r n → FirstWrong s r n
     by (inl x) = inl (x .number, inl (x .refusal, x .none))
     by (inr x) = judged (x .ns) (x .rest) (x .begins) (andThen-refused (headOf (x .ns)) (after (x .rest)) r n (x .judged))
+
+-- ---- the answer
+
+-- a refusal other than 5 and 6 tells the first line that is wrong
+pub told-wrong : (text out : List ℕ) (start r n : ℕ) → importedOf text out start ≡ imported.Refused r n → (r ≡ 5 → ⊥) → (r ≡ 6 → ⊥) → FirstWrong text r n
+unfolding importedOf
+told-wrong text out start r n e five six = by (rollOf text) refl e
+  where
+    by : (j : Judged Roll) → rollOf text ≡ j → answerOf j out start ≡ imported.Refused r n → FirstWrong text r n
+    by (refused x y) is e =
+        let a : x ≡ r = cc e in
+        let b : y ≡ n = cc e in
+        first-wrong text r n (is ∙ ap (λ (k : ℕ). refused k y) a ∙ ap (refused r) b)
+    by (taken z) is e =
+        let size = length (rollBytes (z .kind) (z .orders) (z .terms)) in
+        tested (ltb (length out) start)
+        (λ y. absurd (five (let g : imported.Refused 5 0 ≡ imported.Refused r n = rw y at e in sym (cc g))))
+        (λ y.
+        tested (ltb (length out) (start + size))
+        (λ x. absurd (six (let g : imported.Refused 6 0 ≡ imported.Refused r n = rw (y, x) at e in sym (cc g))))
+        (λ x. absurd (clash (let g : imported.Roll size (length (z .terms)) ≡ imported.Refused r n = rw (y, x) at e in cc g))))
+
+-- and no refusal changes a byte
+pub refused-kept : (text out : List ℕ) (start r n : ℕ) → importedOf text out start ≡ imported.Refused r n → importedOut text out start ≡ out
+unfolding importedOf importedOut
+refused-kept text out start r n e = by (rollOf text) e
+  where
+    by : (j : Judged Roll) → answerOf j out start ≡ imported.Refused r n → outOf j out start ≡ out
+    by (refused x y) e = refl
+    by (taken z) e =
+        let size = length (rollBytes (z .kind) (z .orders) (z .terms)) in
+        tested (ltb (length out) start)
+        (λ y. let beyond = ltb-true (length out) start y in rw (lt-leb (start + size) (length out) (omega arith)))
+        (λ y.
+        tested (ltb (length out) (start + size))
+        (λ x. rw (lt-leb (start + size) (length out) (ltb-true (length out) (start + size) x)))
+        (λ x. absurd (clash (let g : imported.Roll size (length (z .terms)) ≡ imported.Refused r n = rw (y, x) at e in cc g))))
