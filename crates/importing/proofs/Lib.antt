@@ -7,6 +7,7 @@ pub mod Laying
 pub mod Numbers
 pub mod Only
 pub mod Putting
+pub mod Refusals
 pub mod Shaping
 pub mod Standing
 pub mod Texts

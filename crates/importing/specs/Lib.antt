@@ -1,4 +1,5 @@
 pub mod Import
 pub mod Lines
+pub mod Telling
 pub mod Wrong
 pub mod inner

@@ -8,7 +8,10 @@ use crate::writing::put_roll;
 mod judge;
 mod lines;
 mod numerals;
+mod telling;
 mod writing;
+
+pub use telling::refusal_line;
 
 // The roll's length and its terms, or a refusal with its line.
 pub enum Imported {
