@@ -7,8 +7,11 @@ working_folder() {
     room=$(df -Pk /dev/shm 2>/dev/null | awk 'NR == 2 { print $4 }')
     free=$(awk '$1 == "MemAvailable:" { print $2 }' /proc/meminfo 2>/dev/null)
     if [ -w /dev/shm ] && [ "${room:-0}" -gt 8000000 ] && [ "${free:-0}" -gt 12000000 ]; then
-        mktemp -d /dev/shm/check.XXXXXX
+        folder=$(mktemp -d /dev/shm/check.XXXXXX)
     else
-        mktemp -d
+        folder=$(mktemp -d)
     fi
+    # rt runs the programs as another user, who has to reach a folder below
+    chmod 711 "$folder"
+    echo "$folder"
 }
