@@ -6,7 +6,7 @@
 working_folder() {
     room=$(df -Pk /dev/shm 2>/dev/null | awk 'NR == 2 { print $4 }')
     free=$(awk '$1 == "MemAvailable:" { print $2 }' /proc/meminfo 2>/dev/null)
-    if [ -w /dev/shm ] && [ "${room:-0}" -gt 8000000 ] && [ "${free:-0}" -gt 12000000 ]; then
+    if [ -w /dev/shm ] && [ "${room:-0}" -gt 8000000 ] && [ "${free:-0}" -gt 16000000 ]; then
         folder=$(mktemp -d /dev/shm/check.XXXXXX)
     else
         folder=$(mktemp -d)
