@@ -1,9 +1,30 @@
 // Answers the question language of docs/QUESTIONS.md: one line asks, one line answers.
 //
-// Questions come from standard input until it ends. `asking` reads lines and words and prints answers; `answering` has the shapes of questions and
-// the forms of answers (src/turns.rt), and calls the library.
+// Questions come from standard input until it ends. `turns` has the shapes of questions and the forms of answers, `questions`
+// calls the library.
 ghost use Prim.Native.Nat.{_<_};
-use asking::lines;
+
+mod answers;
+mod compares;
+mod expands;
+mod floats;
+mod forms;
+mod lent;
+mod lines;
+mod lists;
+mod matrices;
+mod moves;
+mod output;
+mod questions;
+mod rolls;
+mod salvages;
+mod shapes;
+mod shells;
+mod sums;
+mod turns;
+mod values;
+mod words;
+
 use lines::Found;
 use lines::State;
 
@@ -12,7 +33,7 @@ const AT_ONCE: usize = 65536;
 // A longest line, and room to read on.
 const INPUT: usize = lines::MOST_LINE + AT_ONCE;
 // The most floats that a question can have: those of I and D.
-const FLOATS: usize = answering::MOST_TENSOR + answering::MOST_MATRIX;
+const FLOATS: usize = matrices::MOST_TENSOR + matrices::MOST_MATRIX;
 
 // Reads and answers until the input ends. A proved loop has to end, so it counts down from a number that no run uses up (D-55).
 fn serve(input: &mut [u8], given: &mut [u8], floats: &mut [f64], lent: &mut [u8], out: &mut [u8]) {
@@ -21,7 +42,7 @@ fn serve(input: &mut [u8], given: &mut [u8], floats: &mut [f64], lent: &mut [u8]
     let mut turns = u64::MAX;
     while turns > 0 {
         s = lines::next(input, s);
-        used = answering::turn(input, s, given, floats, lent, out, used);
+        used = turns::turn(input, s, given, floats, lent, out, used);
         turns = left(s, turns);
     }
 }
@@ -44,8 +65,8 @@ fn input_bytes() -> [u8; INPUT] {
     [0; INPUT]
 }
 
-fn lent_bytes() -> [u8; answering::MOST] {
-    [0; answering::MOST]
+fn lent_bytes() -> [u8; lent::MOST] {
+    [0; lent::MOST]
 }
 
 fn given_floats() -> [f64; FLOATS] {
