@@ -5,7 +5,7 @@ use lib.Ieee.Scale.{finite}
 use contract.Lifetimes.{Lfts}
 use Rattle.kind.specs.declared.Kind.{Kind}
 use Rattle.kind.specs.Limits.{table_places}
-use Rattle.laws.proofs.Contract.{Alone, alone, Lent, ◌▸◌, end}
+use Rattle.laws.proofs.Contract.{Alone, alone, Shown, ◌▸◌, end}
 use Rattle.geometry.specs.declared.Centre.{Centre}
 use Rattle.geometry.specs.declared.Point.{Point}
 use Rattle.geometry.specs.Floats.{all_finite, in_places}
@@ -33,7 +33,7 @@ point-only c = alone (λ r p. p)
 pub finite-only : (x : Float) → let g = x ▸ end in Alone (λ r. Finite tt g r g) (finite x)
 finite-only x = alone (λ r p. p)
 
-pub all-finite-only : (κs : Lfts 1) (xs : Lent Float) → let g = xs ▸ end in Alone (λ r. AllFinite κs g r g) (all_finite xs.now)
+pub all-finite-only : (κs : Lfts 1) (xs : Shown Float) → let g = xs ▸ end in Alone (λ r. AllFinite κs g r g) (all_finite xs.now)
 all-finite-only κs xs = alone (λ r p. p)
 
 pub get-bi-center-only : (z1 z2 : Float) (r1 r2 : Point) → let g = z1 ▸ z2 ▸ r1 ▸ r2 ▸ end in Alone (λ r. GetBiCenter tt g r g) (bi_center z1 z2 r1 r2)
@@ -55,7 +55,7 @@ module _ (k : Kind) (a b c d : Centre) where
   pub exponents-above-zero-only : let g = k ▸ a ▸ b ▸ c ▸ d ▸ end in Alone (λ r. ExponentsAboveZero tt g r g) (exponents_above_zero k a b c d)
   exponents-above-zero-only = alone (λ r p. p)
 
-  pub geometry-finite-only : (κs : Lfts 1) (entries : Lent Float) →
+  pub geometry-finite-only : (κs : Lfts 1) (entries : Shown Float) →
       let g = k ▸ a ▸ b ▸ c ▸ d ▸ entries ▸ end in Alone (λ r. GeometryFinite κs g r g) (finite_with k a b c d entries.now)
   geometry-finite-only κs entries = alone (λ r p. p)
 

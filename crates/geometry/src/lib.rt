@@ -1,4 +1,6 @@
 // Centres, the geometry numbers of a pair and of two pairs, and the five prefactor tables.
+#![tactic(auto)]
+
 ghost use Rattle.std.specs.Prelude.{◌≡◌, [], ◌∷◌, ◌++◌};
 ghost use Rattle.std.specs.Float.Ieee.Scale.{finite};
 ghost use Rattle.kind.specs.Limits.{table_places};
@@ -15,7 +17,7 @@ mod tables;
 
 // Three coordinates, an exponent and a charge, kept together (D-43).
 #[repr(C)]
-#[derive(Drop)]
+#[derive(Clone, Copy)]
 pub struct Centre {
     pub x: f64,
     pub y: f64,
@@ -27,7 +29,7 @@ pub struct Centre {
 // The highest charge of a nucleus.
 pub const MOST_CHARGE: u32 = 118;
 
-#[derive(Drop)]
+#[derive(Clone, Copy)]
 pub struct Point {
     pub x: f64,
     pub y: f64,
@@ -35,14 +37,14 @@ pub struct Point {
 }
 
 // How a prefactor table comes back: as it is, or refused by a number.
-#[derive(Drop)]
+#[derive(Clone, Copy)]
 pub enum Tabled {
     Given,
     Refused(u8),
 }
 
 // A prefactor table by value, 0.0 in the places left; beside a refusal zeros.
-#[derive(Drop)]
+#[derive(Clone, Copy)]
 pub struct Table {
     pub found: Tabled,
     pub entries: [f64; Kind::TABLE],

@@ -138,7 +138,7 @@ pub(crate) fn moment_table(rp: Point, z: f64, a: Centre, b: Centre, c: Centre) -
 }
 
 // The geometry numbers that Coulomb's table is made of: of A with B, of C with D, and of both pairs.
-#[derive(Drop)]
+#[derive(Clone, Copy)]
 struct Pairs {
     rp: Point,
     rq: Point,

@@ -1,9 +1,11 @@
 // The five kinds of integral, and every limit of documents 01 and 02 under one name (D-42).
+#![tactic(auto)]
+
 ghost use Rattle.std.specs.Prelude.{◌≡◌};
 ghost use Rattle.kind.specs.Limits.{limits};
 ghost use Rattle.kind.specs.Kinds.{kind_of, number_of, orders_of, table_of, branches_of, most_l, most_prefactors, uses_boys};
 
-#[derive(Drop)]
+#[derive(Clone, Copy)]
 pub enum Kind {
     Overlap,
     Kinetic,
@@ -13,14 +15,14 @@ pub enum Kind {
 }
 
 // What a byte says as a kind.
-#[derive(Drop)]
+#[derive(Clone, Copy)]
 pub enum Named {
     Is(Kind),
     Unknown,
 }
 
 // The limits that are one for all kinds.
-#[derive(Drop)]
+#[derive(Clone, Copy)]
 pub struct Limits {
     pub order: usize,
     pub terms: u32,

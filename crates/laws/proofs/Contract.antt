@@ -2,7 +2,7 @@
 -- the answer and the parameters at exit. The laws of each crate's Only.antt speak of it.
 use mathlib.Core.Path.{◌≡◌, sym, ◌∙◌}
 use mathlib.Core.List.{List}
-use denote.Ref.{MutBor, at_last}
+use denote.Ref.{Bor, MutBor, at_last}
 
 -- the parameters in their order: `a ▸ b ▸ end`
 infixr 5 ◌▸◌
@@ -11,6 +11,10 @@ a ▸ b = (a, b)
 
 abbrev pub end : Unit {0}
 end = tt
+
+-- a slice or an array that is lent and only read: `s.now` is what it holds
+abbrev pub Shown : Type 0 → Type 0
+Shown X = Bor (List X)
 
 -- a slice or an array that is lent: `out.now` is what it holds at entry, `out then after` is the same slice at exit
 abbrev pub Lent : Type 0 → Type 0

@@ -1,1 +1,3 @@
 // No code: laws of lists, lent bytes and tests that every crate can use.
+
+#![tactic(auto)]

@@ -3,7 +3,7 @@ use Prim.Native.Nat.{ℕ}
 use mathlib.Core.List.{List}
 use contract.Lifetimes.{Lfts}
 use Rattle.laws.specs.Placed.{placed_where_fits}
-use Rattle.laws.proofs.Contract.{Alone, alone, Lent, ◌then◌, ◌▸◌, end}
+use Rattle.laws.proofs.Contract.{Alone, alone, Lent, Shown, ◌then◌, ◌▸◌, end}
 use Rattle.number.specs.declared.Number.{Number}
 use Rattle.number.specs.declared.Written.{Written}
 use Rattle.number.specs.Numbers.{one_byte, bytes_of, read_at, refusal_of, length_of, written_at}
@@ -20,7 +20,7 @@ wide-only x = alone (λ r p. p)
 pub one-byte-only : (n : ℕ) → let g = n ▸ end in Alone (λ r. OneByte tt g r g) (one_byte n)
 one-byte-only n = alone (λ r p. p)
 
-pub read_only : (κs : Lfts 1) (s : Lent ℕ) (at : ℕ) → let g = s ▸ at ▸ end in Alone (λ r. Read κs g r g) (read_at s.now at)
+pub read_only : (κs : Lfts 1) (s : Shown ℕ) (at : ℕ) → let g = s ▸ at ▸ end in Alone (λ r. Read κs g r g) (read_at s.now at)
 read_only κs s at = alone (λ r p. p)
 
 pub refusal-only : (n : Number) → let g = n ▸ end in Alone (λ r. RefusalOf tt g r g) (refusal_of n)

@@ -1,4 +1,6 @@
 // The seven-bit number of a roll: its reader, which tells why a number can't be read, and its writer.
+#![tactic(auto)]
+
 ghost use Rattle.std.specs.Prelude.{ℕ, ◌+◌, ◌<◌, ◌≤◌, ◌^◌, ◌≡◌, length, drop};
 ghost use Rattle.std.proofs.lemmas.List.Edits.{sets};
 ghost use Rattle.number.specs.Numbers.{group, one_byte, bytes_of, length_of, above, higher, read_at, refusal_of, WriteTold};
@@ -7,7 +9,7 @@ ghost use Rattle.number.specs.Numbers.{group, one_byte, bytes_of, length_of, abo
 const GROUP: u32 = 128;
 
 // What stands at a place: a number and the place after it, or why there is none.
-#[derive(Drop)]
+#[derive(Clone, Copy)]
 pub enum Number {
     Is(u32, usize),
     Ended,
@@ -16,7 +18,7 @@ pub enum Number {
 }
 
 // The place after what was written.
-#[derive(Drop)]
+#[derive(Clone, Copy)]
 pub enum Written {
     Next(usize),
     NoRoom,

@@ -2,14 +2,14 @@
 use Prim.Native.Nat.{ℕ, ◌+◌, ◌≤◌, ◌<◌}
 use native.Mathlib.Numerals.{add-one}
 use mathlib.Core.Path.{◌≡◌, refl, ap, sym, ◌∙◌}
-use mathlib.Core.List.{List, [], ◌∷◌, ◌++◌}
+use mathlib.Core.List.{List, [], ◌++◌}
 use lib.ListN.{length, get_or, drop, drop_of_length-le}
 use lib.Seq.{drop-cons}
 use Rattle.text.specs.declared.Written.{Written}
 use Rattle.text.specs.declared.Written.TheVariants.{To, NoRoom}
 use Rattle.text.specs.Digits.{decimal_of}
 use Rattle.text.specs.Writing.{WrittenTold}
-use Rattle.saying.specs.Said.{advanced, Said, piece_out, PieceTold, named_out, NamedTold, each_after, each_from, each_out, EachTold}
+use Rattle.saying.specs.Said.{advanced, Said, piece_out, PieceTold, named_out, NamedTold, each_after, each_from, EachTold}
 use Rattle.saying.proofs.SaidLaws.{advanced-kept, said-piece, said-nothing, said-both, Saying, saying-all, saying-more, saying-done}
 
 -- ---- what was said, within the room

@@ -1,6 +1,8 @@
 // A text said piece by piece into a lent buffer, as far as a room goes.
 //
 // The same functions measure a text and write it: lent no bytes, they only find out whether it has room (D-74).
+#![tactic(auto)]
+
 ghost use Rattle.std.specs.Prelude.{◌≡◌};
 ghost use Rattle.text.specs.Digits.{decimal_of};
 ghost use Rattle.saying.specs.Said.{advanced, PieceTold, NamedTold, EachTold};

@@ -1,6 +1,5 @@
 -- One answer alone meets each public contract of this crate, and it is the definition's.
 use Prim.Native.Nat.{ℕ}
-use mathlib.Core.Path.{◌≡◌}
 use mathlib.Core.List.{List}
 use contract.Lifetimes.{Lfts}
 use Rattle.laws.proofs.Contract.{Alone, alone, Lent, ◌then◌, ◌▸◌, end}

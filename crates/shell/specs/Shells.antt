@@ -1,5 +1,5 @@
 -- 01, "Shells": the triples of a shell, the pairs and quadruples that they make, and the answers.
-use Rattle.std.specs.Prelude.{ℕ, zero, suc, ◌+◌, ◌*◌, ◌-◌, ◌≡◌, cond, ◌||◌, ltb, length, get_or, drop, replicate}
+use Rattle.std.specs.Prelude.{ℕ, zero, suc, ◌+◌, ◌-◌, ◌≡◌, cond, ◌||◌, ltb, length, get_or, replicate}
 use mathlib.Core.List.{List, [], ◌∷◌, ◌++◌, map, flat_map, flatten}
 use Rattle.laws.specs.Placed.{placed_where_fits}
 use Rattle.kind.specs.Limits.{most_order, request_orders}

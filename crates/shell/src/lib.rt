@@ -1,4 +1,6 @@
 // Shell lists: the triples of a shell as bytes, and a pair's or a quadruple's component by its number.
+#![tactic(auto)]
+
 ghost use Rattle.std.specs.Prelude.{◌+◌, ◌*◌, ◌-◌, ◌≤◌, ◌<◌, ◌≡◌, ◌||◌, ltb, length, get_or};
 ghost use mathlib.Core.List.{[], ◌++◌, flatten};
 ghost use Rattle.std.proofs.lemmas.List.Edits.{sets};
@@ -9,33 +11,33 @@ ghost use Rattle.shell.specs.inner.Rows.{triple_orders, pair_orders, row_of, row
 use kind::Kind;
 
 // The list's length in bytes and its triples (D-31).
-#[derive(Drop)]
+#[derive(Clone, Copy)]
 pub enum Listed {
     Bytes(usize, u32),
     Refused(u8),
 }
 
-#[derive(Drop)]
+#[derive(Clone, Copy)]
 pub enum Sought {
     Component,
     Refused(u8),
 }
 
 // The orders of a component stand by shell, zeros after them and beside a refusal (D-36).
-#[derive(Drop)]
+#[derive(Clone, Copy)]
 pub struct Component {
     pub found: Sought,
     pub orders: [u8; Kind::ORDERS],
 }
 
-#[derive(Drop)]
+#[derive(Clone, Copy)]
 struct Triple {
     x: u8,
     y: u8,
     z: u8,
 }
 
-#[derive(Drop)]
+#[derive(Clone, Copy)]
 struct Pair {
     first: Triple,
     second: Triple,

@@ -1,5 +1,5 @@
 -- A term: its scale, its Boys order and its prefactors in listed order.
-use Rattle.std.specs.Prelude.{ℕ, ◌-◌, Bool, ◌&&◌, List, [], ◌++◌, eqb, length, replicate}
+use Rattle.std.specs.Prelude.{ℕ, ◌-◌, Bool, ◌&&◌, List, ◌++◌, eqb, length, replicate}
 use Rattle.laws.specs.Same.{same_numbers}
 use Rattle.kind.specs.Limits.{most_l·any}
 use Rattle.term.specs.declared.Term.{Term as Held}

@@ -1,11 +1,13 @@
 // A term of a list: what steps give, what a roll stores and what a sum adds up.
+#![tactic(auto)]
+
 ghost use Rattle.std.specs.Prelude.{◌≡◌};
 ghost use Rattle.term.specs.Terms.{no_term};
 
 use kind::Kind;
 
 // The prefactors are the first `count` places; zeros stand after them.
-#[derive(Drop)]
+#[derive(Clone, Copy)]
 pub struct Term {
     pub scale: u32,
     pub boys: u8,

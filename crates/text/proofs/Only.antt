@@ -3,7 +3,7 @@ use Prim.Native.Nat.{ℕ}
 use mathlib.Core.List.{List}
 use contract.Lifetimes.{Lfts}
 use Rattle.laws.specs.Placed.{placed_where_fits}
-use Rattle.laws.proofs.Contract.{Alone, alone, Lent, ◌then◌, ◌▸◌, end}
+use Rattle.laws.proofs.Contract.{Alone, alone, Lent, Shown, ◌then◌, ◌▸◌, end}
 use Rattle.text.specs.declared.Written.{Written}
 use Rattle.text.specs.Digits.{decimal_of, hex_byte_of, hex_word_of, places_of}
 use Rattle.text.specs.Reading.{decimal_at, hex_at}
@@ -23,7 +23,7 @@ Told = Written × List ℕ
 abbrev told : List ℕ → ℕ → List ℕ → Told
 told before at text = (answered before at text, placed_where_fits before at text)
 
-module _ (κs : Lfts 2) (out : Lent ℕ) (at : ℕ) (bytes : Lent ℕ) where
+module _ (κs : Lfts 2) (out : Lent ℕ) (at : ℕ) (bytes : Shown ℕ) where
   pub put_only : Alone {A = Told} (λ x. Put κs (out ▸ at ▸ bytes ▸ end) x.0 (out then x.1 ▸ at ▸ bytes ▸ end)) (told out.now at bytes.now)
   put_only = alone (λ x p i. (p.answer i, p.out i))
 
@@ -37,7 +37,7 @@ module _ (κs : Lfts 1) (out : Lent ℕ) (at n : ℕ) where
   pub hex-word-only : Alone {A = Told} (λ x. HexWord κs (out ▸ at ▸ n ▸ end) x.0 (out then x.1 ▸ at ▸ n ▸ end)) (told out.now at (hex_word_of n))
   hex-word-only = alone (λ x p i. (p.answer i, p.out i))
 
-module _ (κs : Lfts 1) (s : Lent ℕ) (at : ℕ) where
+module _ (κs : Lfts 1) (s : Shown ℕ) (at : ℕ) where
   pub read-decimal-only : let g = s ▸ at ▸ end in Alone (λ r. ReadDecimal κs g r g) (decimal_at s.now at)
   read-decimal-only = alone (λ r p. p)
 

@@ -6,7 +6,7 @@ use native.Mathlib.Numerals.{add-one}
 use native.Mathlib.Omega.{arith}
 use mathlib.Core.Path.{◌≡◌, refl, ap, sym, ◌∙◌}
 use mathlib.Core.Bool.{Bool, true, false}
-use mathlib.Core.List.{List, [], ◌∷◌, ◌++◌}
+use mathlib.Core.List.{List, [], ◌∷◌}
 use borrow.Author.Tests.{le-leb, lt-leb, leb-true, leb-false}
 use lib.Dec.{leb}
 use lib.ListN.{length, get_or, drop, set, length-append, drop_of_length-le}
@@ -57,6 +57,7 @@ length_digits base (suc k) n = length-append (digits base k (n / base)) (glyph (
 
 spell-more : (out : List ℕ) (at i n base : ℕ) → 0 < i
     → sets (set out (at + (i - 1)) (glyph (n % base))) at (digits base (i - 1) (n / base)) ≡ sets out at (digits base i n)
+spell-more out at zero n base h = elim h [ ]
 spell-more out at (suc i) n base h =
     let e : suc i - 1 ≡ i = omega arith in
     rw e

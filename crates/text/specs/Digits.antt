@@ -1,5 +1,5 @@
 -- Digits in ASCII, and numbers as lists of them, the most significant first.
-use Rattle.std.specs.Prelude.{ℕ, zero, suc, ◌+◌, ◌-◌, ◌*◌, ◌/◌, ◌%◌, Bool, true, false, cond, List, [], ◌∷◌, ◌++◌, ltb, length}
+use Rattle.std.specs.Prelude.{ℕ, zero, suc, ◌+◌, ◌-◌, ◌*◌, ◌/◌, ◌%◌, true, false, cond, List, [], ◌∷◌, ◌++◌, ltb, length}
 
 -- a digit below sixteen: `0` to `9`, then `a` to `f`
 unfoldable pub glyph : ℕ → ℕ

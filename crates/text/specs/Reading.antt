@@ -1,5 +1,5 @@
 -- What a reader of numbers promises: programs read by it, and 01 says nothing of it.
-use Rattle.std.specs.Prelude.{ℕ, ◌+◌, ◌^◌, Bool, true, false, cond, ◌&&◌, List, [], ◌∷◌, ltb, leb, eqb, length, drop}
+use Rattle.std.specs.Prelude.{ℕ, ◌+◌, ◌^◌, true, false, cond, List, [], ◌∷◌, ltb, leb, eqb, length, drop}
 use Rattle.text.specs.declared.Parsed.{Parsed}
 use Rattle.text.specs.declared.Parsed.TheVariants.{Is, Not}
 use Rattle.text.specs.Digits.{worth, value_from, places_of}

@@ -1,6 +1,8 @@
 // Small text in lent buffers: bytes, decimal and hexadecimal numbers, written and read.
 //
 // A writer puts its whole text from a place on and tells the place after it, or finds no room and changes nothing.
+#![tactic(auto)]
+
 ghost use Rattle.std.specs.Prelude.{◌≡◌, ◌+◌, ◌≤◌, ◌<◌, length, drop, leb};
 ghost use Rattle.std.proofs.lemmas.List.Edits.{sets};
 ghost use Rattle.text.specs.Digits.{digits, decimal_of, hex_byte_of, hex_word_of, places_of};
@@ -9,14 +11,14 @@ ghost use Rattle.text.specs.Writing.{WrittenTold};
 ghost use Rattle.text.specs.Reading.{run_of, value_at, decimal_at, hex_at};
 
 // Where a text ends that was written.
-#[derive(Drop)]
+#[derive(Clone, Copy)]
 pub enum Written {
     To(usize),
     NoRoom,
 }
 
 // A number that was read, and the place after it.
-#[derive(Drop)]
+#[derive(Clone, Copy)]
 pub enum Parsed {
     Is(u64, usize),
     Not,

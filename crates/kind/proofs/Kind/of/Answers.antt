@@ -1,0 +1,21 @@
+-- `Kind::of` meets its contract: each arm is a row of `kind_of`. Assumes nothing.
+use Rattle.kind.proofs.KindNumber.{of_number, of_none}
+use Rattle.kind.proofs.Kind.of.Goals as goal
+
+pub returns-in-0 : goal.returns-in-0
+returns-in-0 c = search of_number
+
+pub returns-in-1 : goal.returns-in-1
+returns-in-1 c = search of_number
+
+pub returns-in-2 : goal.returns-in-2
+returns-in-2 c = search of_number
+
+pub returns-in-3 : goal.returns-in-3
+returns-in-3 c = search of_number
+
+pub returns-in-4 : goal.returns-in-4
+returns-in-4 c = search of_number
+
+pub returns-in_default : goal.returns-in_default
+returns-in_default c = search of_none

@@ -1,0 +1,12 @@
+-- `text::glyph` meets its contract by the test on ten. Assumes nothing.
+use borrow.Author.Tests.{lt-ltb, le-ltb}
+use Rattle.text.specs.Digits.{glyph as Digits·glyph}
+use Rattle.text.proofs.glyph.Goals as goal
+
+pub returns-then-d-lt10 : goal.returns-then-d-lt10
+unfolding Digits·glyph
+returns-then-d-lt10 c = simp (lt-ltb _ _ c.if-d-lt10.true)
+
+pub returns-else-d-lt10 : goal.returns-else-d-lt10
+unfolding Digits·glyph
+returns-else-d-lt10 c = simp (le-ltb _ _ c.if-d-lt10.false)
