@@ -1,20 +1,27 @@
 -- The histories are strictly ascending in dictionary order, so none stands twice.
-use Prim.Native.Nat.{ℕ}
-use mathlib.Core.Path.{◌≡◌, refl, sym, subst, subst₂}
+use Prim.Native.Nat.{ℕ, suc}
+use mathlib.Core.Path.{◌≡◌, refl, sym, ap, subst, subst₂}
 use mathlib.Core.Logic.{⊎_elim}
 use mathlib.Core.List.Memᴰ
 use mathlib.Core.List.{List, [], ◌∷◌, ◌++◌, Memᴰ}
 use native.Mathlib.Omega.{arith}
+use lib.ListN.{length}
 use Rattle.laws.specs.Total.{total}
 use Rattle.steps.specs.States.{State, Next, nexts}
-use Rattle.histories.specs.History.{in_turn, after, histories, Before, branches-lower, branches-alike, Ascending, no_more, and_then}
+use Rattle.histories.specs.History.{in_turn, after, histories, Before, ends-sooner, branches-lower, branches-alike, Ascending, no_more, and_then}
 use Rattle.histories.proofs.Walk.{histories-done, histories-more}
 use Rattle.histories.proofs.Demand.{Numbered, next-then, nexts-numbered, by-depth}
 
 -- nothing stands before itself
+before-same : (g h : List ℕ) → Before g h → g ≡ h → ⊥
+before-same (j ∷ g) [] x5 e = elim x5 [ ]
+before-same [] [] x4 e = elim x4 [ ]
+before-same [] (k ∷ h) ends-sooner e = let n : 0 ≡ suc (length h) = ap length e in omega arith
+before-same (j ∷ g) (k ∷ h) (branches-lower l) e = let s : j ≡ k = cc in omega arith
+before-same (j ∷ g) (k ∷ h) (branches-alike b) e = before-same g h b (cc)
+
 pub before-itself : (h : List ℕ) → Before h h → ⊥
-before-itself (k ∷ h) (branches-lower l) = omega arith
-before-itself (k ∷ h) (branches-alike b) = before-itself h b
+before-itself h b = before-same h h b refl
 
 -- a list in which each stands before all that follow holds none twice
 pub once : (h : List ℕ) (hs : List (List ℕ)) → Ascending (h ∷ hs) → Memᴰ h hs → ⊥
@@ -35,6 +42,7 @@ pub record Behind (n : Next) (hs : List (List ℕ)) (h : List ℕ) : Type 0 wher
   pub is : h ≡ n.number ∷ rest
 
 pub behind : (n : Next) (hs : List (List ℕ)) (h : List ℕ) → Memᴰ h (after n hs) → Behind n hs h
+behind n [] h x' = elim x' [ ]
 behind n (g ∷ hs) h (Memᴰ.head e) = record { rest = g; in_rest = Memᴰ.head refl; is = e }
 behind n (g ∷ hs) h (Memᴰ.tail m) =
     let b = behind n hs h m in

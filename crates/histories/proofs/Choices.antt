@@ -45,6 +45,7 @@ smallest-among left (c ∷ cs) d e = by-sum (sum_of left c) e (λ (f : (smallest
     by-sum (suc n) f ih = at_test n (ltb 0 (smallest left cs).sum) (ltb (smallest left cs).sum (suc n)) f ih
 
 two-own : (k : Kind) (d : CentreName) → own k A ≡ true → own k B ≡ true → Memᴰ d (A ∷ B ∷ []) → own k d ≡ true
+two-own k d p q (mathlib.Core.List.Memᴰ.tail (mathlib.Core.List.Memᴰ.tail x8)) = elim x8 [ ]
 two-own k d p q (Memᴰ.head e) = ap (own k) e ∙ p
 two-own k d p q (Memᴰ.tail (Memᴰ.head e)) = ap (own k) e ∙ q
 
@@ -56,6 +57,7 @@ chosen-own Nuclear left d e = two-own Nuclear d refl refl (smallest-among left (
 chosen-own Moment left d e = exhausted (smallest left (A ∷ B ∷ [])).fun refl e
   where
     operator-own : Memᴰ d (C ∷ []) → own Moment d ≡ true
+    operator-own (mathlib.Core.List.Memᴰ.tail x5) = elim x5 [ ]
     operator-own (Memᴰ.head f) = ap (own Moment) f
 
     exhausted : (v : Fun) → (smallest left (A ∷ B ∷ [])).fun ≡ v → once_exhausted v (smallest left (C ∷ [])).fun ≡ Lower d → own Moment d ≡ true

@@ -48,6 +48,7 @@ nexts-numbered s = on-fun (chosen s.kind s.left)
     on-fun (Lower c) = on-axis c (first_axis s.left c)
 
 led-back : (s : State) (ns : List Next) → Numbered ns → (n : Next) → Memᴰ n ns → led n.number s ns ≡ n.state
+led-back s [] _ n x3 = elim x3 [ ]
 led-back s (m ∷ ns) (next-then f r) n (Memᴰ.head e) =
     ap (λ (v : Bool). cond v m.state (led n.number s ns)) (eq-eqb n.number m.number (ap (λ (p : Next). p.number) e)) ∙ ap (λ (p : Next). p.state) (sym e)
 led-back s (m ∷ ns) (next-then f r) n (Memᴰ.tail i) =
@@ -58,6 +59,7 @@ led-back s (m ∷ ns) (next-then f r) n (Memᴰ.tail i) =
 module _ (P : State → Type 0) (done : (s : State) → total s.left ≡ 0 → P s)
     (more : (s : State) → (total s.left ≡ 0 → ⊥) → ((n : Next) → Memᴰ n (nexts s) → P n.state) → P s) where
   below : (d : ℕ) (s : State) → depth s < d → P s
+  below zero s h = elim h [ ]
   below (suc d) s h = by-test (eqb (total s.left) 0) refl (λ (n : Next) (m : Memᴰ n (nexts s)). below d n.state (let k = step_down s n m in omega arith))
     where
       by-test : (v : Bool) → eqb (total s.left) 0 ≡ v → ((n : Next) → Memᴰ n (nexts s) → P n.state) → P s

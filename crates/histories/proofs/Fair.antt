@@ -24,6 +24,7 @@ every f [] = true
 every f (x ∷ xs) = f x && every f xs
 
 every-at : {A : Type 0} (f : A → Bool) (l : List A) → every f l ≡ true → (x : A) → Memᴰ x l → f x ≡ true
+every-at f [] e x x4 = elim x4 [ ]
 every-at f (y ∷ l) e x (Memᴰ.head p) = ap f p ∙ and_left (f y) (every f l) e
 every-at f (y ∷ l) e x (Memᴰ.tail m) = every-at f l (and_right (f y) (every f l) e) x m
 
@@ -39,7 +40,7 @@ pub record Fair (request k : Kind) (c : CentreName) (b : Branch) : Type 0 where
   pub raises-boys : b.raises ≤ boys_step (uses_boys request)
   pub falls-apart : apart b.falls c ≡ true
   pub goes_down : stage (cond b.as-overlap Overlap k) < stage k + fallen b.falls
-  pub goes_on_lem : follows request (cond b.as-overlap Overlap k) ≡ true
+  pub goes_on : follows request (cond b.as-overlap Overlap k) ≡ true
 
 abbrev tests : Kind → Kind → CentreName → Branch → List Bool
 tests request k c b =
@@ -108,7 +109,7 @@ fair-is request k c b e =
       goes_down =
           ltb-true (stage (cond b.as-overlap Overlap k)) (stage k + fallen b.falls)
           (at (Memᴰ.tail (Memᴰ.tail (Memᴰ.tail (Memᴰ.tail (Memᴰ.tail (Memᴰ.head refl)))))));
-      goes_on_lem = at (Memᴰ.tail (Memᴰ.tail (Memᴰ.tail (Memᴰ.tail (Memᴰ.tail (Memᴰ.tail (Memᴰ.head refl)))))));
+      goes_on = at (Memᴰ.tail (Memᴰ.tail (Memᴰ.tail (Memᴰ.tail (Memᴰ.tail (Memᴰ.tail (Memᴰ.head refl)))))));
     }
   where
     at : {v : Bool} → Memᴰ v (tests request k c b) → v ≡ true

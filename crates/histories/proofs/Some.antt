@@ -275,6 +275,7 @@ some_next s u some = by-fun (chosen s.kind s.left) refl
 over-longer : (f : Next → List Term) (ns : List Next) (n : Next) → Memᴰ n ns → length (f n) ≤ length (in_turn f ns)
 unfolding in_turn
 over-longer f (m ∷ ns) n (Memᴰ.head e) = let h = length-append (f m) (in_turn f ns) in let g = ap (λ (p : Next). length (f p)) e in omega arith
+over-longer f [] n x' = elim x' [ ]
 over-longer f (m ∷ ns) n (Memᴰ.tail i) = let h = length-append (f m) (in_turn f ns) in let g = over-longer f ns n i in omega arith
 
 -- at least one term

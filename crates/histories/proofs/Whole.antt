@@ -13,11 +13,13 @@ use Rattle.histories.proofs.Ascends.{behind, under}
 
 into-after : (n : Next) (hs : List (List ℕ)) (h : List ℕ) → Memᴰ h hs → Memᴰ (n.number ∷ h) (after n hs)
 into-after n (g ∷ hs) h (Memᴰ.head e) = Memᴰ.head (ap (λ (l : List ℕ). n.number ∷ l) e)
+into-after n [] h x' = elim x' [ ]
 into-after n (g ∷ hs) h (Memᴰ.tail m) = Memᴰ.tail (into-after n hs h m)
 
 into-turn : {A : Type 0} (f : Next → List A) (ns : List Next) (n : Next) (y : A) → Memᴰ n ns → Memᴰ y (f n) → Memᴰ y (in_turn f ns)
 unfolding in_turn
 into-turn f (m ∷ ns) n y (Memᴰ.head e) i = Memᴰ.append_left (in_turn f ns) (subst (λ (p : Next). Memᴰ y (f p)) e i)
+into-turn {A = A} f [] n y x'' i = elim x'' [ ]
 into-turn f (m ∷ ns) n y (Memᴰ.tail j) i = Memᴰ.append_right (f m) (into-turn f ns n y j i)
 
 pub listed-is-complete : (s : State) (h : List ℕ) → Memᴰ h (histories s) → Complete s h

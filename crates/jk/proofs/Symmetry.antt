@@ -11,7 +11,7 @@ use Rattle.laws.proofs.Cases.{clash}
 use Rattle.geometry.specs.Floats.{◌⊕◌, ◌⊗◌, all_finite}
 use Rattle.jk.specs.declared.Matrix.TheVariants.{J, K}
 use Rattle.jk.specs.declared.Answer.TheVariants.{Done}
-use Rattle.jk.specs.Sums.{at2, at4, product, over_sigma, over_lambda, entry_of, matrix_of}
+use Rattle.jk.specs.Sums.{at2, product, over_sigma, over_lambda, entry_of, matrix_of}
 use Rattle.jk.specs.Outcome.{Outcome, outcome, refused, sized_of, summed_of, jk_of}
 use Rattle.jk.specs.Symmetry.{AlikeInFirstTwo, Symmetric}
 use Rattle.jk.proofs.Places.{entry_at}

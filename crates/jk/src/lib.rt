@@ -1,4 +1,6 @@
 // J and K from the integrals I and the density D, entry by entry, as JK_direct of basis.rs sums them.
+#![tactic(auto)]
+
 ghost use Rattle.std.specs.Prelude.{ℕ, ◌+◌, ◌*◌, ◌<◌, ◌≤◌, ◌≡◌, ◌&&◌, length, take, get_or};
 ghost use Rattle.std.specs.Float.{nan};
 ghost use Rattle.kind.specs.Limits.{most_size};
@@ -14,14 +16,14 @@ use kind::Kind;
 const ROOM: usize = Kind::MOST_SIZE * Kind::MOST_SIZE;
 
 // The matrix that is summed.
-#[derive(Drop)]
+#[derive(Clone, Copy)]
 enum Matrix {
     J,
     K,
 }
 
 // Both matrices are written, or a refusal leaves them as they were.
-#[derive(Drop)]
+#[derive(Clone, Copy)]
 pub enum Answer {
     Done,
     Refused(u8),

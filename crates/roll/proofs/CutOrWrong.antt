@@ -1,6 +1,6 @@
 -- 02, Q-5: cut or wrong? What may be concluded from refusal 14 and from 7, of the header (`open`) and of the whole roll (`check`), over the kind.
 -- A roll that reads, cut anywhere, is refused 14; what is refused 7 stays refused 7 at its place, whatever follows; and no roll begins another.
-use Prim.Native.Nat.{ℕ, zero, suc, zero-le, ◌+◌, ◌≤◌, ◌<◌}
+use Prim.Native.Nat.{ℕ, zero, suc, zero-le, ◌≤◌, ◌<◌}
 use mathlib.Core.Path.{◌≡◌, refl, sym, ap, ◌∙◌}
 use mathlib.Core.Bool.{Bool, true, false, cond}
 use mathlib.Core.List.{List, [], ◌∷◌, ◌++◌, append_assoc}
@@ -15,7 +15,7 @@ use Rattle.laws.specs.Total.{total}
 use Rattle.kind.specs.declared.Kind.{Kind}
 use Rattle.term.specs.Terms.{Term}
 use Rattle.number.specs.declared.Number.TheVariants as number
-use Rattle.number.specs.Numbers.{read_at, refusal_of}
+use Rattle.number.specs.Numbers.{refusal_of}
 use Rattle.number.proofs.Reading.{read_stays}
 use Rattle.roll.specs.declared.header.Opening.TheVariants as opening
 use Rattle.roll.specs.Reading.{Reading, got, refused, and_then, before, term_at, terms_at, Header, header_at, Roll, roll_at}

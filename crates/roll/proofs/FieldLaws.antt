@@ -2,15 +2,12 @@
 use Prim.Native.Nat.{ℕ, ◌+◌, ◌≤◌, ◌<◌}
 use mathlib.Core.Path.{◌≡◌, refl, sym, ap, ◌∙◌}
 use mathlib.Core.Bool.{Bool, true, false, true≢false, cond, ◌||◌}
-use mathlib.Core.List.{List, [], ◌∷◌}
+use mathlib.Core.List.{List}
 use native.Mathlib.Omega.{arith}
 use borrow.Author.Tests.{lt-ltb, le-ltb, ltb-true, ltb-false, leb-true}
 use lib.Dec.{ltb, leb}
 use lib.ListN.{length, get_or}
-use types.Run.{OneOf, miss}
-use denote.Enum.Declared.{tag_of}
 use Rattle.laws.proofs.Cases.{clash, or-false-both}
-use Rattle.number.specs.contracts.Number.{the_type}
 use Rattle.number.specs.declared.Number.{Number}
 use Rattle.number.specs.declared.Number.TheVariants as number
 use Rattle.number.specs.Numbers.{one_byte, read_at, refusal_of}
@@ -20,13 +17,13 @@ use Rattle.roll.specs.declared.field.Field.TheVariants as field
 use Rattle.roll.specs.Reading.{wrong_place, opened, within_at}
 use Rattle.roll.specs.inner.Over.{Quick}
 
-unread : (at low high : ℕ) (q : Number) (r : ℕ) → OneOf (1 ∷ 2 ∷ 3 ∷ []) (tag_of the_type q) → r ≡ refusal_of q → field.Refused r at ≡ opened q at low high
-unread at low high (number.Is n next) r one e = absurd (miss (1 ∷ 2 ∷ 3 ∷ []) 0 tt one)
+unread : (at low high : ℕ) (q : Number) (r : ℕ) → ((n next : ℕ) → q ≡ number.Is n next → ⊥) → r ≡ refusal_of q → field.Refused r at ≡ opened q at low high
+unread at low high (number.Is n next) r one e = absurd (one n next refl)
 unread at low high number.Ended r one e = ap (λ (k : ℕ). field.Refused k at) e
 unread at low high number.NotShortest r one e = ap (λ (k : ℕ). field.Refused k at) e
 unread at low high number.TooLarge r one e = ap (λ (k : ℕ). field.Refused k at) e
 
-pub within-unread : (s : List ℕ) (at low high : ℕ) (q : Number) (r : ℕ) → q ≡ read_at s at → OneOf (1 ∷ 2 ∷ 3 ∷ []) (tag_of the_type q) → r ≡ refusal_of q → field.Refused r at ≡ within_at s at low high
+pub within-unread : (s : List ℕ) (at low high : ℕ) (q : Number) (r : ℕ) → q ≡ read_at s at → ((n next : ℕ) → q ≡ number.Is n next → ⊥) → r ≡ refusal_of q → field.Refused r at ≡ within_at s at low high
 unfolding within_at
 within-unread s at low high q r is one e = unread at low high q r one e ∙ ap (λ (q : Number). opened q at low high) is
 
@@ -50,7 +47,7 @@ quick-not s at low high e = absurd (true≢false (sym e))
 pub quick-is : (s : List ℕ) (at low high b : ℕ) (t : Bool) → at < length s → b ≡ get_or s at 0 → t ≡ one_byte b → t ≡ true → low ≤ b → leb b high ≡ true → Quick s at low high
 quick-is s at low high b t inside is test small above below =
     let most = leb-true b high below in
-    record { inside = inside; one_byte_lem = ap one_byte (sym is) ∙ sym test ∙ small; above = rw (← is) above; below = rw (← is) most }
+    record { inside = inside; in_one_byte = ap one_byte (sym is) ∙ sym test ∙ small; above = rw (← is) above; below = rw (← is) most }
 
 pub quick-given : (s : List ℕ) (at low high : ℕ) (t : Bool) → (t ≡ true → Quick s at low high) → t ≡ true → Quick s at low high
 quick-given s at low high t is e = is e
@@ -58,7 +55,7 @@ quick-given s at low high t is e = is e
 pub quick-read : (s : List ℕ) (at low high b : ℕ) → Quick s at low high → b ≡ get_or s at 0 → field.Is b (at + 1) ≡ within_at s at low high
 quick-read s at low high b q is =
     ap (λ (n : ℕ). field.Is n (at + 1)) is
-    ∙ within-is s at low high (read_at s at) (get_or s at 0) (at + 1) refl (sym (read_one s at (get_or s at 0) q.inside refl (ltb-true (get_or s at 0) 128 q.one_byte))) q.above q.below
+    ∙ within-is s at low high (read_at s at) (get_or s at 0) (at + 1) refl (sym (read_one s at (get_or s at 0) q.inside refl (ltb-true (get_or s at 0) 128 q.in_one_byte))) q.above q.below
 
 -- a number that was taken keeps its limits, and stands there
 pub record Taken (s : List ℕ) (at low high n next : ℕ) : Type 0 where

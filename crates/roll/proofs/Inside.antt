@@ -16,7 +16,7 @@ use Rattle.laws.proofs.Cases.{clash}
 use Rattle.number.proofs.Reading.{read-inside}
 use Rattle.term.specs.Terms.{Term}
 use Rattle.laws.specs.Total.{total}
-use Rattle.roll.specs.Reading.{got, onward, and_then, before, within_at, prefactors_at, most_boys, count_at, boys_at, term_at, sum_after, orders_at, Header, counted_at, of_kind, header_at}
+use Rattle.roll.specs.Reading.{got, and_then, before, within_at, prefactors_at, most_boys, count_at, boys_at, term_at, sum_after, orders_at, Header, counted_at, of_kind, header_at}
 use Rattle.roll.proofs.FieldLaws.{Taken, taken}
 use Rattle.roll.proofs.Filling.{before-is, onward-is, and_then-is}
 use Rattle.roll.proofs.TermsLaws.{prefactors-length}

@@ -1,6 +1,6 @@
 -- Readings from a place on, for the place of a refusal: one that succeeds is settled by the bytes up to its end (`Kept`); one that is refused at a place
 -- is refused alike on all bytes that are the same up to there and have the same number there, and other bytes from there on mend it (`Broken`).
-use Prim.Native.Nat.{ℕ, ◌+◌, ◌-◌, ◌^◌, ◌≤◌, ◌<◌}
+use Prim.Native.Nat.{ℕ, ◌^◌, ◌≤◌, ◌<◌}
 use mathlib.Core.Path.{◌≡◌, refl, sym, ap, ◌∙◌}
 use mathlib.Core.Bool.{Bool, true, false, cond, ◌||◌}
 use mathlib.Core.List.{List, [], ◌++◌, append_assoc}

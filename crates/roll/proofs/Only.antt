@@ -2,7 +2,7 @@
 use Prim.Native.Nat.{ℕ}
 use contract.Lifetimes.{Lfts}
 use Rattle.kind.specs.declared.Kind.{Kind}
-use Rattle.laws.proofs.Contract.{Alone, alone, Lent, ◌▸◌, end}
+use Rattle.laws.proofs.Contract.{Alone, alone, Shown, ◌▸◌, end}
 use Rattle.roll.specs.declared.cursor.Cursor.{Cursor}
 use Rattle.roll.specs.Cursor.{no_cursor, step_of}
 use Rattle.roll.specs.Header.{refused_opened, open_kind_of, open_of, check_of}
@@ -30,7 +30,7 @@ refused-roll-only refusal place = alone (λ r p. p)
 pub most-boys-only : (k : Kind) (l : ℕ) → let g = k ▸ l ▸ end in Alone (λ r. MostBoys tt g r g) (most_boys k l)
 most-boys-only k l = alone (λ r p. p)
 
-module _ (κs : Lfts 1) (roll : Lent ℕ) where
+module _ (κs : Lfts 1) (roll : Shown ℕ) where
   pub within-only : (at low high : ℕ) → let g = roll ▸ at ▸ low ▸ high ▸ end in Alone (λ r. Within κs g r g) (within_at roll.now at low high)
   within-only at low high = alone (λ r p. p)
 

@@ -127,8 +127,8 @@ bytes-all (suc count) table s at p =
     let room = p.inside in
     let here : at < length s = omega arith in
     let small : get_or s at 0 ≤ table - 1 = p.small.each at (omega arith) (omega arith) in
-    let turn = byte-turn s at (table - 1) (get_or s at 0) here refl small p.one_byte in
-    let rest : OneByteEach s (at + 1) count (table - 1) = record { one_byte_lem = p.one_byte; inside = omega arith; small = record { each = λ i low high. p.small.each i (omega arith) (omega arith) } } in
+    let turn = byte-turn s at (table - 1) (get_or s at 0) here refl small p.in_one_byte in
+    let rest : OneByteEach s (at + 1) count (table - 1) = record { in_one_byte = p.in_one_byte; inside = omega arith; small = record { each = λ i low high. p.small.each i (omega arith) (omega arith) } } in
     let end : at + 1 + count ≡ at + suc count = omega arith in
     rw turn (drop-first (get_or s at 0) (prefactors_at s (at + 1) count table) ∙ bytes-all count table s (at + 1) rest ∙ ap (field.Is 0) end)
 
@@ -142,7 +142,7 @@ pub not-one-byte-each : (s : List ℕ) (at count last : ℕ) → false ≡ true 
 not-one-byte-each s at count last e = absurd (true≢false (sym e))
 
 pub one-byte-each-is : (s : List ℕ) (at count last : ℕ) (one t : Bool) → at ≤ length s → count ≤ length s - at → one ≡ one_byte last → one ≡ true → (t ≡ true → SmallBytes s at (at + count) last) → t ≡ true → OneByteEach s at count last
-one-byte-each-is s at count last one t here room test limit small e = record { one_byte_lem = sym test ∙ limit; inside = omega arith; small = small e }
+one-byte-each-is s at count last one t here room test limit small e = record { in_one_byte = sym test ∙ limit; inside = omega arith; small = small e }
 
 -- the loop over bytes
 pub record Looking (s : List ℕ) (at end last place : ℕ) : Type 0 where

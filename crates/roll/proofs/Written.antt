@@ -2,7 +2,7 @@
 use Prim.Native.Nat.{ℕ, zero, suc, ◌+◌, ◌-◌, ◌≤◌}
 use mathlib.Core.Path.{◌≡◌, refl, sym, ap, ◌∙◌}
 use mathlib.Core.Bool.{Bool, true, false, cond}
-use mathlib.Core.List.{List, [], ◌∷◌, ◌++◌, append_assoc}
+use mathlib.Core.List.{List, [], ◌∷◌, ◌++◌}
 use native.Mathlib.Omega.{arith}
 use borrow.Author.Tests.{eqb-true}
 use lib.Dec.{eqb}
@@ -20,7 +20,7 @@ use Rattle.number.proofs.Laws.{reads_only}
 use Rattle.term.specs.Terms.{Term}
 use Rattle.roll.specs.Bytes.{numbers_bytes, term_bytes, terms_bytes, roll_bytes}
 use Rattle.laws.specs.Total.{total}
-use Rattle.roll.specs.Reading.{got, refused, onward, and_then, before, within_at, prefactors_at, most_boys, term_at, terms_at, sum_after, orders_at, Header, header_at, Roll, roll_at}
+use Rattle.roll.specs.Reading.{got, refused, and_then, before, within_at, prefactors_at, most_boys, term_at, terms_at, sum_after, orders_at, Header, header_at, Roll, roll_at}
 use Rattle.roll.specs.Fits.{CentresFit, Below, TermFits, TermsFit, RollFits}
 use Rattle.roll.proofs.FieldLaws.{Taken, taken}
 use Rattle.roll.proofs.Filling.{before-is, onward-is, and_then-is}

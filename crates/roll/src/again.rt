@@ -5,14 +5,14 @@ ghost use Rattle.roll.specs.inner.Again.{seen_at, head_at, boys_at, end_at, Shor
 use number::{Number, one_byte, wide};
 
 // A number of a roll and the place after it.
-#[derive(Drop)]
+#[derive(Clone, Copy)]
 pub struct Seen {
     pub value: u32,
     pub next: usize,
 }
 
 // A term of a roll; its prefactors are the bytes from one place to another.
-#[derive(Drop)]
+#[derive(Clone, Copy)]
 pub struct Head {
     pub scale: u32,
     pub boys: u32,

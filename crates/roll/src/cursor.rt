@@ -9,7 +9,7 @@ use kind::{Kind, Named};
 use term::Term;
 
 // Where a reader of a roll stands.
-#[derive(Drop)]
+#[derive(Clone, Copy)]
 pub struct Cursor {
     pub place: usize,
     pub left: u32,
@@ -18,7 +18,7 @@ pub struct Cursor {
 }
 
 // What a step finds; a refusal has its number and place.
-#[derive(Drop)]
+#[derive(Clone, Copy)]
 pub enum Found {
     Term,
     End,
@@ -26,7 +26,7 @@ pub enum Found {
 }
 
 // The term and the cursor one term further on; zeros beside the end and beside a refusal.
-#[derive(Drop)]
+#[derive(Clone, Copy)]
 pub struct Step {
     pub found: Found,
     pub term: Term,

@@ -6,7 +6,7 @@ ghost use Rattle.roll.specs.inner.Over.{Quick};
 use number::{Number, one_byte, wide};
 
 // What was read and the place after it, or the refusal and its place.
-#[derive(Drop)]
+#[derive(Clone, Copy)]
 pub enum Field {
     Is(u32, usize),
     Refused(u8, usize),

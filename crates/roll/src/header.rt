@@ -10,14 +10,14 @@ use crate::field::{Field, within};
 use kind::{Kind, Named};
 
 // Whether a roll opens; a refusal has its number and place.
-#[derive(Drop)]
+#[derive(Clone, Copy)]
 pub enum Opening {
     Roll,
     Refused(u8, usize),
 }
 
 // A roll's orders and the cursor at its first term; zeros beside a refusal.
-#[derive(Drop)]
+#[derive(Clone, Copy)]
 pub struct Opened {
     pub found: Opening,
     pub cursor: Cursor,
@@ -25,7 +25,7 @@ pub struct Opened {
 }
 
 // A roll's orders, L where they were read, zeros after them and beside a refusal.
-#[derive(Drop)]
+#[derive(Clone, Copy)]
 struct ReadOrders {
     found: Field,
     values: [u8; Kind::ORDERS],

@@ -1,4 +1,6 @@
 // The roll: its header, the cursor over its terms, the judge of a whole roll, and the terms of a judged roll read again.
+#![tactic(auto)]
+
 mod again;
 mod cursor;
 mod field;

@@ -10,14 +10,14 @@ use kind::Kind;
 use term::Term;
 
 // A term's prefactors, zeros after them and beside a refusal.
-#[derive(Drop)]
+#[derive(Clone, Copy)]
 struct ReadPrefactors {
     found: Field,
     values: [u8; Kind::PREFACTORS],
 }
 
 // A term, zeros beside a refusal.
-#[derive(Drop)]
+#[derive(Clone, Copy)]
 pub(crate) struct ReadTerm {
     pub(crate) found: Field,
     pub(crate) term: Term,

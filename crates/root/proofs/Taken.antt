@@ -6,13 +6,13 @@ use native.Mathlib.Nat.{zero-mul, mul-le-mul_right}
 use native.Mathlib.Omega.{arith}
 use lib.Count.{count_leading_zeros}
 use lib.Dec.{T, ltb, ltb→lt, lt→ltb, nltb→le}
-use lib.Ieee.{Float, nan, inf, fin, binary64, up, down, below, units, lt, fits, of_bits, to_bits}
+use lib.Ieee.{Float, nan, inf, fin, binary64, up, down, units, lt, fits, of_bits, to_bits}
 use lib.Ieee.Bits.{is_true}
 use lib.Ieee.Positive.{positive}
 use Rattle.geometry.specs.Floats.{zero as 0·0}
 use Rattle.root.specs.declared.Part.{Part}
 use Rattle.root.specs.declared.Scaled.{Scaled}
-use Rattle.root.specs.Root.{units_in_one, in_units, square, whole_root, root_of}
+use Rattle.root.specs.Root.{units_in_one, in_units, whole_root, root_of}
 use Rattle.root.specs.inner.Digits.{hidden, infinite, RootTold, nearer, ZerosTold, bits_units, ScaledTold}
 use Rattle.root.proofs.Squares.{root-least, root-most, square-next}
 use Rattle.root.proofs.Parts.{even_power, odd_power}

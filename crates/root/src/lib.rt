@@ -1,4 +1,6 @@
 // The root of an f64, the nearest f64 to the exact root: by whole numbers of 64 bits, and without a loop (D-114).
+#![tactic(auto)]
+
 ghost use Rattle.std.specs.Prelude.{◌+◌, ◌-◌, ◌*◌, ◌^◌, ◌≤◌, ◌<◌, ◌≡◌};
 ghost use Rattle.root.specs.Root.{units_in_one, root_of, rooted_of};
 ghost use Rattle.root.specs.inner.Digits.{hidden, infinite, DigitTold, FurtherMay, WholeTold, RootTold, NearerTold, ZerosTold, bits_units, ScaledTold, BitsTold};
@@ -6,21 +8,21 @@ ghost use Rattle.root.specs.inner.Digits.{hidden, infinite, DigitTold, FurtherMa
 // The leading digit of a float, which its bits leave out.
 const HIDDEN: u64 = 0x10_0000_0000_0000;
 
-#[derive(Drop)]
+#[derive(Clone, Copy)]
 pub enum Rooted {
     Is(f64),
     Refused(u8),
 }
 
 // The root of a number so far, cut to a whole number, and what is left beside its square.
-#[derive(Drop)]
+#[derive(Clone, Copy)]
 struct Part {
     root: u64,
     rest: u64,
 }
 
 // A number as digits · 4^half.
-#[derive(Drop)]
+#[derive(Clone, Copy)]
 struct Scaled {
     digits: u64,
     half: u64,

@@ -22,6 +22,7 @@ length-nibbles (suc n) w = ap suc (length-nibbles n (w / 16))
 pub nibble-at : (n i w : ℕ) → i < n → get_or (nibbles n w) i 0 ≡ w / 16 ^ i % 16
 unfolding nibbles
 nibble-at (suc n) zero w h = ap (λ (k : ℕ). k % 16) (sym (div-one w))
+nibble-at zero i w h = elim h [ ]
 nibble-at (suc n) (suc i) w h =
     nibble-at n i (w / 16) (omega arith)
     ∙ ap (λ (k : ℕ). k % 16) (div-div-eq-div-mul w 16 (16 ^ i) ∙ ap (λ (k : ℕ). w / k) (mul_comm 16 (16 ^ i) ∙ sym (pow-suc 16 i)))

@@ -13,9 +13,7 @@ use Rattle.steps.specs.declared.CentreName.{CentreName}
 use Rattle.steps.specs.declared.CentreName.TheVariants.{A, B, C, D}
 use Rattle.steps.specs.declared.Axis.{Axis}
 use Rattle.steps.specs.declared.Axis.TheVariants.{X, Y, Z}
-use Rattle.steps.specs.declared.Fun.{Fun}
 use Rattle.steps.specs.declared.Fun.TheVariants as fun
-use Rattle.steps.specs.declared.AxisChoice.{AxisChoice}
 use Rattle.steps.specs.declared.AxisChoice.TheVariants as component
 use Rattle.steps.specs.declared.Best.{Best}
 use Rattle.steps.specs.Choice.{operator, centre_number, axis_number, order_of, sum_of, no_best, or_before, smallest, once_exhausted, chosen, first_axis}

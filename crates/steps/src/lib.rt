@@ -1,6 +1,8 @@
 // One step of the recurrences: which centre and axis are lowered, and what each branch does.
 // The orders left of a term are packed in a word, four bits each, A's x lowest.
 
+#![tactic(auto)]
+
 mod branches;
 mod choice;
 
@@ -13,7 +15,7 @@ pub use choice::{find_component_to_lower, find_fun_to_lower};
 use kind::Kind;
 
 // The operator of a moment stands in C's place.
-#[derive(Drop)]
+#[derive(Clone, Copy)]
 pub enum CentreName {
     A,
     B,
@@ -82,7 +84,7 @@ impl CentreName {
     }
 }
 
-#[derive(Drop)]
+#[derive(Clone, Copy)]
 pub enum Axis {
     X,
     Y,
@@ -102,21 +104,21 @@ impl Axis {
 }
 
 // What find_fun_to_lower finds (D-35).
-#[derive(Drop)]
+#[derive(Clone, Copy)]
 pub enum Fun {
     Lower(CentreName),
     Nothing,
 }
 
 // What find_component_to_lower finds.
-#[derive(Drop)]
+#[derive(Clone, Copy)]
 pub enum AxisChoice {
     Along(Axis),
     Nowhere,
 }
 
 // A centre with the sum of its orders, or none with 0.
-#[derive(Drop)]
+#[derive(Clone, Copy)]
 pub struct Best {
     pub fun: Fun,
     pub sum: u64,
@@ -125,7 +127,7 @@ pub struct Best {
 // A branch for the packed orders: what is taken from the word, the prefactor added, what the Boys order gains, and the
 // kind that the term goes on as. The two bytes stand side by side: a kind alone in a word of eight bytes is read by a load that is
 // wider than its store, which takes many times as long.
-#[derive(Drop)]
+#[derive(Clone, Copy)]
 pub struct Move {
     pub falls: u64,
     pub adds: u64,

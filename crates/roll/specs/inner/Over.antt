@@ -12,7 +12,7 @@ use Rattle.roll.specs.Header.{refused_opened}
 -- a number of one byte, within its limits
 pub record Quick (s : List ℕ) (at low high : ℕ) : Type 0 where
   pub inside : at < length s
-  pub one_byte_lem : one_byte (get_or s at 0) ≡ true
+  pub in_one_byte : one_byte (get_or s at 0) ≡ true
   pub above : low ≤ get_or s at 0
   pub below : get_or s at 0 ≤ high
 
@@ -22,7 +22,7 @@ pub record SmallBytes (s : List ℕ) (at end last : ℕ) : Type 0 where
 
 -- so many numbers of one byte each
 pub record OneByteEach (s : List ℕ) (at count last : ℕ) : Type 0 where
-  pub one_byte_lem : one_byte last ≡ true
+  pub in_one_byte : one_byte last ≡ true
   pub inside : at + count ≤ length s
   pub small : SmallBytes s at (at + count) last
 

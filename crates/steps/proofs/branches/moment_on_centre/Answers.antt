@@ -1,0 +1,22 @@
+-- `moment_on_centre` meets its contract.
+use native.Mathlib.Omega.{arith}
+use mathlib.Core.Path.{◌≡◌}
+use Rattle.steps.specs.inner.Packed.{move_in, fall_word}
+use Rattle.steps.proofs.BranchesLaws.{arm}
+use Rattle.steps.proofs.branches.moment_on_centre.Goals as goal
+
+pub returns-in-0 : goal.returns-in-0
+unfolding move_in fall_word
+returns-in-0 c = search arm
+
+pub returns-in-1 : goal.returns-in-1
+unfolding move_in fall_word
+returns-in-1 c = search arm
+
+pub returns-in-2 : goal.returns-in-2
+unfolding move_in fall_word
+returns-in-2 c = search arm
+
+pub returns-in_default : goal.returns-in_default
+unfolding move_in fall_word
+returns-in_default c = let h : c.args.number ≡ 3 = omega arith in search arm
