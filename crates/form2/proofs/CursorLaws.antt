@@ -24,7 +24,7 @@ use Rattle.roll.specs.declared.cursor.Cursor.{Cursor}
 use Rattle.roll.specs.declared.cursor.Found.TheVariants as found
 use Rattle.roll.specs.declared.field.Field.TheVariants as field
 use Rattle.roll.specs.Reading.{Reading, got, refused, most_boys}
-use Rattle.roll.specs.Cursor.{no_cursor, forged}
+use Rattle.roll.specs.Cursor.{no_cursor}
 use Rattle.roll.proofs.Back.{most-boys}
 use Rattle.roll.proofs.Filling.{Filled, filled_none, filled_more, taken_more}
 use Rattle.roll.proofs.TermsLaws.{few-prefactors, prefactors-length}

@@ -1,7 +1,7 @@
 -- 02, Q-7: cut or wrong, as for form 1. A form 2 roll that reads, cut anywhere, is refused 14; what is refused 7 stays refused 7 at its place, whatever
 -- follows; and no form 2 roll begins another.
-use Prim.Native.Nat.{ℕ, zero, suc, zero-le, ◌+◌, ◌≤◌, ◌<◌}
-use mathlib.Core.Path.{◌≡◌, refl, sym, ap, ◌∙◌}
+use Prim.Native.Nat.{ℕ, zero, suc, zero-le, ◌≤◌, ◌<◌}
+use mathlib.Core.Path.{◌≡◌, refl, ap, ◌∙◌}
 use mathlib.Core.Bool.{Bool, true, false, cond}
 use mathlib.Core.List.{List, [], ◌∷◌, ◌++◌}
 use native.Mathlib.Omega.{arith}
@@ -15,14 +15,13 @@ use Rattle.number.specs.declared.Number.TheVariants as number
 use Rattle.number.specs.Numbers.{refusal_of}
 use Rattle.term.specs.Terms.{Term}
 use Rattle.roll.specs.declared.header.Opening.TheVariants as opening
-use Rattle.roll.specs.declared.header.Opened.{Opened}
 use Rattle.roll.specs.Reading.{Reading, got, refused, and_then, before, Header, Roll}
 use Rattle.roll.specs.Header.{refused_opened, held_header}
 use Rattle.roll.proofs.Filling.{and_then-is}
 use Rattle.roll.proofs.Mending.{leads-inside, made_got}
 use Rattle.roll.proofs.CutOrWrong.{begins-alike, broken-stays, ends_stay, Ends, cut-ends, begins-shorter, kept-ends}
 use Rattle.form2.specs.Reading.{header_at2, term_after, terms_after, roll_at2}
-use Rattle.form2.specs.Header.{begun, open2_of, judged2, check2_of}
+use Rattle.form2.specs.Header.{begun, open2_of, check2_of}
 use Rattle.form2.proofs.Inside.{term-inside2}
 use Rattle.form2.proofs.Places.{term-kept2, header-kept2, header-broken2, roll-end2, place-inside2}
 use Rattle.form2.proofs.Checked.{beside, whole, refused-checked2, checked-reads2, checked-refused2}

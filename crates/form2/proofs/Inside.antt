@@ -1,6 +1,6 @@
 -- What a reading of a form 2 term or header has read, number by number; it ends inside the roll.
-use Prim.Native.Nat.{ℕ, zero, suc, ◌+◌, ◌-◌, ◌≤◌, ◌<◌}
-use mathlib.Core.Path.{◌≡◌, refl, sym, ap, ◌∙◌}
+use Prim.Native.Nat.{ℕ, zero, suc, ◌+◌, ◌-◌, ◌≤◌}
+use mathlib.Core.Path.{◌≡◌, refl, sym}
 use mathlib.Core.Bool.{Bool, true, false, cond}
 use mathlib.Core.List.{List, [], ◌∷◌, ◌++◌}
 use native.Mathlib.Omega.{arith}
@@ -18,7 +18,6 @@ use Rattle.roll.specs.Fits.{Below}
 use Rattle.roll.proofs.FieldLaws.{Taken, taken}
 use Rattle.roll.proofs.Filling.{before-is, onward-is, and_then-is}
 use Rattle.roll.proofs.Inside.{taken-inside, prefactors-inside, kind-read, orders-most}
-use Rattle.roll.proofs.TermsLaws.{prefactors-length}
 use Rattle.form2.specs.Bytes.{form_two}
 use Rattle.form2.specs.Reading.{header_at2, Front, further_count_at, shared_at, boys_at2, front_at, goes_on, further_at, term_after}
 use Rattle.form2.proofs.Sharing.{Parts}

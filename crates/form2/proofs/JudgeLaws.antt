@@ -26,7 +26,7 @@ use Rattle.roll.specs.declared.header.Opening.TheVariants as opening
 use Rattle.roll.specs.declared.header.Opened.{Opened}
 use Rattle.roll.specs.Bytes.{numbers_bytes, term_bytes, terms_bytes}
 use Rattle.roll.specs.Fits.{Below, TermFits}
-use Rattle.roll.specs.Reading.{Reading, got, refused, and_then, before, Header, Roll}
+use Rattle.roll.specs.Reading.{Reading, got, refused, and_then, before, Header}
 use Rattle.roll.specs.Header.{refused_opened, held_header, judged}
 use Rattle.roll.specs.inner.Judged.{Honest}
 use Rattle.roll.proofs.TermsLaws.{few-prefactors}

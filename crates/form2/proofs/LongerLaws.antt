@@ -27,7 +27,7 @@ use Rattle.roll.specs.declared.header.Opening.TheVariants as opening
 use Rattle.roll.specs.declared.header.Opened.{Opened}
 use Rattle.roll.specs.Bytes.{numbers_bytes, term_bytes, terms_bytes, roll_bytes}
 use Rattle.roll.specs.Fits.{TermFits}
-use Rattle.roll.specs.Reading.{Reading, got, refused, before, Header, Roll}
+use Rattle.roll.specs.Reading.{Reading, got, refused, Header, Roll}
 use Rattle.roll.specs.Header.{cursor_at, held_header}
 use Rattle.roll.specs.inner.Again.{between}
 use Rattle.roll.specs.inner.Judged.{terms_got}

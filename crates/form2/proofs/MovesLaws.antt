@@ -2,7 +2,7 @@
 use Prim.Native.Nat.{ℕ, ◌+◌, ◌-◌, ◌≤◌, ◌<◌}
 use mathlib.Core.Path.{◌≡◌, refl, sym, ap, ◌∙◌}
 use mathlib.Core.Bool.{Bool, true, false}
-use mathlib.Core.List.{List, [], ◌∷◌, ◌++◌, append_assoc}
+use mathlib.Core.List.{List, ◌∷◌, ◌++◌, append_assoc}
 use native.Mathlib.Omega.{arith}
 use borrow.Author.Tests.{lt-ltb, le-ltb, leb-true, leb-false}
 use borrow.Rule.Slice.PartMut.{put_mid}
@@ -19,9 +19,8 @@ use Rattle.roll.specs.Reading.{Reading, got, refused, Header, Roll}
 use Rattle.roll.specs.inner.Again.{between}
 use Rattle.roll.proofs.FieldLaws.{Taken}
 use Rattle.roll.proofs.Written.{HeadBytes}
-use Rattle.form2.specs.declared.moves.Moved.{Moved}
 use Rattle.form2.specs.declared.moves.Moved.TheVariants as moved
-use Rattle.form2.specs.Moves.{moved_into, moved_of, out_of, MoveTold}
+use Rattle.form2.specs.Moves.{moved_into, MoveTold}
 use Rattle.form2.specs.inner.Puts.{Put, bytes_in}
 
 -- ---- answers

@@ -2,7 +2,7 @@
 use Prim.Native.Nat.{ℕ}
 use mathlib.Core.List.{List}
 use contract.Lifetimes.{Lfts}
-use Rattle.laws.proofs.Contract.{Alone, alone, Lent, ◌▸◌, ◌then◌, end}
+use Rattle.laws.proofs.Contract.{Alone, alone, Lent, Shown, ◌▸◌, ◌then◌, end}
 use Rattle.roll.specs.Reading.{roll_at}
 use Rattle.form2.specs.declared.cursor.Cursor2.{Cursor2}
 use Rattle.form2.specs.declared.moves.Moved.{Moved}
@@ -19,7 +19,7 @@ use Rattle.form2.proofs.judge.check2.Reads.{Post as Check2}
 use Rattle.form2.proofs.longer.to_form1.Reads.{Post as ToForm1}
 use Rattle.form2.proofs.shorter.to_form2.Reads.{Post as ToForm2}
 
-module _ (κs : Lfts 1) (roll : Lent ℕ) where
+module _ (κs : Lfts 1) (roll : Shown ℕ) where
   pub next-only : (c : Cursor2) → let g = c ▸ roll ▸ end in Alone (λ r. Next κs g r g) (step2_of c roll.now)
   next-only c = alone (λ r p. p)
 
@@ -32,13 +32,13 @@ module _ (κs : Lfts 1) (roll : Lent ℕ) where
   pub check2-only : let g = roll ▸ end in Alone (λ r. Check2 κs g r g) (check2_of roll.now)
   check2-only = alone (λ r p. p)
 
-pub alike-only : (κs : Lfts 2) (a b : Lent ℕ) → let g = a ▸ b ▸ end in Alone (λ r. Alike κs g r g) (shared a.now b.now)
+pub alike-only : (κs : Lfts 2) (a b : Shown ℕ) → let g = a ▸ b ▸ end in Alone (λ r. Alike κs g r g) (shared a.now b.now)
 alike-only κs a b = alone (λ r p. p)
 
-pub to-form2-only : (κs : Lfts 2) (roll out : Lent ℕ) (start : ℕ) →
+pub to-form2-only : (κs : Lfts 2) (roll : Shown ℕ) (out : Lent ℕ) (start : ℕ) →
     Alone {A = Moved × List ℕ} (λ x. ToForm2 κs (roll ▸ out ▸ start ▸ end) x.0 (roll ▸ out then x.1 ▸ start ▸ end)) (moved_of in_form2 (roll_at roll.now) out.now start, out_of in_form2 (roll_at roll.now) out.now start)
 to-form2-only κs roll out start = alone (λ x p i. (p.answer i, p.bytes i))
 
-pub to-form1-only : (κs : Lfts 2) (roll out : Lent ℕ) (start : ℕ) →
+pub to-form1-only : (κs : Lfts 2) (roll : Shown ℕ) (out : Lent ℕ) (start : ℕ) →
     Alone {A = Moved × List ℕ} (λ x. ToForm1 κs (roll ▸ out ▸ start ▸ end) x.0 (roll ▸ out then x.1 ▸ start ▸ end)) (moved_of in_form1 (roll_at2 roll.now) out.now start, out_of in_form1 (roll_at2 roll.now) out.now start)
 to-form1-only κs roll out start = alone (λ x p i. (p.answer i, p.bytes i))

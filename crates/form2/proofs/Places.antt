@@ -1,5 +1,5 @@
 -- Each part of a form 2 roll is kept where it reads, and broken where it is refused (roll proofs/Mending.antt).
-use Prim.Native.Nat.{ℕ, zero, suc, zero-le, ◌+◌, ◌-◌, ◌≤◌, ◌<◌}
+use Prim.Native.Nat.{ℕ, zero, suc, zero-le, ◌+◌, ◌-◌, ◌≤◌}
 use mathlib.Core.Path.{◌≡◌, refl, sym, ap, ◌∙◌}
 use mathlib.Core.Bool.{Bool, true, false, cond}
 use mathlib.Core.List.{List, [], ◌∷◌, ◌++◌, append_assoc}
@@ -12,13 +12,11 @@ use Rattle.kind.specs.Limits.{most_scale, table_places}
 use Rattle.kind.specs.Kinds.{kind_of, number_of, table_of, most_l, most_prefactors}
 use Rattle.kind.specs.declared.Kind.{Kind}
 use Rattle.kind.specs.declared.Kind.TheVariants.{Overlap, Kinetic, Nuclear, Moment, Coulomb}
-use Rattle.kind.specs.declared.Named.{Named}
 use Rattle.kind.proofs.Within.{table-within}
 use Rattle.laws.proofs.Cases.{clash}
 use Rattle.laws.specs.Total.{total}
 use Rattle.number.specs.declared.Number.{Number}
-use Rattle.number.specs.declared.Number.TheVariants as number
-use Rattle.number.specs.Numbers.{bytes_of, read_at}
+use Rattle.number.specs.Numbers.{bytes_of}
 use Rattle.term.specs.Terms.{Term}
 use Rattle.roll.specs.declared.field.Field.{Field}
 use Rattle.roll.specs.declared.field.Field.TheVariants as field
@@ -28,7 +26,7 @@ use Rattle.roll.specs.Places.{here}
 use Rattle.roll.proofs.FieldLaws.{taken}
 use Rattle.roll.proofs.Filling.{and_then-is}
 use Rattle.roll.proofs.Back.{field_back}
-use Rattle.roll.proofs.Mending.{Alike, leads-inside, Kept, Broken, Some, kept-made, broken-made, some-made, some_number, some-field, broken-then, broken-number, kept-onward, broken-onward, kept_second, broken-first, broken-second, made_got, made-refused, kept-got, some-got, Cut, Long, made_ends, second-ends}
+use Rattle.roll.proofs.Mending.{leads-inside, Kept, Broken, Some, kept-made, broken-made, some-made, some_number, some-field, broken-then, broken-number, kept-onward, broken-onward, kept_second, broken-first, broken-second, made_got, made-refused, kept-got, some-got, Cut, Long, made_ends, second-ends}
 use Rattle.roll.proofs.Places.{prefactors-kept, prefactors-some, prefactors-broken, kind-kept, kind-some, kind-broken, known}
 use Rattle.form2.specs.Bytes.{form_two, terms_bytes2}
 use Rattle.form2.specs.Reading.{header_at2, Front, further_count_at, shared_at, boys_at2, front_at, goes_on, further_at, term_after, terms_after, roll_at2}

@@ -12,7 +12,7 @@ use lib.Dec.{ltb, leb, eqb}
 use lib.ListN.{length, get_or, set, take, drop, length-drop}
 use lib.Seq.{sets, take-suc, take_all, length-take-le, drop-cons, get_or-take, get_or-drop}
 use Rattle.kind.specs.Limits.{most_l·any, most_scale}
-use Rattle.kind.specs.Kinds.{table_of, most_l, most_prefactors}
+use Rattle.kind.specs.Kinds.{table_of, most_prefactors}
 use Rattle.kind.specs.declared.Kind.{Kind}
 use Rattle.kind.proofs.Within.{l-within}
 use Rattle.laws.proofs.Lists.{sets-append}
@@ -20,7 +20,7 @@ use Rattle.number.proofs.Reading.{read_one}
 use Rattle.number.specs.declared.Number.TheVariants as number
 use Rattle.roll.specs.declared.field.Field.{Field}
 use Rattle.roll.specs.declared.field.Field.TheVariants as field
-use Rattle.roll.specs.Reading.{got, before, within_at, prefactors_at, most_boys}
+use Rattle.roll.specs.Reading.{got, within_at, prefactors_at, most_boys}
 use Rattle.roll.specs.inner.Again.{between}
 use Rattle.roll.specs.inner.Over.{SmallBytes}
 use Rattle.roll.proofs.Back.{most-boys}

@@ -1,23 +1,22 @@
 -- Stepping a form 2 cursor from the header to its end gives the terms that judging the whole roll reads.
-use Prim.Native.Nat.{ℕ, zero, suc, ◌-◌, ◌≤◌, ◌<◌}
+use Prim.Native.Nat.{ℕ, zero, suc, ◌-◌, ◌≤◌}
 use mathlib.Core.Path.{◌≡◌, refl, sym, ap, ◌∙◌}
-use mathlib.Core.Bool.{Bool, true, false, cond, ◌||◌}
-use mathlib.Core.List.{List, [], ◌∷◌, ◌++◌}
+use mathlib.Core.Bool.{Bool, true, false, cond}
+use mathlib.Core.List.{List, [], ◌∷◌}
 use native.Mathlib.Omega.{arith}
 use borrow.Author.Tests.{eq-eqb, ne_eqb, le-ltb, lt-leb}
-use lib.Dec.{eqb, ltb, leb}
-use lib.ListN.{length, take, replicate}
+use lib.Dec.{eqb}
+use lib.ListN.{length, replicate}
 use lib.Seq.{take-append_seam}
 use Rattle.kind.specs.Limits.{most_l·any}
 use Rattle.kind.specs.Kinds.{table_of, most_l, most_prefactors}
 use Rattle.kind.specs.declared.Kind.{Kind}
 use Rattle.kind.specs.declared.Named.{Named}
 use Rattle.kind.proofs.KindNumber.{kind-number}
-use Rattle.laws.proofs.Cases.{clash}
 use Rattle.laws.specs.Total.{total}
 use Rattle.term.specs.Terms.{Term, held}
 use Rattle.roll.specs.Fits.{Below}
-use Rattle.roll.specs.Reading.{Reading, got, refused, and_then, before, Header}
+use Rattle.roll.specs.Reading.{Reading, got, refused, before, Header}
 use Rattle.roll.specs.Cursor.{gathering, held_terms}
 use Rattle.roll.specs.Header.{cursor_at}
 use Rattle.roll.specs.inner.Judged.{Honest}

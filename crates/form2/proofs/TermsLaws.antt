@@ -12,7 +12,7 @@ use lib.Dec.{ltb, eqb}
 use lib.ListN.{length, get_or, set, take, drop, length-append, length-take, drop_of_length-le, take-append-drop}
 use lib.Seq.{sets, drop-cons, get_or-take, length-take-le, take-take, sets-eq}
 use Rattle.kind.specs.Limits.{most_l·any, most_scale}
-use Rattle.kind.specs.Kinds.{table_of, most_l, most_prefactors}
+use Rattle.kind.specs.Kinds.{table_of, most_prefactors}
 use Rattle.kind.specs.declared.Kind.{Kind}
 use Rattle.kind.proofs.Within.{some-entries, table-within}
 use Rattle.laws.proofs.Cases.{clash}

@@ -1,15 +1,15 @@
 -- A form 2 roll that reads is the writing of what it says, and keeps the limits: number by number, from the front.
-use Prim.Native.Nat.{ℕ, zero, suc, zero-le, ◌+◌, ◌-◌, ◌≤◌, ◌<◌}
+use Prim.Native.Nat.{ℕ, zero, suc, zero-le, ◌+◌, ◌-◌, ◌≤◌}
 use mathlib.Core.Path.{◌≡◌, refl, sym, ap, ◌∙◌}
 use mathlib.Core.Bool.{Bool, true, false, cond}
-use mathlib.Core.List.{List, [], ◌∷◌, ◌++◌, append_assoc}
+use mathlib.Core.List.{List, [], ◌∷◌, ◌++◌}
 use native.Mathlib.Omega.{arith}
 use borrow.Author.Tests.{eqb-true}
 use lib.Dec.{eqb}
 use lib.ListN.{length, take, drop, length-append}
 use lib.Seq.{drop-length, length-take-le}
-use Rattle.kind.specs.Limits.{most_scale, most_terms}
-use Rattle.kind.specs.Kinds.{number_of, orders_of, table_of, most_prefactors}
+use Rattle.kind.specs.Limits.{most_scale}
+use Rattle.kind.specs.Kinds.{number_of, table_of, most_prefactors}
 use Rattle.kind.specs.declared.Kind.{Kind}
 use Rattle.kind.specs.declared.Kind.TheVariants.{Coulomb}
 use Rattle.kind.proofs.Within.{some-entries}
@@ -26,8 +26,8 @@ use Rattle.roll.proofs.JudgeLaws.{none_left}
 use Rattle.roll.proofs.TermsLaws.{prefactors-length}
 use Rattle.roll.proofs.Written.{taken-bytes, prefactors-bytes, head_bytes}
 use Rattle.form2.specs.Bytes.{form_two, shared, further_of, term_bytes2, terms_bytes2, roll_bytes2}
-use Rattle.form2.specs.Reading.{header_at2, Front, front_at, further_at, term_after, terms_after, roll_at2}
-use Rattle.form2.proofs.Sharing.{Parts, shared-is, further-is}
+use Rattle.form2.specs.Reading.{header_at2, term_after, terms_after, roll_at2}
+use Rattle.form2.proofs.Sharing.{shared-is, further-is}
 use Rattle.form2.proofs.Inside.{front_read, further-read, prefactors-below, term-read2, header-read2}
 
 -- ---- the term before

@@ -1,5 +1,5 @@
 -- 02, Q-7: what a form 2 roll says from a place on, and the first rule that it breaks, with the place. Numbers, limits, orders and term count are form 1's.
-use Rattle.std.specs.Prelude.{ℕ, zero, suc, ◌+◌, ◌-◌, Bool, true, false, cond, List, [], ◌∷◌, ◌++◌, eqb, length, take, drop}
+use Rattle.std.specs.Prelude.{ℕ, zero, suc, ◌+◌, ◌-◌, Bool, false, cond, List, [], ◌∷◌, ◌++◌, eqb, length, take, drop}
 use Rattle.laws.specs.Total.{total}
 use Rattle.kind.specs.Limits.{most_scale}
 use Rattle.kind.specs.Kinds.{kind_of, number_of, table_of, most_prefactors}

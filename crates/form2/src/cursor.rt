@@ -13,7 +13,7 @@ use roll::{Cursor, Field, Found, no_cursor};
 use term::Term;
 
 // Where a reader of a form 2 roll stands, and the prefactors of the term before: the first `count` places.
-#[derive(Drop)]
+#[derive(Clone, Copy)]
 pub struct Cursor2 {
     pub cursor: Cursor,
     pub count: u8,
@@ -21,7 +21,7 @@ pub struct Cursor2 {
 }
 
 // The term and the cursor one term further on; zeros beside the end and beside a refusal.
-#[derive(Drop)]
+#[derive(Clone, Copy)]
 pub struct Step2 {
     pub found: Found,
     pub term: Term,

@@ -27,7 +27,7 @@ pub fn is_form2(roll: &[u8]) -> bool
 }
 
 // A roll's orders and the cursor at its first term; zeros beside a refusal.
-#[derive(Drop)]
+#[derive(Clone, Copy)]
 pub struct Opened2 {
     pub found: Opening,
     pub cursor: Cursor2,

@@ -14,14 +14,14 @@ use kind::{Kind, Named};
 use roll::{Field, Opened, Opening, most_boys, refused_roll, within};
 
 // How many bytes terms take in form 1, or the first refusal.
-#[derive(Drop)]
+#[derive(Clone, Copy)]
 enum Size {
     Bytes(usize),
     Refused(u8, usize),
 }
 
 // The header's answer, and how many bytes its terms take in form 1.
-#[derive(Drop)]
+#[derive(Clone, Copy)]
 pub(crate) struct Sized {
     pub(crate) opened: Opened,
     pub(crate) size: usize,

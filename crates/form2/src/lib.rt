@@ -1,4 +1,6 @@
 // A roll of form 2, which says of each term what it does not share with the one before: its reader, and the moves between the two forms.
+#![tactic(auto)]
+
 mod beside;
 mod cursor;
 mod header;

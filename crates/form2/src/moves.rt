@@ -2,7 +2,7 @@
 ghost use Rattle.std.specs.Prelude.{◌+◌, ◌≡◌, leb};
 
 // The length and the term count of what was written, or a refusal; those of reading have a place.
-#[derive(Drop)]
+#[derive(Clone, Copy)]
 pub enum Moved {
     Roll(usize, u32),
     Refused(u8, usize),

@@ -11,7 +11,7 @@ use number::wide;
 use roll::{Field, most_boys, within};
 
 // A term's numbers before its further prefactors, and how many of these there are; zeros beside a refusal.
-#[derive(Drop)]
+#[derive(Clone, Copy)]
 pub(crate) struct ReadFront {
     pub(crate) found: Field,
     pub(crate) scale: u32,
@@ -20,7 +20,7 @@ pub(crate) struct ReadFront {
 }
 
 // A term's numbers and its prefactor count; zeros beside a refusal.
-#[derive(Drop)]
+#[derive(Clone, Copy)]
 pub(crate) struct ReadAfter {
     pub(crate) found: Field,
     pub(crate) scale: u32,

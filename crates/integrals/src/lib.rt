@@ -1,4 +1,6 @@
 // The five integrals over a roll: the checks in their order, then the sum.
+#![tactic(auto)]
+
 ghost use Rattle.std.specs.Prelude.{◌≡◌};
 ghost use Rattle.integrals.specs.Sums.{kinetic_start, factor_of, total_of};
 ghost use Rattle.integrals.specs.Values.{inputs_finite, boys_counted, result_of, value_of};
@@ -16,7 +18,7 @@ mod sums;
 pub use sums::{Terms, coulomb_term};
 
 // The integral, or a refusal's number and place (D-72).
-#[derive(Drop)]
+#[derive(Clone, Copy)]
 pub enum Value {
     Is(f64),
     Refused(u8, usize),

@@ -10,14 +10,14 @@ use number::wide;
 use roll::{Cursor, Head, boys_at, end_at, head_at};
 
 // The terms of a judged roll: their kind, and the cursor that stands before them.
-#[derive(Drop)]
+#[derive(Clone, Copy)]
 pub struct Terms {
     pub kind: Kind,
     pub cursor: Cursor,
 }
 
 // What a term adds to a sum in list order.
-#[derive(Drop)]
+#[derive(Clone, Copy)]
 enum Adds {
     Plain,
     Kinetic,

@@ -1,7 +1,7 @@
 -- A listing has at most five bytes for each byte of its roll: a number's decimal has two bytes less than that, which leaves room for
 -- what stands around it; and a roll that the listing takes has no term whose own number has more than five digits.
 -- So a buffer of five times the longest such roll takes every listing.
-use Prim.Native.Nat.{ℕ, suc, ◌+◌, ◌*◌, ◌-◌, ◌/◌, ◌^◌, ◌≤◌, ◌<◌}
+use Prim.Native.Nat.{ℕ, suc, ◌+◌, ◌*◌, ◌/◌, ◌^◌, ◌≤◌, ◌<◌}
 use native.Mathlib.Omega.{arith}
 use mathlib.Core.Path.{◌≡◌, ap}
 use mathlib.Core.List.{List, [], ◌∷◌, ◌++◌}

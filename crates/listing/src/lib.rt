@@ -1,6 +1,8 @@
 // A roll's listing and the line of a refusal, as text in a lent buffer.
 //
 // The same functions measure a text and write it: lent no bytes, they only find out whether it has room (D-74).
+#![tactic(auto)]
+
 ghost use Rattle.std.specs.Prelude.{◌≡◌, ◌≤◌, length};
 ghost use Rattle.roll.specs.inner.Held.{from_held};
 ghost use Rattle.roll.specs.inner.Judged.{Judged, left_of, Readable};
@@ -16,7 +18,7 @@ use term::Term;
 use text::Written;
 
 // The text's length, or a refusal with its place.
-#[derive(Drop)]
+#[derive(Clone, Copy)]
 pub enum Listed {
     Text(usize),
     Refused(u8, usize),
