@@ -16,7 +16,7 @@ use Rattle.integrals.specs.declared.Value.TheVariants.{Refused}
 use Rattle.integrals.specs.Values.{refused_unless, result_of}
 use Rattle.contracting.specs.Pairs.{Pair, Row, all_pairs, every}
 use Rattle.contracting.specs.Elements.{pair_geometry, pair_value, share_of, inner_from, inner_of, outer_from, element_of}
-use Rattle.contracting.specs.inner.Summed.{infinity, kept_value}
+use Rattle.contracting.specs.inner.Summed.{kept_value}
 use Rattle.contracting.proofs.EachPair.{every-both}
 
 -- ---- of one product or sum

@@ -79,6 +79,12 @@ not_none n e g h =
     lt_irrefl 0 (subst (λ (x : ℕ). 0 < x) (sym h ∙ ap (λ (y : ℕ). y * down g) (zero-mul (up e)) ∙ zero-mul (down g)) (mul-pos (mul-pos (zero-lt-suc n) (up_pos g)) (down_pos e)))
 
 unique : (f : Format) (x y : Float) (s : Bool) (a c : ℕ) → 0 < c → T (fits f x) → T (fits f y) → HasValue x s a c → HasValue y s a c → x ≡ y
+unique f (fin t (suc m) e) (inf _) s a c C p q v w = elim w [ ]
+unique f (fin t (suc m) e) nan s a c C p q v w = elim w [ ]
+unique f (fin t zero e) (inf _) s a c C p q v w = elim w [ ]
+unique f (fin t zero e) nan s a c C p q v w = elim w [ ]
+unique f (inf _) y s a c C p q v w = elim v [ ]
+unique f nan y s a c C p q v w = elim v [ ]
 unique f (fin t zero e) (fin u zero g) s a c C p q v w = λ i. fin ((v.0 ∙ sym w.0) i) zero ((zero_exp f t e p ∙ sym (zero_exp f u g q)) i)
 unique f (fin t zero e) (fin u (suc n) g) s a c C p q v w = absurd (not_none n e g (crossed (0 * up e) (suc n * up g) c a (down e) (down g) C v.1 w.1))
 unique f (fin t (suc m) e) (fin u zero g) s a c C p q v w = absurd (not_none m g e (crossed (0 * up g) (suc m * up e) c a (down g) (down e) C w.1 v.1))

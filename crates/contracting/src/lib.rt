@@ -1,4 +1,6 @@
 // Contracted overlap and kinetic elements: two functions of one to ten primitives each, over one roll.
+#![tactic(auto)]
+
 ghost use Rattle.std.specs.Prelude.{◌≤◌, ◌≡◌, true, ◌&&◌, take};
 ghost use Rattle.kind.specs.Kinds.{kind_of};
 ghost use Rattle.contracting.specs.Pairs.{most_primitives, counted, rows_from, every};
@@ -20,7 +22,7 @@ pub const MOST_PRIMITIVES: usize = 10;
 
 // A centre with its exponent, a norm and a coefficient.
 #[repr(C)]
-#[derive(Drop)]
+#[derive(Clone, Copy)]
 pub struct Primitive {
     pub centre: Centre,
     pub norm: f64,
@@ -29,7 +31,7 @@ pub struct Primitive {
 
 // A contracted function. What lies beyond the count is not looked at.
 #[repr(C)]
-#[derive(Drop)]
+#[derive(Clone, Copy)]
 pub struct Contracted {
     pub primitives: [Primitive; MOST_PRIMITIVES],
     pub count: u32,

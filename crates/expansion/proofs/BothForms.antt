@@ -9,8 +9,8 @@ use Rattle.laws.specs.Placed.{placed}
 use Rattle.kind.specs.declared.Kind.{Kind}
 use Rattle.kind.specs.declared.Named.TheVariants.{Is}
 use Rattle.kind.specs.Limits.{most_terms, request_orders}
-use Rattle.kind.specs.Kinds.{kind_of, orders_of}
-use Rattle.roll.specs.Reading.{got, roll_at, Roll}
+use Rattle.kind.specs.Kinds.{orders_of}
+use Rattle.roll.specs.Reading.{got, roll_at}
 use Rattle.form2.specs.Bytes.{roll_bytes2}
 use Rattle.form2.specs.Reading.{roll_at2}
 use Rattle.form2.proofs.Written.{roll-only2}

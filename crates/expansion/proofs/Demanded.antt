@@ -58,6 +58,7 @@ only-histories k orders hs of =
     (λ (h : List ℕ) (m : Memᴰ h (histories (start k orders))). of.every h (listed-is-complete (start k orders) h m))
 
 in_map : (f : List ℕ → Term) (hs : List (List ℕ)) (h : List ℕ) → Memᴰ h hs → Memᴰ (f h) (map f hs)
+in_map f [] h x' = elim x' [ ]
 in_map f (g ∷ hs) h (Memᴰ.head e) = Memᴰ.head (ap f e)
 in_map f (g ∷ hs) h (Memᴰ.tail m) = Memᴰ.tail (in_map f hs h m)
 

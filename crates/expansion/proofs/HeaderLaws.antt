@@ -44,7 +44,7 @@ use Rattle.expansion.proofs.SinkLaws.{place-in-all, out-in-all}
 pub record Sums (k : Kind) (os : List ℕ) : Type 0 where
   pub of-a : sum_of os A ≤ most_order
   pub of-b : sum_of os B ≤ most_order
-  pub of_c_lem : sum_of os C ≤ most_order
+  pub of_c : sum_of os C ≤ most_order
   pub of-d : sum_of os D ≤ most_order
   pub deep : stage k + total os ≤ most_l·any
 
@@ -68,7 +68,7 @@ module _ (os : List ℕ) (in-full : length os ≡ request_orders) where
       let c = total-three os 6 in
       let d = total-three os 9 in
       let l = none_after os in-full in
-      record { of-a = a; of-b = b; of_c_lem = omega arith; of-d = omega arith; deep = omega arith }
+      record { of-a = a; of-b = b; of_c = omega arith; of-d = omega arith; deep = omega arith }
 
   sums : (k : Kind) → too_high k os ≡ false → unused_set k os ≡ false → Sums k os
   sums Overlap e u = two-sums Overlap (omega arith) e u
@@ -84,7 +84,7 @@ module _ (os : List ℕ) (in-full : length os ≡ request_orders) where
       let r = ltb-false 0 (total (drop 9 os)) u in
       let d = total-three os 9 in
       let l = none_after os in-full in
-      record { of-a = a; of-b = b; of_c_lem = c; of-d = omega arith; deep = omega arith }
+      record { of-a = a; of-b = b; of_c = c; of-d = omega arith; deep = omega arith }
   sums Coulomb e u =
       let t = all-total in
       let q = or-false-both ((sum_of os A exceeds most_order || sum_of os B exceeds most_order) || sum_of os C exceeds most_order) (sum_of os D exceeds most_order) e in
@@ -94,7 +94,7 @@ module _ (os : List ℕ) (in-full : length os ≡ request_orders) where
       let b = ltb-false most_order (sum_of os B) n.1 in
       let c = ltb-false most_order (sum_of os C) m.1 in
       let d = ltb-false most_order (sum_of os D) q.1 in
-      record { of-a = a; of-b = b; of_c_lem = c; of-d = d; deep = omega arith }
+      record { of-a = a; of-b = b; of_c = c; of-d = d; deep = omega arith }
 
   small_at : (k : Kind) → Sums k os → (i : ℕ) → get_or os i 0 ≤ most_order
   small_at k s zero = let h = s.of-a in omega arith

@@ -3,7 +3,7 @@ use Prim.Native.Nat.{ℕ}
 use mathlib.Core.List.{List}
 use contract.Lifetimes.{Lfts}
 use Rattle.kind.specs.Kinds.{kind_of}
-use Rattle.laws.proofs.Contract.{Alone, alone, Lent, ◌then◌, ◌▸◌, end}
+use Rattle.laws.proofs.Contract.{Alone, alone, Lent, Shown, ◌then◌, ◌▸◌, end}
 use Rattle.expansion.specs.declared.Expanded.{Expanded}
 use Rattle.kind.specs.declared.Kind.{Kind}
 use Rattle.steps.specs.declared.CentreName.{CentreName}
@@ -43,7 +43,7 @@ too-high-only k orders = alone (λ r p. p)
 pub unused-set-only : (k : Kind) (orders : List ℕ) → let g = k ▸ orders ▸ end in Alone (λ r. UnusedSet tt g r g) (unused_set k orders)
 unused-set-only k orders = alone (λ r p. p)
 
-module _ (κs : Lfts 1) (kind : ℕ) (orders : List ℕ) (roll : Lent ℕ) where
+module _ (κs : Lfts 1) (kind : ℕ) (orders : List ℕ) (roll : Shown ℕ) where
   pub against-only : let g = kind ▸ orders ▸ roll ▸ end in Alone (λ r. Held κs g r g) (named_against roll_of (kind_of kind) orders roll.now)
   against-only = alone (λ r p. p)
 

@@ -1,5 +1,5 @@
 -- Whatever the expansion writes reads back as exactly its kind, orders and terms, in either form.
-use Prim.Native.Nat.{ℕ, suc, ◌+◌, ◌-◌, ◌≤◌, ◌<◌}
+use Prim.Native.Nat.{ℕ, suc, ◌+◌, ◌≤◌, ◌<◌}
 use mathlib.Core.Path.{◌≡◌, refl, sym, ap, subst, ◌∙◌}
 use mathlib.Core.Bool.{false}
 use mathlib.Core.List.{List, [], ◌∷◌, Memᴰ}
@@ -7,7 +7,7 @@ use native.Mathlib.Omega.{arith}
 use native.Mathlib.Numerals.{add-one}
 use borrow.Author.Tests.{ltb-false}
 use lib.ListN.{length, get_or, take, drop, take-append-drop}
-use lib.Seq.{drop-cons, get_or-drop}
+use lib.Seq.{drop-cons}
 use Rattle.kind.specs.declared.Kind.{Kind}
 use Rattle.kind.specs.declared.Kind.TheVariants.{Overlap, Kinetic, Nuclear, Moment, Coulomb}
 use Rattle.kind.specs.Kinds.{orders_of, table_of, most_prefactors, uses_boys}
@@ -16,7 +16,7 @@ use Rattle.term.specs.Terms.{Term}
 use Rattle.laws.specs.Total.{total}
 use Rattle.steps.specs.States.{start}
 use Rattle.histories.specs.History.{stage, depth}
-use Rattle.laws.proofs.Totals.{total-append, get_or-le-total}
+use Rattle.laws.proofs.Totals.{total-append}
 use Rattle.histories.proofs.Bounds.{terms-kept, scale-limit}
 use Rattle.histories.proofs.Some.{Unused, unused-zero, some-term}
 use Rattle.roll.specs.Reading.{got, roll_at, most_boys}

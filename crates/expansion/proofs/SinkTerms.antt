@@ -1,21 +1,19 @@
 -- A term taken by a sink, in each of the three ways.
 use Prim.Native.Nat.{ℕ, ◌+◌, ◌-◌, ◌^◌, ◌≤◌, ◌<◌}
-use mathlib.Core.Path.{◌≡◌, refl, sym, ap, ap₂, ◌∙◌}
-use mathlib.Core.Bool.{Bool, true, false, cond}
+use mathlib.Core.Path.{◌≡◌, sym, ap, ◌∙◌}
+use mathlib.Core.Bool.{Bool, cond}
 use mathlib.Core.List.{List, [], ◌∷◌}
 use native.Mathlib.Omega.{arith}
 use borrow.Author.Tests.{eq-eqb, ne_eqb}
-use lib.Dec.{eqb}
 use lib.ListN.{length, get_or}
 use lib.Seq.{sets}
-use Rattle.term.specs.Terms.{Term}
 use Rattle.number.specs.Numbers.{length_of}
 use Rattle.number.proofs.Writing.{length-few}
 use Rattle.roll.specs.Bytes.{term_bytes}
 use Rattle.form2.specs.Bytes.{shared, term_bytes2}
 use Rattle.expansion.specs.declared.Path.{Path}
 use Rattle.expansion.specs.inner.View.{path_prefactors, path_term, TermMay, Emitted}
-use Rattle.expansion.specs.inner.Sinks.{in_form1, size2, Sink, sink_of, form_bytes, stored_in, with_term, with_terms, end_of, Took, EmitMay, bytes_after, TermMay2}
+use Rattle.expansion.specs.inner.Sinks.{in_form1, size2, sink_of, form_bytes, stored_in, with_term, with_terms, end_of, Took, EmitMay, bytes_after, TermMay2}
 use Rattle.expansion.proofs.TermsWords.{length-prefactors}
 use Rattle.expansion.proofs.FurtherBytes.{after-length, shared-most, term-bytes2}
 

@@ -1,4 +1,6 @@
 // The expansion of a request: every complete history once, in dictionary order, as a roll of form 1 or form 2.
+#![tactic(auto)]
+
 mod further;
 mod header;
 mod holding;
@@ -24,7 +26,7 @@ use steps::{Axis, CentreName};
 
 // A term on its way: its prefactors stand in two words, five bits each, the last lowest; the first twelve move to `high`
 // when there are more (D-64).
-#[derive(Drop)]
+#[derive(Clone, Copy)]
 struct Path {
     scale: u64,
     boys: u64,
@@ -37,21 +39,21 @@ struct Path {
 const SINK: usize = 5;
 
 // A centre and an axis that are lowered.
-#[derive(Drop)]
+#[derive(Clone, Copy)]
 struct Lowered {
     centre: CentreName,
     axis: Axis,
 }
 
 // What a state lowers.
-#[derive(Drop)]
+#[derive(Clone, Copy)]
 enum Lowering {
     At(Lowered),
     Nothing,
 }
 
 // A state that a branch leads to.
-#[derive(Drop)]
+#[derive(Clone, Copy)]
 struct Child {
     kind: Kind,
     left: u64,
@@ -59,14 +61,14 @@ struct Child {
 }
 
 // Terms and their bytes, where the terms are not too many.
-#[derive(Drop)]
+#[derive(Clone, Copy)]
 enum Measured {
     Fits(u64, u64),
     Over,
 }
 
 // A roll's length and its term count, or a refusal.
-#[derive(Drop)]
+#[derive(Clone, Copy)]
 pub enum Expanded {
     Roll(usize, u32),
     Refused(u8),

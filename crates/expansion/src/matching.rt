@@ -13,7 +13,7 @@ use form2::alike;
 use kind::Kind;
 
 // Length and term count of a roll that is the same, the place of the first byte that differs, or a refusal.
-#[derive(Drop)]
+#[derive(Clone, Copy)]
 pub enum Against {
     Same(usize, u32),
     Differs(usize),
@@ -24,7 +24,7 @@ pub enum Against {
 pub(crate) const MATCH: usize = 6;
 
 // How many bytes are the same, of how many.
-#[derive(Drop)]
+#[derive(Clone, Copy)]
 struct Beside {
     same: usize,
     all: usize,

@@ -14,7 +14,6 @@ use Rattle.kind.specs.declared.Kind.TheVariants.{Coulomb}
 use Rattle.term.specs.declared.Term.{Term as Held}
 use Rattle.term.specs.Terms.{Term, held, no_term}
 use Rattle.roll.specs.declared.cursor.Cursor.{Cursor}
-use Rattle.roll.specs.declared.cursor.Found.{Found}
 use Rattle.roll.specs.declared.cursor.Found.TheVariants as found
 use Rattle.roll.specs.declared.cursor.Step.{Step}
 use Rattle.roll.specs.declared.field.Field.{Field}

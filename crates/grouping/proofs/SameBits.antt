@@ -3,7 +3,6 @@ use Prim.Native.Nat.{ℕ, ◌*◌, ◌<◌}
 use mathlib.Core.Path.{◌≡◌, refl}
 use mathlib.Core.Bool.{Bool, true, false, cond}
 use mathlib.Core.List.{List}
-use lib.Dec.{leb}
 use lib.Ieee.{Float}
 use lib.ListN.{length}
 use borrow.Author.Tests.{lt-leb}
@@ -11,7 +10,6 @@ use Rattle.laws.specs.Unless.{unless}
 use Rattle.kind.specs.declared.Kind.TheVariants.{Coulomb}
 use Rattle.geometry.specs.declared.Centre.{Centre}
 use Rattle.roll.specs.Reading.{Reading, got, refused, Roll, roll_at}
-use Rattle.integrals.specs.declared.Value.{Value}
 use Rattle.integrals.specs.declared.Value.TheVariants.{Refused}
 use Rattle.integrals.specs.Evaluation.{evaluate_of, refusal_of, of_roll as evaluated}
 use Rattle.grouping.specs.Evaluation.{entry_room, is_grouped, enough, of_roll}

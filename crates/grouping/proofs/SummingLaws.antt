@@ -16,13 +16,13 @@ use Rattle.number.specs.declared.Number.TheVariants.{Is}
 use Rattle.number.proofs.Laws.{reads-back-from}
 use Rattle.number.proofs.Reading.{read_one, read_more, higher-last, higher-more}
 use Rattle.term.specs.Terms.{Term}
-use Rattle.geometry.specs.Floats.{◌⊕◌, ◌⊗◌, zero as 0·0}
+use Rattle.geometry.specs.Floats.{◌⊕◌, ◌⊗◌}
 use Rattle.roll.specs.declared.again.Head.{Head}
 use Rattle.roll.specs.declared.again.Seen.{Seen}
 use Rattle.roll.specs.inner.Again.{seen_of, seen_at, head_at, head_term}
 use Rattle.roll.specs.Bytes.{term_bytes}
-use Rattle.roll.specs.Fits.{TermFits, TermsFit}
-use Rattle.roll.proofs.AgainLaws.{Same, term-again}
+use Rattle.roll.specs.Fits.{TermFits}
+use Rattle.roll.proofs.AgainLaws.{term-again}
 use Rattle.roll.proofs.Back.{term-back}
 use Rattle.integrals.specs.Sums.{boys_number, coulomb_of, sum_from, of_order, run_orders}
 use Rattle.integrals.specs.inner.Stored.{own_order_of}

@@ -1,4 +1,6 @@
 // The evaluation that is lent a grouping buffer: a Coulomb roll's terms are laid into it by Boys order and summed in one pass over it; and its terms by number.
+#![tactic(auto)]
+
 ghost use Rattle.std.specs.Prelude.{◌≡◌};
 ghost use Rattle.grouping.specs.Evaluation.{GroupedTold};
 ghost use Rattle.grouping.specs.inner.Grouped.{table_of, bars_of, factor_of, summed_of, GroupsMay, InGroupsTold, CursorMay, CursorTold};
@@ -21,7 +23,7 @@ pub use restoring::{Restored, grouped_term};
 pub const ENTRY: usize = 40;
 
 // The host's centres and aux.
-#[derive(Drop)]
+#[derive(Clone, Copy)]
 struct Given {
     a: Centre,
     b: Centre,

@@ -10,7 +10,7 @@ use roll::{Cursor, Field, Found, Step, within};
 use term::Term;
 
 // The term with a number; zeros beside a refusal, place 0 beside a term.
-#[derive(Drop)]
+#[derive(Clone, Copy)]
 pub struct Restored {
     pub refusal: u8,
     pub place: usize,
@@ -18,14 +18,14 @@ pub struct Restored {
 }
 
 // An entry: its number and the place after it, or the refusal and its place, zeros beside it.
-#[derive(Drop)]
+#[derive(Clone, Copy)]
 struct ReadEntry {
     found: Field,
     term: Term,
 }
 
 // What the entries so far leave: the last one's Boys order and number, and the term with the number asked once it came up.
-#[derive(Drop)]
+#[derive(Clone, Copy)]
 struct Passed {
     boys: u8,
     number: u32,

@@ -13,7 +13,7 @@ use mir.Val.{Val}
 use lib.Dec.{leb, eqb}
 use lib.Ieee.{Float}
 use lib.Ieee.Scale.{finite}
-use lib.ListN.{length, take, drop, get_or, drop_of_length-le, length-map}
+use lib.ListN.{length, take, drop, get_or, drop_of_length-le}
 use lib.Seq.{drop-cons, drop-drop, get_or-take, length-take-le}
 use Rattle.laws.proofs.Cases.{and-true-both}
 use Rattle.laws.proofs.Counting.{row_room}
@@ -52,7 +52,7 @@ use Rattle.nuclei.specs.contracts.Nuclei as nuclei-type
 
 -- the array has its 32 places
 pub centres-long : (n : Nuclei) (vs : List Val) → Held (row nuclei-type.the_type) n vs → length n.centres ≡ most_nuclei
-centres-long n vs p = sym (length-map n.centres _) ∙ p.1.1.0.1.0.1
+centres-long n vs p = p.1.1.0.1.0.1
 
 left-cons : (n : Nuclei) (i : ℕ) (d : Centre) → length n.centres ≡ most_nuclei → n.count ≤ most_nuclei → i < n.count → drop i (nuclei_of n) ≡ get_or n.centres i d ∷ drop (i + 1) (nuclei_of n)
 left-cons n i d long few more =

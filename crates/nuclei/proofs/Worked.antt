@@ -16,7 +16,6 @@ use Rattle.integrals.specs.declared.Value.TheVariants.{Refused}
 use Rattle.integrals.specs.Values.{refused_unless}
 use Rattle.geometry.specs.Checks.{whole, used, used_finite}
 use Rattle.geometry.specs.Floats.{all_finite}
-use Rattle.nuclei.specs.declared.Nuclei.{Nuclei}
 use Rattle.nuclei.specs.Nuclei.{every, list_kept, inputs_finite, list_of, of_roll, nuclear_of}
 
 -- a roll, the charge of every nucleus, the count, and the answer with an aux that is no number and no Boys numbers

@@ -1,4 +1,6 @@
 // A list of nuclei in one call: the roll is judged once, each check is made over all nuclei before the next, and the charged values are summed in list order.
+#![tactic(auto)]
+
 ghost use Rattle.std.specs.Prelude.{◌≤◌, ◌≡◌, length};
 ghost use Rattle.geometry.specs.Floats.{zero};
 ghost use Rattle.integrals.specs.inner.Stored.{again_from};
@@ -15,14 +17,14 @@ pub const MOST_NUCLEI: usize = 32;
 
 // A list of nuclei by value; what lies beyond the count is not looked at (D-107).
 #[repr(C)]
-#[derive(Drop)]
+#[derive(Clone, Copy)]
 pub struct Nuclei {
     pub centres: [Centre; MOST_NUCLEI],
     pub count: u32,
 }
 
 // What is asked of every nucleus before the next is asked of any.
-#[derive(Drop)]
+#[derive(Clone, Copy)]
 enum Asked {
     Charge,
     Floats,
@@ -81,7 +83,7 @@ fn inputs_finite(a: Centre, b: Centre, nuclei: Nuclei, aux: f64, boys: &[f64]) -
 }
 
 // A nucleus' charge times its value, unless a geometry number or an entry of its table is not finite.
-#[derive(Drop)]
+#[derive(Clone, Copy)]
 struct Product {
     kept: bool,
     value: f64,

@@ -1,0 +1,15 @@
+-- `put_number` meets its contract.
+use Rattle.expansion.proofs.TermsBytes.{number-inside, number-one, number-next, number-never}
+use Rattle.expansion.proofs.terms.put_number.Goals as goal
+
+pub bounds-out-at : goal.bounds-out-at
+bounds-out-at c = search number-inside
+
+pub returns-then-n-lt128 : goal.returns-then-n-lt128
+returns-then-n-lt128 c = search number-one
+
+pub returns-in-Next : goal.returns-in-Next
+returns-in-Next c = search number-next
+
+pub returns-in-NoRoom : goal.returns-in-NoRoom
+returns-in-NoRoom c = search number-never
