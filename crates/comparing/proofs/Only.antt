@@ -3,7 +3,7 @@ use Prim.Native.Nat.{ℕ}
 use mathlib.Core.List.{List}
 use contract.Lifetimes.{Lfts}
 use Rattle.laws.specs.Placed.{placed_where_fits}
-use Rattle.laws.proofs.Contract.{Alone, alone, Lent, ◌then◌, ◌▸◌, end}
+use Rattle.laws.proofs.Contract.{Alone, alone, Lent, Shown, ◌then◌, ◌▸◌, end}
 use Rattle.listing.specs.declared.Listed.{Listed}
 use Rattle.listing.specs.Answers.{text_at}
 use Rattle.comparing.specs.declared.differ.Compared.{Compared}
@@ -17,7 +17,7 @@ use Rattle.comparing.proofs.pair.Pair.next.Reads.{Post as Next}
 use Rattle.comparing.proofs.pieces.head.Reads.{Post as Head}
 use Rattle.comparing.proofs.pieces.line.Reads.{Post as Line}
 
-module _ (κs : Lfts 2) (left right : Lent ℕ) where
+module _ (κs : Lfts 2) (left right : Shown ℕ) where
   pub compare-only : let g = left ▸ right ▸ end in Alone (λ r. Compare κs g r g) (compared_of left.now right.now)
   compare-only = alone (λ r p. p)
 

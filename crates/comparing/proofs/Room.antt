@@ -18,7 +18,7 @@ use Rattle.comparing.specs.declared.differ.Outcome.TheVariants as outcome
 use Rattle.comparing.specs.declared.pair.Line.{Line}
 use Rattle.comparing.specs.declared.pair.Line.TheVariants as line
 use Rattle.comparing.specs.declared.pair.Met.{Met}
-use Rattle.comparing.specs.Text.{both, left, right, terms_word, both_word, left_word, right_word, left_end, right_end, count_line, pair_line, orders_line, reading_text, numbered_text, one_line, line_text, refused_text}
+use Rattle.comparing.specs.Text.{both, terms_word, both_word, left_word, right_word, left_end, right_end, count_line, pair_line, orders_line, reading_text, numbered_text, one_line, line_text, refused_text}
 use Rattle.comparing.specs.Answers.{used_of, head_of, head_as, compared_text, met_as, met_text, piece_room}
 
 -- ---- a number's decimal

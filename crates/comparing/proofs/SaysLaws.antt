@@ -25,7 +25,7 @@ use Rattle.comparing.specs.declared.differ.Outcome.{Outcome}
 use Rattle.comparing.specs.declared.differ.Outcome.TheVariants as outcome
 use Rattle.comparing.specs.declared.pair.Met.{Met}
 use Rattle.comparing.specs.declared.pair.Line.TheVariants as line
-use Rattle.comparing.specs.Text.{both, left, right, differ_word, orders_word, terms_word, bar, bar_blank, both_word, left_word, right_word, left_end, right_end, count_line, pair_line, orders_line, reading_text, numbered_text, one_line, line_text, refused_text}
+use Rattle.comparing.specs.Text.{both, differ_word, orders_word, terms_word, bar, bar_blank, both_word, left_word, right_word, left_end, right_end, count_line, pair_line, orders_line, reading_text, numbered_text, one_line, line_text, refused_text}
 use Rattle.comparing.specs.Answers.{used_of, head_of, head_as, compared_text, met_text}
 use Rattle.comparing.specs.inner.Sided.{shown}
 

@@ -1,11 +1,9 @@
 -- A line of the head is left out only where it has nothing to say: the kinds, the orders or the term counts are the same.
-use Prim.Native.Nat.{ℕ}
 use mathlib.Core.Path.{◌≡◌, sym, ap, ◌∙◌}
 use mathlib.Core.Bool.{false}
 use borrow.Author.Tests.{not-false, eqb-true}
 use lib.Dec.{eqb}
 use lib.ListN.{length}
-use Rattle.kind.specs.declared.Kind.{Kind}
 use Rattle.kind.specs.declared.Named.TheVariants.{Is}
 use Rattle.kind.specs.Kinds.{kind_of, number_of}
 use Rattle.kind.proofs.KindNumber.{kind-number}

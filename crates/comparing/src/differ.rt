@@ -13,7 +13,7 @@ use kind::{Kind, Named};
 use roll::Opening;
 
 // Whether both rolls read; a refusal has its number and place.
-#[derive(Drop)]
+#[derive(Clone, Copy)]
 pub enum Outcome {
     Rolls,
     RefusedLeft(u8, usize),
@@ -22,7 +22,7 @@ pub enum Outcome {
 
 // How many positions differ, whether kinds, orders and term counts differ, the orders of each side, and the pair at the first
 // terms, which has kinds and term counts; zeros beside a refusal.
-#[derive(Drop)]
+#[derive(Clone, Copy)]
 pub struct Compared {
     pub found: Outcome,
     pub differ: u32,

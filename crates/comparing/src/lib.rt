@@ -1,4 +1,6 @@
 // Two rolls beside each other: how many positions differ, and the text that says which, piece by piece.
+#![tactic(auto)]
+
 mod differ;
 mod pair;
 mod pieces;

@@ -10,7 +10,7 @@ use roll::{Found, no_cursor};
 use term::Term;
 
 // Where both readers stand, and the number of the position.
-#[derive(Drop)]
+#[derive(Clone, Copy)]
 pub struct Pair {
     pub left: Cursor2,
     pub right: Cursor2,
@@ -18,7 +18,7 @@ pub struct Pair {
 }
 
 // What a step finds: terms that differ, a term on one side only, the end, or a refusal with its number and place.
-#[derive(Drop)]
+#[derive(Clone, Copy)]
 pub enum Line {
     Both,
     Left,
@@ -29,7 +29,7 @@ pub enum Line {
 }
 
 // A position that differs, its terms, and where to go on; zeros beside the end and beside a refusal.
-#[derive(Drop)]
+#[derive(Clone, Copy)]
 pub struct Met {
     pub found: Line,
     pub number: u32,
@@ -39,7 +39,7 @@ pub struct Met {
 }
 
 // One position, and whether it has the same term on both sides.
-#[derive(Drop)]
+#[derive(Clone, Copy)]
 struct Turn {
     same: bool,
     met: Met,

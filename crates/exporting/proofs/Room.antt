@@ -1,11 +1,10 @@
 -- The longest text: each number of a line at its limit. So a buffer of that many bytes takes every export.
 use Prim.Native.Nat.{ℕ, suc, ◌+◌, ◌*◌, ◌≤◌}
-use native.Mathlib.Nat.{mul-le-mul}
 use native.Mathlib.Omega.{arith}
 use mathlib.Core.List.{List, [], ◌∷◌, ◌++◌}
 use mathlib.Core.Path.{◌≡◌}
 use lib.ListN.{length, length-append}
-use Rattle.kind.specs.Limits.{most_order, most_l·any, table_places}
+use Rattle.kind.specs.Limits.{most_order, table_places}
 use Rattle.kind.specs.Kinds.{number_of, orders_of, table_of, most_l}
 use Rattle.kind.specs.declared.Kind.{Kind}
 use Rattle.kind.specs.declared.Kind.TheVariants.{Overlap, Kinetic, Nuclear, Moment, Coulomb}
@@ -21,7 +20,7 @@ use Rattle.roll.proofs.Written.{roll-read}
 use Rattle.roll.proofs.Back.{most-boys}
 use Rattle.roll.proofs.TermsLaws.{few-prefactors}
 use Rattle.exporting.specs.Text.{comma, after_commas, line_of, head_numbers, term_numbers, term_lines, text_of}
-use Rattle.exporting.specs.Export.{most_first, most_line, most_text}
+use Rattle.exporting.specs.Export.{most_line, most_text}
 use Rattle.exporting.proofs.Lines.{commas-last}
 
 -- ---- rows

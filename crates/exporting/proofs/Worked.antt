@@ -1,7 +1,6 @@
 -- An export worked out by the definition, letter by letter: 01's roll of overlap Ax1 Bx1.
-use Prim.Native.Nat.{ℕ}
 use mathlib.Core.Path.{◌≡◌, refl}
-use mathlib.Core.List.{List, [], ◌∷◌, ◌++◌}
+use mathlib.Core.List.{[], ◌∷◌, ◌++◌}
 use Rattle.kind.specs.declared.Kind.TheVariants.{Overlap}
 use Rattle.text.specs.Digits.{glyph, decimal_of}
 use Rattle.roll.specs.Reading.{Roll}

@@ -1,6 +1,8 @@
 // A roll's export, lines of numbers with commas between them, as text in a lent buffer (02, Q-14).
 //
 // The same functions measure the text and write it, as the listing's do (D-74).
+#![tactic(auto)]
+
 ghost use Rattle.std.specs.Prelude.{◌≤◌, ◌++◌, length};
 ghost use Rattle.kind.specs.Kinds.{number_of};
 ghost use Rattle.text.specs.Digits.{decimal_of};

@@ -1,7 +1,6 @@
 -- The definition, run on texts.
-use Prim.Native.Nat.{ℕ}
 use mathlib.Core.Path.{◌≡◌, refl}
-use mathlib.Core.List.{List, [], ◌∷◌}
+use mathlib.Core.List.{[], ◌∷◌}
 use Rattle.kind.specs.declared.Kind.TheVariants.{Overlap}
 use Rattle.laws.specs.Total.{total}
 use Rattle.text.specs.Digits.{worth}

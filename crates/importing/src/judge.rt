@@ -9,7 +9,7 @@ use crate::numerals::{Head, Numeral, first_line, term};
 use kind::Kind;
 
 // A term's line: how many bytes its writing has, and the place of the next line; or a refusal.
-#[derive(Drop)]
+#[derive(Clone, Copy)]
 pub(crate) enum Size {
     Is(u32, usize),
     Refused(u8),

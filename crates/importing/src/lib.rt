@@ -1,4 +1,6 @@
 // The roll of a text: lines of numbers with commas between them, as the export writes them.
+#![tactic(auto)]
+
 ghost use Rattle.std.specs.Prelude.{◌≡◌};
 ghost use Rattle.importing.specs.Import.{roll_of, ImportTold};
 ghost use Rattle.importing.specs.inner.Places.{measured};
@@ -15,7 +17,7 @@ mod writing;
 pub use telling::refusal_line;
 
 // The roll's length and its terms, or a refusal with its line.
-#[derive(Drop)]
+#[derive(Clone, Copy)]
 pub enum Imported {
     Roll(usize, u32),
     Refused(u8, u64),

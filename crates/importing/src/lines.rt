@@ -5,7 +5,7 @@ ghost use Rattle.importing.specs.Lines.{is_number};
 ghost use Rattle.importing.specs.inner.Places.{shape_at};
 
 // How many numbers a line has, and the place after its line feed.
-#[derive(Drop)]
+#[derive(Clone, Copy)]
 pub(crate) enum Shape {
     Line(usize, usize),
     Broken,

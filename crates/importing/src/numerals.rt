@@ -9,14 +9,14 @@ use kind::{Kind, Named};
 use text::Parsed;
 
 // A number and the place after the byte that ends it.
-#[derive(Drop)]
+#[derive(Clone, Copy)]
 pub(crate) enum Numeral {
     Is(u32, usize),
     Wrong,
 }
 
 // A first line's kind, L and term count.
-#[derive(Drop)]
+#[derive(Clone, Copy)]
 pub(crate) enum Head {
     Is(Kind, u8, u32),
     Wrong,

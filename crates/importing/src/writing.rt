@@ -9,7 +9,7 @@ use crate::numerals::{Numeral, within};
 use number::Written;
 
 // Where reading and writing stand.
-#[derive(Drop)]
+#[derive(Clone, Copy)]
 pub(crate) struct Spot {
     text: usize,
     roll: usize,

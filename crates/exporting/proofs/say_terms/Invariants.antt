@@ -1,0 +1,9 @@
+-- `say_terms` meets its contract: each turn takes one term off what is still to be said. Assumes nothing.
+use Rattle.exporting.proofs.Terms.{Exporting}
+use Rattle.exporting.proofs.say_terms.Given as goal
+
+abbrev pub invariant-loop-at : goal.invariant-loop-at
+invariant-loop-at l = Exporting l.room l.initial.out l.initial.said l.roll l.initial.at l.out l.said l.at
+
+abbrev pub decreases-loop-at : goal.decreases-loop-at
+decreases-loop-at l = l.at.left

@@ -1,0 +1,9 @@
+-- `judge_terms` meets its contract: what is left says what the whole says. Assumes nothing.
+use Rattle.importing.proofs.Judging.{Lines}
+use Rattle.importing.proofs.judge.judge_terms.Given as goal
+
+abbrev pub invariant-loop-left : goal.invariant-loop-left
+invariant-loop-left l = Lines l.s l.at l.count l.kind l.l l.first l.place l.size l.number l.left
+
+abbrev pub decreases-loop-left : goal.decreases-loop-left
+decreases-loop-left l = l.left

@@ -1,0 +1,9 @@
+-- `put_terms` meets its contract: what is still to be written, put down here, is the whole put down at the start. Assumes nothing.
+use Rattle.importing.proofs.Putting.{Terms}
+use Rattle.importing.proofs.writing.put_terms.Given as goal
+
+abbrev pub invariant-loop-left : goal.invariant-loop-left
+invariant-loop-left l = Terms l.text l.at l.terms l.initial.out l.place l.out l.from l.to l.left
+
+abbrev pub decreases-loop-left : goal.decreases-loop-left
+decreases-loop-left l = l.left
