@@ -12,7 +12,7 @@ use Rattle.kind.specs.Limits.{most_terms}
 use Rattle.number.specs.Numbers.{length_of, Bytes}
 use Rattle.term.specs.Terms.{Term}
 use Rattle.roll.specs.declared.header.Opening.TheVariants as opening
-use Rattle.roll.specs.Reading.{Reading, got, refused, terms_at, Header, header_at, Roll, roll_at}
+use Rattle.roll.specs.Reading.{got, refused, terms_at, Header, header_at, Roll, roll_at}
 use Rattle.roll.specs.Header.{held_header, open_of, check_of}
 use Rattle.roll.proofs.Filling.{and_then-is}
 use Rattle.roll.proofs.JudgeLaws.{terms-count}

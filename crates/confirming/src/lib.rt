@@ -1,4 +1,6 @@
 // Whether a roll of either form is the expansion of its own request, byte for byte. Nothing is written and no buffer is lent (D-117).
+#![tactic(auto)]
+
 mod quick;
 mod reading;
 

@@ -9,7 +9,6 @@ use lib.ListN.{length}
 use Rattle.laws.proofs.Cases.{clash}
 use Rattle.roll.specs.Reading.{Header}
 use Rattle.salvaging.specs.declared.forms.Form.{Form}
-use Rattle.salvaging.specs.declared.After.{After}
 use Rattle.salvaging.specs.declared.After.TheVariants as after
 use Rattle.salvaging.specs.Salvage.{fresh_terms, told_of, Leading, after_of}
 

@@ -110,7 +110,7 @@ fit_next (x ∷ y ∷ z ∷ os) fit = fit.1
 record Low (os : List ℕ) : Type 0 where
   pub of-a : sum_of os A ≤ most_order
   pub of-b : sum_of os B ≤ most_order
-  pub of_c_lem : sum_of os C ≤ most_order
+  pub of_c : sum_of os C ≤ most_order
   pub of-d : sum_of os D ≤ most_order
 
 low : (os : List ℕ) → CentresFit os → Low os
@@ -121,7 +121,7 @@ low os fit =
     record {
       of-a = fit-first os fit;
       of-b = omega (arith, fit-first (drop 3 os) b, at3 os 0, at3 os 1, at3 os 2);
-      of_c_lem = omega (arith, fit-first (drop 3 (drop 3 os)) c, at3 (drop 3 os) 0, at3 (drop 3 os) 1, at3 (drop 3 os) 2, at3 os 3, at3 os 4, at3 os 5);
+      of_c = omega (arith, fit-first (drop 3 (drop 3 os)) c, at3 (drop 3 os) 0, at3 (drop 3 os) 1, at3 (drop 3 os) 2, at3 os 3, at3 os 4, at3 os 5);
       of-d = omega (arith, fit-first (drop 3 (drop 3 (drop 3 os))) d, at3 (drop 3 (drop 3 os)) 0, at3 (drop 3 (drop 3 os)) 1, at3 (drop 3 (drop 3 os)) 2, at3 (drop 3 os) 3, at3 (drop 3 os) 4, at3 (drop 3 os) 5, at3 os 6, at3 os 7, at3 os 8);
     }
   where

@@ -2,11 +2,11 @@
 use Prim.Native.Nat.{ℕ}
 use mathlib.Core.List.{List}
 use contract.Lifetimes.{Lfts}
-use Rattle.laws.proofs.Contract.{Alone, alone, Lent, ◌▸◌, ◌then◌, end}
+use Rattle.laws.proofs.Contract.{Alone, alone, Lent, Shown, ◌▸◌, ◌then◌, end}
 use Rattle.salvaging.specs.declared.Salvaged.{Salvaged}
 use Rattle.salvaging.specs.Salvage.{salvaged_of, out_of}
 use Rattle.salvaging.proofs.salvage.Reads.{Post as Salvage}
 
-pub salvage-only : (κs : Lfts 2) (roll out : Lent ℕ) (start : ℕ) →
+pub salvage-only : (κs : Lfts 2) (roll : Shown ℕ) (out : Lent ℕ) (start : ℕ) →
     Alone {A = Salvaged × List ℕ} (λ x. Salvage κs (roll ▸ out ▸ start ▸ end) x.0 (roll ▸ out then x.1 ▸ start ▸ end)) (salvaged_of roll.now out.now start, out_of roll.now out.now start)
 salvage-only κs roll out start = alone (λ x p i. (p.answer i, p.out i))

@@ -10,7 +10,7 @@ use kind::Kind;
 use roll::Opened;
 
 // The two forms of a roll.
-#[derive(Drop)]
+#[derive(Clone, Copy)]
 pub enum Form {
     One,
     Two,

@@ -1,4 +1,6 @@
 // The salvage of a damaged roll: its header's request is worked out afresh and written in the same form, and the damaged roll is held against it.
+#![tactic(auto)]
+
 mod ends;
 mod forms;
 
@@ -13,7 +15,7 @@ pub use forms::Form;
 use roll::{Cursor, Opened, Opening};
 
 // What follows the last term: it is told only where every fresh term was read and equal.
-#[derive(Drop)]
+#[derive(Clone, Copy)]
 pub enum After {
     Unknown,
     None,
@@ -22,7 +24,7 @@ pub enum After {
 
 // The fresh roll's length and its terms, how many leading terms of the damaged roll read and equal them, how many were written anew,
 // whether the stored count is another one, and what follows the last term.
-#[derive(Drop)]
+#[derive(Clone, Copy)]
 pub struct Told {
     pub length: usize,
     pub terms: u32,
@@ -33,7 +35,7 @@ pub struct Told {
 }
 
 // What a salvage tells, or a refusal with its place.
-#[derive(Drop)]
+#[derive(Clone, Copy)]
 pub enum Salvaged {
     Roll(Told),
     Refused(u8, usize),

@@ -3,7 +3,7 @@ use Prim.Native.Nat.{ℕ}
 use mathlib.Core.List.{List}
 use contract.Lifetimes.{Lfts}
 use Rattle.kind.specs.Kinds.{kind_of}
-use Rattle.laws.proofs.Contract.{Alone, alone, Lent, ◌then◌, ◌▸◌, end}
+use Rattle.laws.proofs.Contract.{Alone, alone, Lent, Shown, ◌then◌, ◌▸◌, end}
 use Rattle.expansion.specs.declared.Expanded.{Expanded}
 use Rattle.expansion.specs.Expanding.{named_out}
 use Rattle.small.specs.Check.{small_check_of}
@@ -17,5 +17,5 @@ pub small-expand-only : (κs : Lfts 1) (kind : ℕ) (orders : List ℕ) (out : L
     (told, named_out told (kind_of kind) orders out.now start)
 small-expand-only κs kind orders out start = alone (λ x p i. (p.answer i, p.out i))
 
-pub small-check-only : (κs : Lfts 1) (roll : Lent ℕ) → let g = roll ▸ end in Alone (λ r. SmallCheck κs g r g) (small_check_of roll.now)
+pub small-check-only : (κs : Lfts 1) (roll : Shown ℕ) → let g = roll ▸ end in Alone (λ r. SmallCheck κs g r g) (small_check_of roll.now)
 small-check-only κs roll = alone (λ r p. p)

@@ -88,6 +88,7 @@ each p (x ∷ xs) = p x && each p xs
 
 each-one : (p : List ℕ → Bool) (xs : List (List ℕ)) → each p xs ≡ true → (x : List ℕ) → Memᴰ x xs → p x ≡ true
 unfolding each
+each-one p [] all x x4 = elim x4 [ ]
 each-one p (y ∷ xs) all x (Memᴰ.head e) = ap p e ∙ and_left (p y) (each p xs) all
 each-one p (y ∷ xs) all x (Memᴰ.tail m) = each-one p xs (and_right (p y) (each p xs) all) x m
 

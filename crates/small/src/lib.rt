@@ -1,4 +1,6 @@
 // The small-cabinet profile: overlap and Coulomb requests with an order sum of at most 1 on each centre, and their rolls in form 1.
+#![tactic(auto)]
+
 mod check;
 mod profile;
 

@@ -17,7 +17,7 @@ use Rattle.steps.specs.declared.Fun.{Fun}
 use Rattle.steps.specs.declared.Fun.TheVariants.{Lower}
 use Rattle.steps.specs.Choice.{order_place, order_of, sum_of, chosen}
 use Rattle.steps.specs.Chosen.{RightCentre, a-centre, the-operator, no-centre, Exhausted}
-use Rattle.steps.specs.Steps.{Branch, branches, times, less, lowered, partner}
+use Rattle.steps.specs.Steps.{Branch, branches, times, less, lowered}
 use Rattle.steps.proofs.Rightly.{chosen-rightly}
 use Rattle.histories.specs.inner.OnTheWay.{own}
 use Rattle.histories.proofs.Choices.{chosen-own}
@@ -85,6 +85,7 @@ exhausted : (left : List ℕ) (v : Fun) → RightCentre Moment left v → v ≡ 
 exhausted left v (a-centre c s) e = absurd (neither c s.one-of-them (cc))
   where
     neither : (c : CentreName) → Memᴰ c (A ∷ B ∷ []) → c ≡ C → ⊥
+    neither c (mathlib.Core.List.Memᴰ.tail (mathlib.Core.List.Memᴰ.tail x12)) g = elim x12 [ ]
     neither c (Memᴰ.head f) g = clash (cc)
     neither c (Memᴰ.tail (Memᴰ.head f)) g = clash (cc)
 exhausted left v (the-operator o out s) e = out

@@ -29,6 +29,7 @@ use Rattle.totals.specs.Totals.{scale_sum, roll_total_of}
 
 one_more : (s : List ℕ) (at left : ℕ) → 0 < left → scale_sum (terms_again s at left) ≡ (head_at s at).scale + scale_sum (terms_again s (head_at s at).end (left - 1))
 unfolding terms_again head_term total
+one_more s at Prim.Native.Nat.zero h = elim h [ ]
 one_more s at (suc left) h = let e : suc left - 1 ≡ left = omega arith in rw e
 
 pub sum_more : (s : List ℕ) (at left sum whole : ℕ) (h : Head) → 0 < left → h ≡ head_at s at → sum + scale_sum (terms_again s at left) ≡ whole → sum + h.scale + scale_sum (terms_again s h.end (left - 1)) ≡ whole

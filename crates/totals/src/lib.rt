@@ -1,4 +1,6 @@
 // A total that a technician can check by hand: what the scales of all terms come to, worked out from the orders alone, and the sum of a roll's scales.
+#![tactic(auto)]
+
 ghost use Rattle.std.specs.Prelude.{◌≡◌, ◌+◌, ◌<◌, get_or};
 ghost use Rattle.expansion.specs.inner.Requests.{RequestWithin};
 ghost use Rattle.roll.specs.inner.Again.{terms_again};
@@ -11,7 +13,7 @@ use number::wide;
 use roll::{Opening, head_at};
 
 // The number, or that none is claimed of the kind, or a refusal.
-#[derive(Drop)]
+#[derive(Clone, Copy)]
 pub enum Total {
     Is(u64),
     NotClaimed,
@@ -19,7 +21,7 @@ pub enum Total {
 }
 
 // The sum of a roll's scales, or a refusal's number and place.
-#[derive(Drop)]
+#[derive(Clone, Copy)]
 pub enum RollTotal {
     Is(u64),
     Refused(u8, usize),
