@@ -4,15 +4,12 @@ use Prim.Native.Nat.{ℕ}
 use mathlib.Core.Path.{◌≡◌, refl, sym, ap, ◌∙◌}
 use mathlib.Core.List.{List}
 use lib.Ieee.{Float}
-use lib.ListN.{length}
 use Rattle.kind.specs.Kinds.{kind_of}
-use Rattle.term.specs.declared.Term.{Term as Held}
 use Rattle.expansion.specs.declared.Expanded.{Expanded}
 use Rattle.expansion.specs.declared.Expanded.TheVariants as expanded
 use Rattle.expansion.specs.Expanding.{ExpandTold, Expand2Told, named_measured}
 use Rattle.shell.specs.declared.Listed.{Listed}
 use Rattle.shell.specs.declared.Listed.TheVariants as listed
-use Rattle.shell.specs.declared.Sought.{Sought}
 use Rattle.shell.specs.declared.Sought.TheVariants as sought
 use Rattle.shell.specs.declared.Component.{Component}
 use Rattle.shell.specs.Shells.{ListTold, shell2_of, shell4_of}
@@ -36,7 +33,6 @@ use Rattle.comparing.specs.declared.pair.Met.{Met}
 use Rattle.comparing.specs.Answers.{compared_of}
 use Rattle.comparing.specs.Pairs.{next_of}
 use Rattle.salvaging.specs.declared.After.{After}
-use Rattle.salvaging.specs.declared.After.TheVariants as after
 use Rattle.salvaging.specs.declared.Told.{Told}
 use Rattle.salvaging.specs.declared.Salvaged.{Salvaged}
 use Rattle.salvaging.specs.declared.Salvaged.TheVariants as salvaged
@@ -56,7 +52,6 @@ use Rattle.geometry.specs.Checks.{prefactor_table_of}
 use Rattle.geometry.specs.Floats.{zero}
 use Rattle.integrals.specs.declared.Value.{Value}
 use Rattle.integrals.specs.declared.Value.TheVariants as value
-use Rattle.roll.specs.Reading.{roll_at}
 use Rattle.root.specs.declared.Rooted.{Rooted}
 use Rattle.root.specs.declared.Rooted.TheVariants as root
 use Rattle.root.specs.Root.{rooted_of}
@@ -65,7 +60,7 @@ use Rattle.contracting.specs.Elements.{contracted_of}
 use Rattle.nuclei.specs.declared.Nuclei.{Nuclei}
 use Rattle.nuclei.specs.Nuclei.{nuclear_of}
 use Rattle.integrals.specs.Evaluation.{evaluate_of}
-use Rattle.grouping.specs.Evaluation.{of_roll as grouped_of_roll, GroupedTold}
+use Rattle.grouping.specs.Evaluation.{GroupedTold}
 use Rattle.grouping.specs.Restoring.{restored_of}
 use Rattle.grouping.specs.declared.restoring.Restored.{Restored}
 use Rattle.jk.specs.declared.Answer.{Answer}

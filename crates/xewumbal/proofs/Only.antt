@@ -19,7 +19,7 @@ use Rattle.jk.specs.Outcome.{jk_of, refusal_of as jk_refusal}
 use Rattle.geometry.specs.declared.Centre.{Centre}
 use Rattle.nuclei.specs.declared.Nuclei.{Nuclei}
 use Rattle.contracting.specs.declared.Contracted.{Contracted}
-use Rattle.laws.proofs.Contract.{Alone, alone, Lent, ◌then◌, ◌▸◌, end}
+use Rattle.laws.proofs.Contract.{Alone, alone, Lent, Shown, ◌then◌, ◌▸◌, end}
 use Rattle.xewumbal.specs.declared.xew_written.{xew_written}
 use Rattle.xewumbal.specs.declared.xew_cursor.{xew_cursor}
 use Rattle.xewumbal.specs.declared.xew_cursor2.{xew_cursor2}
@@ -71,7 +71,7 @@ use Rattle.xewumbal.proofs.xew_jk.Reads.{Post as Jk}
 pub version-only : Alone (λ r. Version tt end r end) version
 version-only = alone (λ r p. p)
 
-module _ (κs : Lfts 2) (kind : ℕ) (orders out : Lent ℕ) (start : ℕ) where
+module _ (κs : Lfts 2) (kind : ℕ) (orders : Shown ℕ) (out : Lent ℕ) (start : ℕ) where
   pub expand-only :
       Alone {A = xew_written × List ℕ} (λ x. Expand κs (kind ▸ orders ▸ out ▸ start ▸ end) x.0 (kind ▸ orders ▸ out then x.1 ▸ start ▸ end))
       (host_expanded (named_told (kind_of kind) orders.now out.now start), named_out (named_told (kind_of kind) orders.now out.now start) (kind_of kind) orders.now out.now start)
@@ -87,7 +87,7 @@ module _ (κs : Lfts 2) (kind : ℕ) (orders out : Lent ℕ) (start : ℕ) where
       (host_expanded (small_named (kind_of kind) orders.now out.now start), named_out (small_named (kind_of kind) orders.now out.now start) (kind_of kind) orders.now out.now start)
   small-expand-only = alone (λ x p i. (p.answer i, p.out i))
 
-pub measure-only : (κs : Lfts 1) (kind : ℕ) (orders : Lent ℕ) → let g = kind ▸ orders ▸ end in Alone (λ r. Measure κs g r g) (measure_answer kind orders.now)
+pub measure-only : (κs : Lfts 1) (kind : ℕ) (orders : Shown ℕ) → let g = kind ▸ orders ▸ end in Alone (λ r. Measure κs g r g) (measure_answer kind orders.now)
 measure-only κs kind orders = alone (λ r p. p)
 
 pub shell-list-only : (κs : Lfts 1) (order : ℕ) (out : Lent ℕ) (start : ℕ) →
@@ -101,31 +101,31 @@ shell2-only a b number = alone (λ r p. p)
 pub shell4-only : (a b c d number : ℕ) → let g = a ▸ b ▸ c ▸ d ▸ number ▸ end in Alone (λ r. Shell4 tt g r g) (shell4_answer a b c d number)
 shell4-only a b c d number = alone (λ r p. p)
 
-pub open-only : (κs : Lfts 1) (roll : Lent ℕ) → let g = roll ▸ end in Alone (λ r. Open κs g r g) (open_answer roll.now)
+pub open-only : (κs : Lfts 1) (roll : Shown ℕ) → let g = roll ▸ end in Alone (λ r. Open κs g r g) (open_answer roll.now)
 open-only κs roll = alone (λ r p. p)
 
-pub check-only : (κs : Lfts 1) (roll : Lent ℕ) → let g = roll ▸ end in Alone (λ r. Check κs g r g) (check_answer roll.now)
+pub check-only : (κs : Lfts 1) (roll : Shown ℕ) → let g = roll ▸ end in Alone (λ r. Check κs g r g) (check_answer roll.now)
 check-only κs roll = alone (λ r p. p)
 
-pub confirm-only : (κs : Lfts 1) (roll : Lent ℕ) → let g = roll ▸ end in Alone (λ r. Confirm κs g r g) (confirm_answer roll.now)
+pub confirm-only : (κs : Lfts 1) (roll : Shown ℕ) → let g = roll ▸ end in Alone (λ r. Confirm κs g r g) (confirm_answer roll.now)
 confirm-only κs roll = alone (λ r p. p)
 
-pub small-check-only : (κs : Lfts 1) (roll : Lent ℕ) → let g = roll ▸ end in Alone (λ r. SmallCheck κs g r g) (small_check_answer roll.now)
+pub small-check-only : (κs : Lfts 1) (roll : Shown ℕ) → let g = roll ▸ end in Alone (λ r. SmallCheck κs g r g) (small_check_answer roll.now)
 small-check-only κs roll = alone (λ r p. p)
 
-pub next-only : (κs : Lfts 1) (cursor : xew_cursor) (roll : Lent ℕ) → let g = cursor ▸ roll ▸ end in Alone (λ r. Next κs g r g) (next_answer cursor roll.now)
+pub next-only : (κs : Lfts 1) (cursor : xew_cursor) (roll : Shown ℕ) → let g = cursor ▸ roll ▸ end in Alone (λ r. Next κs g r g) (next_answer cursor roll.now)
 next-only κs cursor roll = alone (λ r p. p)
 
-pub open2-only : (κs : Lfts 1) (roll : Lent ℕ) → let g = roll ▸ end in Alone (λ r. Open2 κs g r g) (open2_answer roll.now)
+pub open2-only : (κs : Lfts 1) (roll : Shown ℕ) → let g = roll ▸ end in Alone (λ r. Open2 κs g r g) (open2_answer roll.now)
 open2-only κs roll = alone (λ r p. p)
 
-pub check2-only : (κs : Lfts 1) (roll : Lent ℕ) → let g = roll ▸ end in Alone (λ r. Check2 κs g r g) (check2_answer roll.now)
+pub check2-only : (κs : Lfts 1) (roll : Shown ℕ) → let g = roll ▸ end in Alone (λ r. Check2 κs g r g) (check2_answer roll.now)
 check2-only κs roll = alone (λ r p. p)
 
-pub next2-only : (κs : Lfts 1) (cursor : xew_cursor2) (roll : Lent ℕ) → let g = cursor ▸ roll ▸ end in Alone (λ r. Next2 κs g r g) (next2_answer cursor roll.now)
+pub next2-only : (κs : Lfts 1) (cursor : xew_cursor2) (roll : Shown ℕ) → let g = cursor ▸ roll ▸ end in Alone (λ r. Next2 κs g r g) (next2_answer cursor roll.now)
 next2-only κs cursor roll = alone (λ r p. p)
 
-module _ (κs : Lfts 2) (roll out : Lent ℕ) (start : ℕ) where
+module _ (κs : Lfts 2) (roll : Shown ℕ) (out : Lent ℕ) (start : ℕ) where
   pub to-form2-only :
       Alone {A = xew_moved × List ℕ} (λ x. ToForm2 κs (roll ▸ out ▸ start ▸ end) x.0 (roll ▸ out then x.1 ▸ start ▸ end))
       (host_moved (moved_of in_form2 (roll_at roll.now) out.now start), out_of in_form2 (roll_at roll.now) out.now start)
@@ -144,22 +144,22 @@ module _ (κs : Lfts 2) (roll out : Lent ℕ) (start : ℕ) where
       Alone {A = xew_imported × List ℕ} (λ x. Import κs (roll ▸ out ▸ start ▸ end) x.0 (roll ▸ out then x.1 ▸ start ▸ end)) (host_imported (imported_of roll.now out.now start), imported_out roll.now out.now start)
   import-only = alone (λ x p i. (p.answer i, p.out i))
 
-pub salvage-only : (κs : Lfts 2) (roll out : Lent ℕ) (start : ℕ) →
+pub salvage-only : (κs : Lfts 2) (roll : Shown ℕ) (out : Lent ℕ) (start : ℕ) →
     Alone {A = xew_salvaged × List ℕ} (λ x. Salvage κs (roll ▸ out ▸ start ▸ end) x.0 (roll ▸ out then x.1 ▸ start ▸ end))
     (host_salvaged (salvaged_of roll.now out.now start), salvage_out roll.now out.now start)
 salvage-only κs roll out start = alone (λ x p i. (p.answer i, p.out i))
 
-module _ (κs : Lfts 2) (left right : Lent ℕ) where
+module _ (κs : Lfts 2) (left right : Shown ℕ) where
   pub compare-only : let g = left ▸ right ▸ end in Alone (λ r. Compare κs g r g) (compare_answer left.now right.now)
   compare-only = alone (λ r p. p)
 
   pub compare-next-only : (cursor : xew_pair) → let g = cursor ▸ left ▸ right ▸ end in Alone (λ r. CompareNext κs g r g) (compare_next_answer cursor left.now right.now)
   compare-next-only cursor = alone (λ r p. p)
 
-pub scale-total-only : (κs : Lfts 1) (kind : ℕ) (orders : Lent ℕ) → let g = kind ▸ orders ▸ end in Alone (λ r. ScaleTotal κs g r g) (scale_total_answer kind orders.now)
+pub scale-total-only : (κs : Lfts 1) (kind : ℕ) (orders : Shown ℕ) → let g = kind ▸ orders ▸ end in Alone (λ r. ScaleTotal κs g r g) (scale_total_answer kind orders.now)
 scale-total-only κs kind orders = alone (λ r p. p)
 
-pub roll-total-only : (κs : Lfts 1) (roll : Lent ℕ) → let g = roll ▸ end in Alone (λ r. RollTotal κs g r g) (roll_total_answer roll.now)
+pub roll-total-only : (κs : Lfts 1) (roll : Shown ℕ) → let g = roll ▸ end in Alone (λ r. RollTotal κs g r g) (roll_total_answer roll.now)
 roll-total-only κs roll = alone (λ r p. p)
 
 pub prefactors-only : (kind : ℕ) (a b c d : Centre) → let g = kind ▸ a ▸ b ▸ c ▸ d ▸ end in Alone (λ r. Prefactors tt g r g) (prefactors_answer kind a b c d)
@@ -168,27 +168,27 @@ prefactors-only kind a b c d = alone (λ r p. p)
 pub root-only : (x : Float) → let g = x ▸ end in Alone (λ r. Root tt g r g) (root_answer x)
 root-only x = alone (λ r p. p)
 
-pub evaluate-only : (κs : Lfts 2) (roll : Lent ℕ) (a b c d : Centre) (aux : Float) (boys : Lent Float) →
+pub evaluate-only : (κs : Lfts 2) (roll : Shown ℕ) (a b c d : Centre) (aux : Float) (boys : Shown Float) →
     let g = roll ▸ a ▸ b ▸ c ▸ d ▸ aux ▸ boys ▸ end in Alone (λ r. Evaluate κs g r g) (evaluate_answer roll.now a b c d aux boys.now)
 evaluate-only κs roll a b c d aux boys = alone (λ r p. p)
 
-pub nuclear-only : (κs : Lfts 2) (roll : Lent ℕ) (a b : Centre) (nuclei : Nuclei) (aux : Float) (boys : Lent Float) →
+pub nuclear-only : (κs : Lfts 2) (roll : Shown ℕ) (a b : Centre) (nuclei : Nuclei) (aux : Float) (boys : Shown Float) →
     let g = roll ▸ a ▸ b ▸ nuclei ▸ aux ▸ boys ▸ end in Alone (λ r. Nuclear κs g r g) (nuclear_answer roll.now a b nuclei aux boys.now)
 nuclear-only κs roll a b nuclei aux boys = alone (λ r p. p)
 
-pub contracted-only : (κs : Lfts 2) (roll : Lent ℕ) (left right : Contracted) (host : Lent Float) →
+pub contracted-only : (κs : Lfts 2) (roll : Shown ℕ) (left right : Contracted) (host : Shown Float) →
     let g = roll ▸ left ▸ right ▸ host ▸ end in Alone (λ r. ContractedElement κs g r g) (contracted_answer roll.now left right host.now)
 contracted-only κs roll left right host = alone (λ r p. p)
 
-pub evaluate-grouped-only : (κs : Lfts 3) (roll : Lent ℕ) (a b c d : Centre) (aux : Float) (boys : Lent Float) (buffer : Lent ℕ) →
+pub evaluate-grouped-only : (κs : Lfts 3) (roll : Shown ℕ) (a b c d : Centre) (aux : Float) (boys : Shown Float) (buffer : Lent ℕ) →
     Alone {A = xew_value × List ℕ} (λ x. EvaluateGrouped κs (roll ▸ a ▸ b ▸ c ▸ d ▸ aux ▸ boys ▸ buffer ▸ end) x.0 (roll ▸ a ▸ b ▸ c ▸ d ▸ aux ▸ boys ▸ buffer then x.1 ▸ end))
     (host_value (grouped_of_roll (roll_at roll.now) (length buffer.now) a b c d aux boys.now), buffer_of (roll_at roll.now) buffer.now)
 evaluate-grouped-only κs roll a b c d aux boys buffer = alone (λ x p i. (p.answer i, p.buffer i))
 
-pub grouped-term-only : (κs : Lfts 1) (grouping : Lent ℕ) (l terms number : ℕ) → let g = grouping ▸ l ▸ terms ▸ number ▸ end in Alone (λ r. GroupedTerm κs g r g) (grouped_term_answer grouping.now l terms number)
+pub grouped-term-only : (κs : Lfts 1) (grouping : Shown ℕ) (l terms number : ℕ) → let g = grouping ▸ l ▸ terms ▸ number ▸ end in Alone (λ r. GroupedTerm κs g r g) (grouped_term_answer grouping.now l terms number)
 grouped-term-only κs grouping l terms number = alone (λ r p. p)
 
-module _ (κs : Lfts 4) (n : ℕ) (i d j k : Lent Float) where
+module _ (κs : Lfts 4) (n : ℕ) (i d : Shown Float) (j k : Lent Float) where
   pub jk-only :
       Alone {A = ℕ × List Float × List Float} (λ x. Jk κs (n ▸ i ▸ d ▸ j ▸ k ▸ end) x.0 (n ▸ i ▸ d ▸ j then x.1 ▸ k then x.2 ▸ end))
       (jk_refusal (jk_of n i.now d.now j.now k.now).answer, (jk_of n i.now d.now j.now k.now).j, (jk_of n i.now d.now j.now k.now).k)

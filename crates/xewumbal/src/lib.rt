@@ -1,5 +1,7 @@
 // The exported functions, under their C names. Each lends what it gets to the function below it, and turns the answer
 // into a plain struct: refusal 0 is success, and zeros stand beside a refusal. include/xewumbal.h is for the host (D-76).
+#![tactic(auto)]
+
 mod answers;
 mod commas;
 
@@ -26,7 +28,7 @@ pub type xew_primitive = contracting::Primitive;
 pub type xew_contraction = contracting::Contracted;
 
 #[repr(C)]
-#[derive(Drop)]
+#[derive(Clone, Copy)]
 pub struct xew_written {
     pub length: usize,
     pub terms: u32,
@@ -34,7 +36,7 @@ pub struct xew_written {
 }
 
 #[repr(C)]
-#[derive(Drop)]
+#[derive(Clone, Copy)]
 pub struct xew_value {
     pub value: f64,
     pub place: usize,
@@ -42,28 +44,28 @@ pub struct xew_value {
 }
 
 #[repr(C)]
-#[derive(Drop)]
+#[derive(Clone, Copy)]
 pub struct xew_rooted {
     pub root: f64,
     pub refusal: u8,
 }
 
 #[repr(C)]
-#[derive(Drop)]
+#[derive(Clone, Copy)]
 pub struct xew_component {
     pub orders: [u8; Kind::ORDERS],
     pub refusal: u8,
 }
 
 #[repr(C)]
-#[derive(Drop)]
+#[derive(Clone, Copy)]
 pub struct xew_table {
     pub entries: [f64; Kind::TABLE],
     pub refusal: u8,
 }
 
 #[repr(C)]
-#[derive(Drop)]
+#[derive(Clone, Copy)]
 pub struct xew_cursor {
     pub place: usize,
     pub left: u32,
@@ -72,7 +74,7 @@ pub struct xew_cursor {
 }
 
 #[repr(C)]
-#[derive(Drop)]
+#[derive(Clone, Copy)]
 pub struct xew_opened {
     pub cursor: xew_cursor,
     pub place: usize,
@@ -82,7 +84,7 @@ pub struct xew_opened {
 
 // `found` is 0 for a refusal, 1 for a term, 2 for the end (D-78).
 #[repr(C)]
-#[derive(Drop)]
+#[derive(Clone, Copy)]
 pub struct xew_step {
     pub next: xew_cursor,
     pub place: usize,
@@ -96,7 +98,7 @@ pub struct xew_step {
 
 // `earlier` has the prefactors of the term before in its first `count` places.
 #[repr(C)]
-#[derive(Drop)]
+#[derive(Clone, Copy)]
 pub struct xew_cursor2 {
     pub cursor: xew_cursor,
     pub count: u8,
@@ -104,7 +106,7 @@ pub struct xew_cursor2 {
 }
 
 #[repr(C)]
-#[derive(Drop)]
+#[derive(Clone, Copy)]
 pub struct xew_opened2 {
     pub cursor: xew_cursor2,
     pub place: usize,
@@ -114,7 +116,7 @@ pub struct xew_opened2 {
 
 // `found` is as that of `xew_step`.
 #[repr(C)]
-#[derive(Drop)]
+#[derive(Clone, Copy)]
 pub struct xew_step2 {
     pub next: xew_cursor2,
     pub place: usize,
@@ -127,7 +129,7 @@ pub struct xew_step2 {
 }
 
 #[repr(C)]
-#[derive(Drop)]
+#[derive(Clone, Copy)]
 pub struct xew_restored {
     pub place: usize,
     pub scale: u32,
@@ -138,7 +140,7 @@ pub struct xew_restored {
 }
 
 #[repr(C)]
-#[derive(Drop)]
+#[derive(Clone, Copy)]
 pub struct xew_moved {
     pub length: usize,
     pub place: usize,
@@ -147,7 +149,7 @@ pub struct xew_moved {
 }
 
 #[repr(C)]
-#[derive(Drop)]
+#[derive(Clone, Copy)]
 pub struct xew_text {
     pub length: usize,
     pub place: usize,
@@ -156,7 +158,7 @@ pub struct xew_text {
 
 // `line` is counted from 1.
 #[repr(C)]
-#[derive(Drop)]
+#[derive(Clone, Copy)]
 pub struct xew_imported {
     pub length: usize,
     pub line: u64,
@@ -167,7 +169,7 @@ pub struct xew_imported {
 // `miscounted` is 1 where the stored term count is not `terms`; `after` is 0 where not every term was kept, 1 where nothing follows
 // the last term, 2 where bytes do (D-100).
 #[repr(C)]
-#[derive(Drop)]
+#[derive(Clone, Copy)]
 pub struct xew_salvaged {
     pub length: usize,
     pub place: usize,
@@ -181,7 +183,7 @@ pub struct xew_salvaged {
 
 // Where both readers of a comparison stand, and the number of the position.
 #[repr(C)]
-#[derive(Drop)]
+#[derive(Clone, Copy)]
 pub struct xew_pair {
     pub left: xew_cursor2,
     pub right: xew_cursor2,
@@ -190,7 +192,7 @@ pub struct xew_pair {
 
 // `kinds`, `orders` and `terms` are 1 where these differ; `side` is 1 beside a refusal of the left roll, 2 of the right one (D-103).
 #[repr(C)]
-#[derive(Drop)]
+#[derive(Clone, Copy)]
 pub struct xew_compared {
     pub cursor: xew_pair,
     pub place: usize,
@@ -205,7 +207,7 @@ pub struct xew_compared {
 }
 
 #[repr(C)]
-#[derive(Drop)]
+#[derive(Clone, Copy)]
 pub struct xew_term {
     pub scale: u32,
     pub boys: u8,
@@ -215,7 +217,7 @@ pub struct xew_term {
 
 // `found` is 0 for a refusal, 1 where both terms differ, 2 for a term of the left roll alone, 3 of the right one, 4 for the end.
 #[repr(C)]
-#[derive(Drop)]
+#[derive(Clone, Copy)]
 pub struct xew_met {
     pub next: xew_pair,
     pub place: usize,
@@ -229,7 +231,7 @@ pub struct xew_met {
 
 // `claimed` is 1 beside a total, 0 for a kind of which none is claimed and beside a refusal (D-90).
 #[repr(C)]
-#[derive(Drop)]
+#[derive(Clone, Copy)]
 pub struct xew_total {
     pub total: u64,
     pub claimed: u8,
@@ -237,7 +239,7 @@ pub struct xew_total {
 }
 
 #[repr(C)]
-#[derive(Drop)]
+#[derive(Clone, Copy)]
 pub struct xew_scales {
     pub total: u64,
     pub place: usize,
