@@ -1,5 +1,5 @@
 -- What is no NaN: a pattern that, its sign left out, is not above infinity's, and a float that equals itself.
-use Prim.Native.Nat.{ℕ, ◌%◌, ◌/◌, ◌*◌, ◌≤◌}
+use Prim.Native.Nat.{ℕ, ◌%◌, ◌/◌, ◌≤◌}
 use native.Mathlib.Omega.{arith}
 use mathlib.Core.Path.{◌≡◌, refl}
 use mathlib.Core.Bool.{Bool, true, false, not, ◌&&◌}

@@ -3,6 +3,8 @@ ghost use Rattle.std.specs.Prelude.{◌<◌};
 
 use crate::output;
 use kind::Kind;
+use std::io;
+use std::io::Write;
 
 // The most numbers of an answer.
 pub(crate) const NUMBERS: usize = 4;
@@ -12,7 +14,7 @@ pub(crate) const OWN: usize = Kind::PREFACTORS;
 // What an answer tells: its form's number, the numbers for the form's marks, its own bytes and how many they are, the
 // entries of a table, where the bytes that were lent start and how many they are, how many floats stand first, and how many
 // others follow.
-#[derive(Drop)]
+#[derive(Clone, Copy)]
 pub(crate) struct Told {
     pub(crate) form: usize,
     pub(crate) numbers: [u64; NUMBERS],
@@ -25,25 +27,23 @@ pub(crate) struct Told {
     pub(crate) others: usize,
 }
 
-// Prints an answer after the `used` bytes that wait in `out`. `line` is what it answers.
-pub(crate) fn print(
+// Prints an answer. `line` is what it answers.
+pub(crate) fn print<W: Write>(
     table: &[u8],
     t: Told,
     line: &[u8],
     bytes: &[u8],
     floats: &[f64],
-    out: &mut [u8],
-    used: usize,
-) -> usize {
-    let mut next = used;
+    out: &mut W,
+) -> io::Result<()> {
     let mut k = 0;
     let mut i = form_start(table, t.form);
     while i < table.len() {
-        next = output::run(table[i], k, t, line, bytes, floats, out, next);
+        output::run(table[i], k, t, line, bytes, floats, out)?;
         k = counted(table[i], k);
         i = on(table[i], i, table.len());
     }
-    next
+    Ok(())
 }
 
 // Where the form with this number begins; the table's end where there is none.

@@ -1,13 +1,13 @@
 // Standard input, line by line, by way of one buffer that holds a longest line and more.
 ghost use Rattle.std.specs.Prelude.{◌+◌, ◌≤◌, length};
 
-use libc::STDIN_FILENO;
+use std::io::Read;
 
 // The most bytes of a line.
 pub(crate) const MOST_LINE: usize = 2097152;
 
 // What came: a line, one that is too long, none without reading on, or the input's end.
-#[derive(Drop)]
+#[derive(Clone, Copy)]
 pub(crate) enum Found {
     Line,
     Lost,
@@ -17,7 +17,7 @@ pub(crate) enum Found {
 
 // The line that was found stands from `start` to `stop`. The next begins at `begun`; it has no end up to `seen`, and up
 // to `end` the buffer is filled. Of a line that is `lost` too much came already.
-#[derive(Drop)]
+#[derive(Clone, Copy)]
 pub(crate) struct State {
     pub(crate) found: Found,
     pub(crate) start: usize,
@@ -44,13 +44,13 @@ pub(crate) fn carry(n: usize, lost: bool) -> State {
 }
 
 // The next line. Where it has not come whole, the answer is `More`, and the call after that reads on.
-pub(crate) fn next(input: &mut [u8], s: State) -> State {
+pub(crate) fn next<R: Read>(from: &mut R, input: &mut [u8], s: State) -> State {
     let found = s.found;
     if s.ended {
         return finish(s, Found::End);
     }
     match found {
-        Found::More => more(input, s),
+        Found::More => more(from, input, s),
         Found::Line => look(input, s),
         Found::Lost => look(input, s),
         Found::End => s,
@@ -127,9 +127,9 @@ fn line_end(input: &[u8], from: usize, end: usize) -> usize {
 }
 
 // Reads on, and looks for the line's end again.
-fn more(input: &mut [u8], s: State) -> State {
+fn more<R: Read>(from: &mut R, input: &mut [u8], s: State) -> State {
     let t = carried(input, s);
-    let n = fill(input, t.end);
+    let n = fill(from, input, t.end);
     if n == 0 {
         return last(t);
     }
@@ -139,22 +139,25 @@ fn more(input: &mut [u8], s: State) -> State {
 }
 
 // Reads once after the first `end` bytes, and answers how many there are then; nought where none came (D-50).
-fn fill(input: &mut [u8], end: usize) -> usize {
+fn fill<R: Read>(from: &mut R, input: &mut [u8], end: usize) -> usize {
     if input.len() < end {
         return 0;
     }
-    let n = filled(&mut input[end..]);
+    let n = filled(from, &mut input[end..]);
     if n == 0 {
         return 0;
     }
     end + n
 }
 
-fn filled(rest: &mut [u8]) -> usize
+// A read that fails counts as the input's end.
+fn filled<R: Read>(from: &mut R, rest: &mut [u8]) -> usize
     ensures { result ≤ length rest.old }
 {
-    let got = libc::read(STDIN_FILENO, rest);
-    io::count(got, rest)
+    match from.read(rest) {
+        Ok(n) => n,
+        Err(_) => 0,
+    }
 }
 
 // The line that has begun goes to the front; one that is too long already is lost, with every byte of it.

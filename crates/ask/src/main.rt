@@ -2,6 +2,8 @@
 //
 // Questions come from standard input until it ends. `turns` has the shapes of questions and the forms of answers, `questions`
 // calls the library.
+#![tactic(auto)]
+
 ghost use Rattle.std.specs.Prelude.{◌<◌};
 
 mod answers;
@@ -26,6 +28,9 @@ mod values;
 mod words;
 
 use lines::{Found, State};
+use std::alloc::Global;
+use std::io;
+use std::io::{BufWriter, Read, Write};
 
 // So much is read or written at once.
 const AT_ONCE: usize = 65536;
@@ -35,15 +40,23 @@ const INPUT: usize = lines::MOST_LINE + AT_ONCE;
 const FLOATS: usize = matrices::MOST_TENSOR + matrices::MOST_MATRIX;
 
 // Reads and answers until the input ends. A proved loop has to end, so it counts down from a number that no run uses up (D-55).
-fn serve(input: &mut [u8], given: &mut [u8], floats: &mut [f64], lent: &mut [u8], out: &mut [u8]) {
+fn serve<R: Read, W: Write>(
+    alloc: Global,
+    from: &mut R,
+    input: &mut [u8],
+    given: &mut [u8],
+    floats: &mut [f64],
+    lent: &mut [u8],
+    out: &mut W,
+) -> io::Result<()> {
     let mut s = lines::carry(0, false);
-    let mut used = 0;
     let mut turns = u64::MAX;
     while turns > 0 {
-        s = lines::next(input, s);
-        used = turns::turn(input, s, given, floats, lent, out, used);
+        s = lines::next(from, input, s);
+        turns::turn(alloc, input, s, given, floats, lent, out)?;
         turns = left(s, turns);
     }
+    Ok(())
 }
 
 fn left(s: State, turns: u64) -> u64
@@ -59,28 +72,21 @@ fn left(s: State, turns: u64) -> u64
     }
 }
 
-// Each buffer is made by a function of its own: its length is then known from its type.
-fn input_bytes() -> [u8; INPUT] {
-    [0; INPUT]
-}
-
-fn lent_bytes() -> [u8; lent::MOST] {
-    [0; lent::MOST]
-}
-
-fn given_floats() -> [f64; FLOATS] {
-    [0.0; FLOATS]
-}
-
-fn output_bytes() -> [u8; AT_ONCE] {
-    [0; AT_ONCE]
-}
-
-fn main() {
-    let mut input = input_bytes();
-    let mut given = lent_bytes();
-    let mut floats = given_floats();
-    let mut lent = lent_bytes();
-    let mut out = output_bytes();
-    serve(&mut input, &mut given, &mut floats, &mut lent, &mut out);
+fn main(rt: HostRuntime) -> io::Result<()> {
+    let alloc = rt.alloc();
+    let mut input = vec![in alloc; 0; INPUT]?;
+    let mut given = vec![in alloc; 0; lent::MOST]?;
+    let mut floats = vec![in alloc; 0.0; FLOATS]?;
+    let mut lent = vec![in alloc; 0; lent::MOST]?;
+    let mut from = rt.stdin();
+    let mut out = BufWriter::with_capacity(alloc, AT_ONCE, io::writer(&rt))?;
+    serve(
+        alloc,
+        &mut from,
+        &mut input,
+        &mut given,
+        &mut floats,
+        &mut lent,
+        &mut out,
+    )
 }

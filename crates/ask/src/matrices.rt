@@ -15,7 +15,7 @@ pub(crate) const MOST_TENSOR: usize = 65537;
 pub(crate) const MOST_MATRIX: usize = 1024;
 
 // The matrix size that is said, and the lengths of I, D, J and K.
-#[derive(Drop)]
+#[derive(Clone, Copy)]
 pub(crate) struct Sizes {
     n: usize,
     i: usize,

@@ -1,70 +1,46 @@
-// Standard output by way of a buffer. Each writer takes the number of bytes that wait in it, and answers it anew.
+// The letters of an answer, each written to a writer that keeps them until they go out.
+ghost use Rattle.std.specs.Prelude.{◌≤◌, length};
+
 use crate::{floats, forms, questions};
 use forms::{NUMBERS, Told};
 use kind::Kind;
-use libc::STDOUT_FILENO;
-use questions::sum;
+use questions::{least, sum};
+use std::io;
+use std::io::Write;
 use text::Written;
 
 // More bytes than one number or letter takes.
 const PIECE: usize = 32;
 
-// What waits goes out.
-fn flush(out: &[u8], used: usize) -> usize {
-    if used <= out.len() {
-        io::write_all(STDOUT_FILENO, &out[0..used]);
-    }
-    0
-}
-
-// Where one piece more has room; what waits goes out before.
-pub(crate) fn room(out: &[u8], used: usize) -> usize {
-    if PIECE <= out.len() {
-        if used <= out.len() - PIECE {
-            return used;
-        }
-    }
-    flush(out, used)
-}
-
-// Where the buffer is too small for a piece, nothing is written.
-fn end(w: Written, used: usize) -> usize {
+// How many bytes of a piece are written: none where it had no room.
+fn end(piece: &[u8], w: Written) -> usize
+    ensures { result ≤ length piece.now }
+{
     match w {
-        Written::To(next) => next,
-        Written::NoRoom => used,
+        Written::To(next) => least(next, piece.len()),
+        Written::NoRoom => 0,
     }
 }
 
-fn put(out: &mut [u8], at: usize, byte: u8) -> usize {
-    let one = [byte];
-    let w = text::put(out, at, &one);
-    end(w, at)
-}
-
-// What stands for a letter of a form, after the `used` bytes that wait; `k` numbers are told. # is a number, $ one in sixteen
+// What stands for a letter of a form, where `k` numbers are told. # is a number, $ one in sixteen
 // hexadecimal digits; % the bytes that were lent in hexadecimal, | as a text; & the answer's own in hexadecimal, ~ in
 // decimal, each after a blank; * the entries of a table, < the floats that stand first, > the others, each after a blank;
 // ^ the line. At ! what waits goes out.
-pub(crate) fn run(
+pub(crate) fn run<W: Write>(
     letter: u8,
     k: usize,
     t: Told,
     line: &[u8],
     bytes: &[u8],
     floats: &[f64],
-    out: &mut [u8],
-    used: usize,
-) -> usize {
-    let count = times(letter, t, line.len());
-    let mut next = used;
-    let mut i = 0;
-    while i < count {
+    out: &mut W,
+) -> io::Result<()> {
+    for i in 0..times(letter, t, line.len()) {
         let v = value(letter, k, t, line, bytes, floats, i);
-        next = place(letter, out, next);
-        next = unit(letter, v, out, next);
-        i += 1;
+        place(letter, out)?;
+        unit(letter, v, out)?;
     }
-    next
+    Ok(())
 }
 
 // How many values stand for a letter.
@@ -134,22 +110,31 @@ fn bar(byte: u8) -> u8 {
     byte
 }
 
-// The place for a value: where a piece has room, and after the blank that some letters ask for.
-fn place(letter: u8, out: &mut [u8], used: usize) -> usize {
-    let at = room(out, used);
+// The blank that some letters ask for before a value.
+fn place<W: Write>(letter: u8, out: &mut W) -> io::Result<()> {
     match letter {
-        b'~' | b'*' | b'<' | b'>' => put(out, at, b' '),
-        _ => at,
+        b'~' | b'*' | b'<' | b'>' => out.write_all(b" "),
+        _ => Ok(()),
     }
 }
 
-// One value of a letter.
-fn unit(letter: u8, v: u64, out: &mut [u8], at: usize) -> usize {
+// One value of a letter. At ! what waits goes out.
+fn unit<W: Write>(letter: u8, v: u64, out: &mut W) -> io::Result<()> {
+    if letter == b'!' {
+        return out.flush();
+    }
+    let mut piece = [0; PIECE];
+    let w = spelled(letter, v, &mut piece);
+    let n = end(&piece, w);
+    out.write_all(&piece[..n])
+}
+
+// One value of a letter as text, at the front of a piece.
+fn spelled(letter: u8, v: u64, piece: &mut [u8]) -> Written {
     match letter {
-        b'#' | b'~' => end(text::decimal(out, at, v), at),
-        b'$' | b'*' | b'<' | b'>' => end(text::hex_word(out, at, v), at),
-        b'%' | b'&' => end(text::hex_byte(out, at, questions::byte(v)), at),
-        b'!' => flush(out, at),
-        _ => put(out, at, questions::byte(v)),
+        b'#' | b'~' => text::decimal(piece, 0, v),
+        b'$' | b'*' | b'<' | b'>' => text::hex_word(piece, 0, v),
+        b'%' | b'&' => text::hex_byte(piece, 0, questions::byte(v)),
+        _ => text::put(piece, 0, &[questions::byte(v)]),
     }
 }

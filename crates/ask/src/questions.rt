@@ -14,7 +14,7 @@ const SHELL_LENT: u64 = 256;
 // Room for the longest listing: a term of three bytes takes at most fourteen letters, and each byte more at most three.
 const LISTING_LENT: u64 = 5 * Kind::MOST_LISTED as u64;
 
-#[derive(Drop)]
+#[derive(Clone, Copy)]
 enum Question {
     Echo,
     Shell,
@@ -63,7 +63,7 @@ enum Question {
 
 // The length of a lent buffer, the place from which on it is filled, and the length that it must have at once: all of it
 // where the question says it, else none.
-#[derive(Drop)]
+#[derive(Clone, Copy)]
 pub(crate) struct Lent {
     pub(crate) size: usize,
     start: usize,

@@ -1,20 +1,23 @@
 // A turn: a line is read by the shapes of questions, answered, and its answer is printed by the forms of answers.
-use crate::{answers, forms, lent, lines, output, questions, shapes, words};
+use crate::{answers, forms, lines, questions, shapes, words};
 use forms::Told;
 use lines::State;
+use std::alloc::Global;
+use std::io;
+use std::io::Write;
 use words::Asked;
 
 // Shapes: B, W and P are numbers below 2^8, 2^32 and 2^64, L a buffer's length, G a grouping buffer's, T that of an export, R a roll, S a second one, C a centre, N a count of nuclei
 // and as many centres, M a count of primitives and as many, H a count of floats and as many, F a float, * floats, + one number below 2^8 or none, ^ any bytes; the first is the empty line. `questions::of` has their numbers.
-pub(crate) fn turn(
+pub(crate) fn turn<W: Write>(
+    alloc: Global,
     input: &[u8],
     s: State,
     given: &mut [u8],
     floats: &mut [f64],
     lent: &mut [u8],
-    out: &mut [u8],
-    used: usize,
-) -> usize {
+    out: &mut W,
+) -> io::Result<()> {
     let line = lines::line(input, s);
     let asked = shapes::read(
         b"
@@ -65,111 +68,57 @@ import R L P
         given,
         floats,
     );
-    answered(s, asked, line, given, floats, lent, out, used)
+    answered(alloc, s, asked, line, given, floats, lent, out)
 }
 
 // The answer to what is read. A question that says no buffer gets the usual one first, and a larger one where that has no room.
-fn answered(
+fn answered<W: Write>(
+    alloc: Global,
     s: State,
     asked: Asked,
     line: &[u8],
     given: &[u8],
     floats: &mut [f64],
     lent: &mut [u8],
-    out: &mut [u8],
-    used: usize,
-) -> usize {
+    out: &mut W,
+) -> io::Result<()> {
     let room = questions::room(asked);
     if lent.len() < room.said {
-        return in_larger(s, asked, room.size, line, given, floats, out, used);
+        return in_larger(alloc, s, asked, room.size, line, given, floats, out);
     }
     let told = questions::answer(asked, given, floats, lent);
     if lent.len() < answers::wanted(told, room.size) {
-        return in_larger(s, asked, room.size, line, given, floats, out, used);
+        return in_larger(alloc, s, asked, room.size, line, given, floats, out);
     }
-    say(answers::heard(s, told), line, lent, floats, out, used)
+    say(answers::heard(s, told), line, lent, floats, out)
 }
 
 // The answer to a question that has bytes lent alone, by way of a larger buffer that has the room.
-fn in_larger(
+fn in_larger<W: Write>(
+    alloc: Global,
     s: State,
     asked: Asked,
     room: usize,
     line: &[u8],
     given: &[u8],
     floats: &[f64],
-    out: &mut [u8],
-    used: usize,
-) -> usize {
-    if lent::LARGE < room {
-        return in_largest(s, asked, room, line, given, floats, out, used);
-    }
-    in_large(s, asked, room, line, given, floats, out, used)
-}
-
-// The answer by way of a larger buffer. It stands on the stack only here: the compiler puts no function that calls itself into its caller, unless that call comes last. No question needs more
-// than there is, so the call is not made.
-fn in_large(
-    s: State,
-    asked: Asked,
-    room: usize,
-    line: &[u8],
-    given: &[u8],
-    floats: &[f64],
-    out: &mut [u8],
-    used: usize,
-) -> usize {
-    if lent::LARGE < room {
-        let next = in_large(s, asked, room - lent::LARGE, line, given, floats, out, used);
-        return output::room(out, next);
-    }
-    let mut bytes = large_bytes();
+    out: &mut W,
+) -> io::Result<()> {
+    let mut bytes = vec![in alloc; 0; room]?;
     let told = questions::answer_in(asked, given, floats, &mut bytes);
-    say(answers::heard(s, told), line, &bytes, floats, out, used)
+    say(answers::heard(s, told), line, &bytes, floats, out)
 }
 
-// The same by way of the largest one.
-fn in_largest(
-    s: State,
-    asked: Asked,
-    room: usize,
-    line: &[u8],
-    given: &[u8],
-    floats: &[f64],
-    out: &mut [u8],
-    used: usize,
-) -> usize {
-    if lent::LARGEST < room {
-        let next = in_largest(
-            s,
-            asked,
-            room - lent::LARGEST,
-            line,
-            given,
-            floats,
-            out,
-            used,
-        );
-        return output::room(out, next);
-    }
-    let mut bytes = largest_bytes();
-    let told = questions::answer_in(asked, given, floats, &mut bytes);
-    say(answers::heard(s, told), line, &bytes, floats, out, used)
-}
-
-// Made by a function of its own: its length is then known from its type.
-fn large_bytes() -> [u8; lent::LARGE] {
-    [0; lent::LARGE]
-}
-
-fn largest_bytes() -> [u8; lent::LARGEST] {
-    [0; lent::LARGEST]
-}
-
-// Prints an answer after the `used` bytes that wait in `out`.
+// Prints an answer.
 // Forms: # is a number, $ a float's bits, % bytes that were lent in hexadecimal, | a text of them, & the answer's own bytes in
 // hexadecimal, ~ in decimal, * a table, < and > floats, ^ the line itself; at ! what waits goes out. `answers` has their numbers.
-fn say(t: Told, line: &[u8], bytes: &[u8], floats: &[f64], out: &mut [u8], used: usize) -> usize {
+fn say<W: Write>(
+    t: Told,
+    line: &[u8],
+    bytes: &[u8],
+    floats: &[f64],
+    out: &mut W,
+) -> io::Result<()> {
     forms::print(
         b"^
 ?
@@ -209,6 +158,5 @@ refused # line #
         bytes,
         floats,
         out,
-        used,
     )
 }

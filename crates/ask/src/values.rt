@@ -26,7 +26,7 @@ const CENTRES: usize = 4 * CENTRE;
 // The most Boys numbers that a question can have.
 const MOST_BOYS: usize = 65536;
 
-#[derive(Drop)]
+#[derive(Clone, Copy)]
 struct Four {
     a: Centre,
     b: Centre,

@@ -17,7 +17,7 @@ const MOST_HOST: u64 = 128;
 
 // What is read of a line: its question's number, whether that is found, and a number for each word that the shape asks for. A
 // roll's bytes and floats stand at the front of what was lent for them.
-#[derive(Drop)]
+#[derive(Clone, Copy)]
 pub(crate) struct Asked {
     pub(crate) question: usize,
     pub(crate) found: bool,
@@ -29,20 +29,20 @@ pub(crate) struct Asked {
     pub(crate) at: usize,
 }
 
-#[derive(Drop)]
+#[derive(Clone, Copy)]
 enum Byte {
     Is(u8, usize),
     Not,
 }
 
-#[derive(Drop)]
+#[derive(Clone, Copy)]
 enum Float {
     Is(f64, usize),
     Not,
 }
 
 // How many were read, and the place after them.
-#[derive(Drop)]
+#[derive(Clone, Copy)]
 struct Run {
     count: usize,
     end: usize,
@@ -221,7 +221,7 @@ fn primitive(line: &[u8], a: Asked, room: &mut [f64]) -> Asked {
 }
 
 // What follows a count: so many of a sort, where the count is not above the most of a list, else none.
-#[derive(Drop)]
+#[derive(Clone, Copy)]
 pub(crate) enum Listed {
     Nuclei,
     Primitives,

@@ -1,14 +1,13 @@
 -- What a comparison's answer and a step's hold is within the limits of their types, so a piece has room in the buffer.
-use Prim.Native.Nat.{ℕ, ◌≤◌}
+use Prim.Native.Nat.{◌≤◌}
 use mathlib.Core.List.{List}
 use lib.ListN.{length}
 use mir.Syntax.{w8}
 use mir.Val.{Val}
-use borrow.Author.Rules.{length_unmapped, elem_fits_field}
+use borrow.Author.Rules.{elem_Fits}
 use denote.Laws.{Is}
 use denote.Struct.Declared.{row}
 use denote.Enum.Declared.{row as variants}
-use Rattle.kind.specs.Limits.{most_l·any, request_orders}
 use Rattle.term.specs.declared.Term.{Term as Held}
 use Rattle.term.specs.contracts.Term as term
 use Rattle.comparing.specs.declared.pair.Line.{Line}
@@ -31,8 +30,8 @@ small-term t vs p =
     record {
       scale = f.0.1;
       boys = f.1.0.1;
-      long = length_unmapped ℕ t.prefactors most_l·any ps.1.0.1;
-      bytes = λ i. (elem_fits_field w8 w8 t.prefactors ps.0 i ps.1.1 tt).fits;
+      long = ps.1.0.1;
+      bytes = λ i. (elem_Fits w8 w8 t.prefactors ps.0 i ps.1.1 tt).fits;
     }
 
 small_line : (f : Line) (vs : List Val) → Is (variants line-type.the_type) f vs → SmallLine f
@@ -62,10 +61,10 @@ small-head c vs p =
       right-kind = theirs.1.1.0.1;
       left-terms = ours.1.0.1;
       right-terms = theirs.1.0.1;
-      left-bytes = λ i. (elem_fits_field w8 w8 c.left left.0 i left.1.1 tt).fits;
-      right-bytes = λ i. (elem_fits_field w8 w8 c.right right.0 i right.1.1 tt).fits;
-      left-long = length_unmapped ℕ c.left request_orders left.1.0.1;
-      right-long = length_unmapped ℕ c.right request_orders right.1.0.1;
+      left-bytes = λ i. (elem_Fits w8 w8 c.left left.0 i left.1.1 tt).fits;
+      right-bytes = λ i. (elem_Fits w8 w8 c.right right.0 i right.1.1 tt).fits;
+      left-long = left.1.0.1;
+      right-long = right.1.0.1;
     }
 
 pub met-room : (m : Met) (vs : List Val) → Is (row met-type.the_type) m vs → length (met_text m) ≤ piece_room

@@ -1,13 +1,20 @@
 // Tells where two rolls differ: `compare LEFT RIGHT`, each a file with a roll of either form (02, Q-4).
 //
 // What there is to tell goes to standard output, one piece after the other; a file that can't be opened is told on standard error (D-105).
-ghost use Rattle.std.specs.Prelude.{◌≤◌, length};
+#![tactic(auto)]
+
+ghost use Rattle.std.specs.Prelude.{◌≤◌, length, OnOk};
+ghost use Rattle.std.specs.Io.KnownBytes.{Appends};
 ghost use Rattle.comparing.specs.Answers.{piece_room, compared_text, met_text};
 ghost use Rattle.compare.specs.inner.Room.{Holds};
 
 use comparing::{Compared, Met, Pair, is_line};
-use libc::{STDERR_FILENO, STDOUT_FILENO};
 use listing::Listed;
+use std::env::Env;
+use std::fs::Files;
+use std::io;
+use std::io::Write;
+use streams::{argument_count, open, read_full};
 
 // The bytes of a piece: no head and no line has more.
 const PIECE: usize = 256;
@@ -19,15 +26,11 @@ const ROOM: usize = 1048576;
 const LARGE: usize = 33554432;
 
 // A file that was read whole, or one that fills the buffer and may have more: how many bytes were read; or none that can be opened.
-#[derive(Drop)]
+#[derive(Clone, Copy)]
 enum File {
     Whole(usize),
     Long(usize),
     Missing,
-}
-
-fn say(words: &[u8]) {
-    io::write_all(STDERR_FILENO, words);
 }
 
 // How many bytes of text say what a comparison answers.
@@ -52,133 +55,134 @@ fn told_line(met: Met, text: &mut [u8]) -> usize
     }
 }
 
-fn write_head(compared: Compared, text: &mut [u8])
+fn write_head<W: Write>(out: &mut W, compared: Compared, text: &mut [u8]) -> io::Result<()>
     requires { piece_room ≤ length text.old }
+    ensures { OnOk result (Appends (W.contents out.old) (W.contents out.new) (compared_text compared)) }
 {
     let n = told_head(compared, text);
-    io::write_all(STDOUT_FILENO, &text[0..n]);
+    out.write_all(&text[0..n])
 }
 
-fn write_line(met: Met, text: &mut [u8])
+fn write_line<W: Write>(out: &mut W, met: Met, text: &mut [u8]) -> io::Result<()>
     requires { piece_room ≤ length text.old }
+    ensures { OnOk result (Appends (W.contents out.old) (W.contents out.new) (met_text met)) }
 {
     let n = told_line(met, text);
-    io::write_all(STDOUT_FILENO, &text[0..n]);
+    out.write_all(&text[0..n])
 }
 
 // The lines of the positions that the steps from a pair on give.
-fn write_lines(left: &[u8], right: &[u8], pair: Pair, text: &mut [u8])
+fn write_lines<W: Write>(
+    out: &mut W,
+    left: &[u8],
+    right: &[u8],
+    pair: Pair,
+    text: &mut [u8],
+) -> io::Result<()>
     requires { piece_room ≤ length text.old }
 {
     let mut met = pair.next(left, right);
     let mut more = is_line(met);
     while more {
-        write_line(met, text);
+        write_line(out, met, text)?;
         let at = met.next;
         met = at.next(left, right);
         more = is_line(met);
     }
+    Ok(())
 }
 
-fn show(left: &[u8], right: &[u8]) {
+fn show<W: Write>(out: &mut W, left: &[u8], right: &[u8]) -> io::Result<()> {
     let mut text = [0u8; PIECE];
     let compared = comparing::compare(left, right);
-    write_head(compared, &mut text);
-    write_lines(left, right, compared.cursor, &mut text);
+    write_head(out, compared, &mut text)?;
+    write_lines(out, left, right, compared.cursor, &mut text)
 }
 
 // The file that an argument names, at the front of the buffer.
-fn load(argument: usize, bytes: &mut [u8]) -> File {
+fn load(rt: &(impl Env + Files), argument: usize, bytes: &mut [u8]) -> io::Result<File> {
     let mut name = [0u8; NAME];
-    let n = os::arg(argument, &mut name);
-    let fd = os::open_read(&name[0..n]);
-    if fd < 0 {
-        return File::Missing;
-    }
-    let read = io::read_full(fd, bytes);
-    libc::close(fd);
+    let n = streams::argument(rt, argument, &mut name);
+    let Some(mut file) = open(rt, &name[0..n]) else {
+        return Ok(File::Missing);
+    };
+    let read = read_full(&mut file, bytes)?;
     if read < bytes.len() {
-        return File::Whole(read);
+        return Ok(File::Whole(read));
     }
-    File::Long(read)
+    Ok(File::Long(read))
 }
 
 // Both rolls are at the front of their buffers.
-fn show_both(left: &[u8], n: usize, right: &[u8], m: usize) {
+fn show_both(rt: &impl Print, left: &[u8], n: usize, right: &[u8], m: usize) -> io::Result<()> {
     if left.len() < n {
-        return;
+        return Ok(());
     }
     if right.len() < m {
-        return;
+        return Ok(());
     }
-    show(&left[0..n], &right[0..m]);
+    show(&mut io::writer(rt), &left[0..n], &right[0..m])
 }
 
 // How many bytes were read of a file that has no room; 0 where all is told. The left roll is at the front of its buffer.
-fn with_left(left: &[u8], n: usize, right: &mut [u8]) -> usize {
-    match load(2, right) {
+fn with_left(
+    rt: &(impl Env + Files + Print + Eprint),
+    left: &[u8],
+    n: usize,
+    right: &mut [u8],
+) -> io::Result<usize> {
+    match load(rt, 2, right)? {
         File::Whole(m) => {
-            show_both(left, n, right, m);
-            0
+            show_both(rt, left, n, right, m)?;
+            Ok(0)
         }
-        File::Long(m) => m,
+        File::Long(m) => Ok(m),
         File::Missing => {
-            say(b"The right file can't be opened.\n");
-            0
+            eprintln!(rt; "The right file can't be opened.")?;
+            Ok(0)
         }
     }
 }
 
 // How many bytes were read of a file that has no room; 0 where all is told.
-fn answer(left: &mut [u8], right: &mut [u8]) -> usize {
-    match load(1, left) {
-        File::Whole(n) => with_left(left, n, right),
-        File::Long(n) => n,
+fn answer(
+    rt: &(impl Env + Files + Print + Eprint),
+    left: &mut [u8],
+    right: &mut [u8],
+) -> io::Result<usize> {
+    match load(rt, 1, left)? {
+        File::Whole(n) => with_left(rt, left, n, right),
+        File::Long(n) => Ok(n),
         File::Missing => {
-            say(b"The left file can't be opened.\n");
-            0
+            eprintln!(rt; "The left file can't be opened.")?;
+            Ok(0)
         }
     }
 }
 
-// Each buffer is made by a function of its own: its length is then known from its type.
-fn usual_bytes() -> [u8; ROOM] {
-    [0; ROOM]
+fn in_usual(rt: &(impl Env + Files + Print + Eprint + Alloc)) -> io::Result<usize> {
+    let mut left = vec![in rt.alloc(); 0u8; ROOM]?;
+    let mut right = vec![in rt.alloc(); 0u8; ROOM]?;
+    answer(rt, &mut left, &mut right)
 }
 
-fn large_bytes() -> [u8; LARGE] {
-    [0; LARGE]
-}
-
-fn in_usual() -> usize {
-    let mut left = usual_bytes();
-    let mut right = usual_bytes();
-    answer(&mut left, &mut right)
-}
-
-// The answer by way of larger buffers, for files of which one has so many bytes. They stand on the stack only here: the compiler
-// puts no function that calls itself into its caller, unless that call comes last. The usual buffers are smaller, so the call is
-// not made.
-fn in_large(long: usize) {
-    if LARGE < long {
-        in_large(long - LARGE);
+// The answer by way of larger buffers.
+fn in_large(rt: &(impl Env + Files + Print + Eprint + Alloc)) -> io::Result<()> {
+    let mut left = vec![in rt.alloc(); 0u8; LARGE]?;
+    let mut right = vec![in rt.alloc(); 0u8; LARGE]?;
+    if answer(rt, &mut left, &mut right)? == 0 {
+        return Ok(());
     }
-    let mut left = large_bytes();
-    let mut right = large_bytes();
-    if answer(&mut left, &mut right) == 0 {
-        return;
-    }
-    say(b"A file is longer than any roll.\n");
+    eprintln!(rt; "A file is longer than any roll.")
 }
 
-fn main() {
-    if os::arg_count() != 3 {
-        say(b"compare LEFT RIGHT: where two rolls differ\n");
-        return;
+fn main(rt: HostRuntime) -> io::Result<()> {
+    if argument_count(&rt) != 3 {
+        return eprintln!(rt; "compare LEFT RIGHT: where two rolls differ");
     }
-    let long = in_usual();
+    let long = in_usual(&rt)?;
     if long == 0 {
-        return;
+        return Ok(());
     }
-    in_large(long);
+    in_large(&rt)
 }

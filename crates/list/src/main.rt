@@ -1,12 +1,17 @@
 // Lists the roll that comes from standard input, or tells why it is refused.
-ghost use Rattle.std.specs.Prelude.{◌≤◌, length};
+#![tactic(auto)]
+
+ghost use Rattle.std.specs.Prelude.{◌≤◌, length, OnOk};
+ghost use Rattle.std.specs.Io.KnownBytes.{Appends};
 ghost use Rattle.listing.specs.Text.{refusal_text};
 ghost use Rattle.list.specs.Output.{output_of};
 ghost use Rattle.list.specs.inner.Room.{text_room, Holds};
 
 use kind::Kind;
-use libc::{STDIN_FILENO, STDOUT_FILENO};
 use listing::Listed;
+use std::io;
+use std::io::Write;
+use streams::read_full;
 
 // A longest roll, and a byte more that shows a longer one.
 const INPUT: usize = Kind::MOST_LISTED + 1;
@@ -34,16 +39,17 @@ fn told(roll: &[u8], text: &mut [u8]) -> usize
     }
 }
 
-fn show(roll: &[u8], text: &mut [u8])
+fn show<W: Write>(out: &mut W, roll: &[u8], text: &mut [u8]) -> io::Result<()>
     requires { text_room ≤ length text.old }
+    ensures { OnOk result (Appends (W.contents out.old) (W.contents out.new) (output_of roll.now)) }
 {
     let n = told(roll, text);
-    io::write_all(STDOUT_FILENO, &text[0..n]);
+    out.write_all(&text[0..n])
 }
 
-fn main() {
-    let mut bytes = [0u8; INPUT];
-    let mut text = [0u8; TEXT];
-    let n = io::read_full(STDIN_FILENO, &mut bytes);
-    show(&bytes[0..n], &mut text);
+fn main(rt: HostRuntime) -> io::Result<()> {
+    let mut bytes = vec![in rt.alloc(); 0u8; INPUT]?;
+    let mut text = vec![in rt.alloc(); 0u8; TEXT]?;
+    let n = read_full(&mut rt.stdin(), &mut bytes)?;
+    show(&mut rt.stdout(), &bytes[0..n], &mut text)
 }

@@ -2,8 +2,12 @@
 //
 // The fresh roll goes to standard output, in the form of the damaged one; one line to standard error tells what was kept of
 // it. A refusal writes nothing and tells its line there instead.
-use libc::{STDERR_FILENO, STDIN_FILENO, STDOUT_FILENO};
+#![tactic(auto)]
+
 use salvaging::{After, Salvaged, Told};
+use std::io;
+use std::io::Input;
+use streams::read_full;
 use text::Written;
 
 // The bytes of the buffers that a roll usually goes through; one that has as many may have more.
@@ -11,156 +15,137 @@ const ROOM: usize = 1048576;
 // The bytes of the larger ones: more than any roll of either form has. What a damaged roll has beyond them is never looked at.
 const LARGE: usize = 33554432;
 
-fn say(words: &[u8]) {
-    io::write_all(STDERR_FILENO, words);
-}
-
-fn say_number(words: &[u8], n: u64) {
-    say(words);
-    io::print_decimal(STDERR_FILENO, n);
-}
-
 // Why a refusal comes, with the words of document 01 and of the requests.
-fn say_why(refusal: u8) {
-    if refusal == 4 {
-        say(b": more than 1,048,575 complete histories");
+fn why(refusal: u8) -> &'static str {
+    match refusal {
+        4 => ": more than 1,048,575 complete histories",
+        7 => ": roll breaks a rule",
+        14 => ": the roll ends before a number does",
+        _ => "",
     }
-    if refusal == 7 {
-        say(b": roll breaks a rule");
-    }
-    if refusal == 14 {
-        say(b": the roll ends before a number does");
-    }
-    say(b"\n");
 }
 
 // A refusal's line. Only 7 and 14 have a place.
-fn say_refused(refusal: u8, place: usize) {
-    say_number(b"refused ", refusal as u64);
+fn say_refused(rt: &impl Eprint, refusal: u8, place: usize) -> io::Result<()> {
+    let why = why(refusal);
     if 7 <= refusal {
-        say_number(b" at ", place as u64);
+        return eprintln!(rt; "refused {refusal} at {place}{why}");
     }
-    say_why(refusal);
+    eprintln!(rt; "refused {refusal}{why}")
 }
 
 // Whether the stored term count is the fresh one.
-fn say_count(other: bool) {
-    if other {
-        say(b", count other");
-    } else {
-        say(b", count same");
-    }
+fn count_word(other: bool) -> &'static str {
+    if other { "other" } else { "same" }
 }
 
-fn say_after(after: After) {
+fn after_word(after: After) -> &'static str {
     match after {
-        After::Unknown => say(b", after unknown\n"),
-        After::None => say(b", after none\n"),
-        After::Bytes => say(b", after bytes\n"),
+        After::Unknown => "unknown",
+        After::None => "none",
+        After::Bytes => "bytes",
     }
 }
 
 // The line of a salvaged roll.
-fn say_told(told: Told) {
-    let after = told.after;
-    say_number(b"salvaged ", told.length as u64);
-    say_number(b" bytes, terms ", told.terms as u64);
-    say_number(b": kept ", told.kept as u64);
-    say_number(b", anew ", told.anew as u64);
-    say_count(told.miscounted);
-    say_after(after);
+fn say_told(rt: &impl Eprint, told: Told) -> io::Result<()> {
+    let Told {
+        length,
+        terms,
+        kept,
+        anew,
+        miscounted,
+        after,
+    } = told;
+    let count = count_word(miscounted);
+    let after = after_word(after);
+    eprintln!(rt;
+        "salvaged {length} bytes, terms {terms}: kept {kept}, anew {anew}, count {count}, after {after}"
+    )
 }
 
-fn write_roll(roll: &[u8], n: usize) {
+fn write_roll(rt: &impl Print, roll: &[u8], n: usize) -> io::Result<()> {
     if n <= roll.len() {
-        io::write_all(STDOUT_FILENO, &roll[0..n]);
+        rt.write_all(&roll[0..n])?;
     }
+    Ok(())
 }
 
 // Tells a refusal, and that it is told; not so where the buffer has no room.
-fn told(refusal: u8, place: usize) -> bool {
+fn told(rt: &impl Eprint, refusal: u8, place: usize) -> io::Result<bool> {
     if refusal == 6 {
-        return false;
+        return Ok(false);
     }
-    say_refused(refusal, place);
-    true
+    say_refused(rt, refusal, place)?;
+    Ok(true)
 }
 
 // Whether the buffer has room for what there is to tell; if so, it is told.
-fn answer(roll: &[u8], out: &mut [u8]) -> bool {
+fn answer(rt: &(impl Print + Eprint), roll: &[u8], out: &mut [u8]) -> io::Result<bool> {
     match salvaging::salvage(roll, out, 0) {
         Salvaged::Roll(t) => {
-            write_roll(out, t.length);
-            say_told(t);
-            true
+            write_roll(rt, out, t.length)?;
+            say_told(rt, t)?;
+            Ok(true)
         }
-        Salvaged::Refused(refusal, place) => told(refusal, place),
+        Salvaged::Refused(refusal, place) => told(rt, refusal, place),
     }
-}
-
-// Each buffer is made by a function of its own: its length is then known from its type.
-fn usual_bytes() -> [u8; ROOM] {
-    [0; ROOM]
-}
-
-fn large_bytes() -> [u8; LARGE] {
-    [0; LARGE]
 }
 
 // Whether all is told by way of a usual buffer.
-fn in_usual(roll: &[u8]) -> bool {
+fn in_usual(rt: &(impl Print + Eprint + Alloc), roll: &[u8]) -> io::Result<bool> {
     if ROOM <= roll.len() {
-        return false;
+        return Ok(false);
     }
-    let mut out = usual_bytes();
-    answer(roll, &mut out)
+    let mut out = vec![in rt.alloc(); 0u8; ROOM]?;
+    answer(rt, roll, &mut out)
 }
 
 // Reads what follows the first bytes, and answers how many there are then.
-fn read_on(bytes: &mut [u8], from: usize) -> usize {
+fn read_on(rt: &impl Input, bytes: &mut [u8], from: usize) -> io::Result<usize> {
     if bytes.len() < from {
-        return 0;
+        return Ok(0);
     }
-    let n = io::read_full(STDIN_FILENO, &mut bytes[from..]);
-    from + n
+    let n = read_full(&mut rt.reader(), &mut bytes[from..])?;
+    Ok(from + n)
 }
 
 // The whole roll that begins so, at the front of the buffer; how many bytes it has.
-fn read_whole(bytes: &mut [u8], first: &[u8]) -> usize {
+fn read_whole(rt: &impl Input, bytes: &mut [u8], first: &[u8]) -> io::Result<usize> {
     match text::put(bytes, 0, first) {
-        Written::To(next) => read_on(bytes, next),
-        Written::NoRoom => 0,
+        Written::To(next) => read_on(rt, bytes, next),
+        Written::NoRoom => Ok(0),
     }
 }
 
-fn answer_whole(bytes: &[u8], n: usize, out: &mut [u8]) -> bool {
+fn answer_whole(
+    rt: &(impl Print + Eprint),
+    bytes: &[u8],
+    n: usize,
+    out: &mut [u8],
+) -> io::Result<bool> {
     if bytes.len() < n {
-        return false;
+        return Ok(false);
     }
-    answer(&bytes[0..n], out)
+    answer(rt, &bytes[0..n], out)
 }
 
-// The answer by way of larger buffers, for a roll that begins so. They stand on the stack only here: the compiler puts no
-// function that calls itself into its caller, unless that call comes last. No roll is longer than the buffers, so the call is
-// not made.
-fn in_large(first: &[u8], long: usize) {
-    if LARGE < long {
-        in_large(first, long - LARGE);
+// The answer by way of larger buffers, for a roll that begins so.
+fn in_large(rt: &(impl Input + Print + Eprint + Alloc), first: &[u8]) -> io::Result<()> {
+    let mut bytes = vec![in rt.alloc(); 0u8; LARGE]?;
+    let n = read_whole(rt, &mut bytes, first)?;
+    let mut out = vec![in rt.alloc(); 0u8; LARGE]?;
+    if answer_whole(rt, &bytes, n, &mut out)? {
+        return Ok(());
     }
-    let mut bytes = large_bytes();
-    let n = read_whole(&mut bytes, first);
-    let mut out = large_bytes();
-    if answer_whole(&bytes, n, &mut out) {
-        return;
-    }
-    say_refused(6, 0);
+    say_refused(rt, 6, 0)
 }
 
-fn main() {
-    let mut first = usual_bytes();
-    let n = io::read_full(STDIN_FILENO, &mut first);
-    if in_usual(&first[0..n]) {
-        return;
+fn main(rt: HostRuntime) -> io::Result<()> {
+    let mut first = vec![in rt.alloc(); 0u8; ROOM]?;
+    let n = read_full(&mut rt.reader(), &mut first)?;
+    if in_usual(&rt, &first[0..n])? {
+        return Ok(());
     }
-    in_large(&first[0..n], n);
+    in_large(&rt, &first[0..n])
 }

@@ -1,0 +1,64 @@
+// What the programs read: their input up to a limit, their arguments, and the files that these name.
+#![tactic(auto)]
+
+ghost use Rattle.std.specs.Prelude.{◌≡◌, ◌<◌, ◌≤◌, length, take, IfOk};
+ghost use Rattle.std.specs.Io.{ReadsAtMost};
+ghost use Rattle.std.specs.Io.KnownBytes.{Consumes, IsAtEnd};
+
+use std::env::{Env, FillError};
+use std::fs::Files;
+use std::io::Read;
+use std::{fs, io, str};
+
+// Reads until the buffer is full or the input ends, and answers how many bytes it put at the front of the buffer.
+pub fn read_full<R: Read>(input: &mut R, bytes: &mut [u8]) -> io::Result<usize>
+    ensures inside { ReadsAtMost result bytes.new }
+    ensures taken { IfOk result (λ n. Consumes (R.remaining input.old) (R.remaining input.new) (take n bytes.new)) }
+    ensures whole { IfOk result (λ n. n < length bytes.new → IsAtEnd (R.remaining input.new)) }
+{
+    let mut done = 0;
+    while done < bytes.len() {
+        let n = input.read(&mut bytes[done..])?;
+        if n == 0 {
+            return Ok(done);
+        }
+        done += n;
+    }
+    Ok(done)
+}
+
+// The bytes of an argument, at the front of the buffer; 0 is of one that has none, is missing or has no room.
+pub fn argument<E: Env>(env: &E, i: usize, word: &mut [u8]) -> usize
+    ensures { result ≤ length word.new }
+{
+    match env.arg(i, word) {
+        Ok(n) => n,
+        Err(_) => 0,
+    }
+}
+
+// How many arguments there are, the name of the program among them.
+pub fn argument_count<E: Env>(env: &E) -> usize {
+    for i in 0..usize::MAX {
+        if is_missing(env, i) {
+            return i;
+        }
+    }
+    usize::MAX
+}
+
+fn is_missing<E: Env>(env: &E, i: usize) -> bool {
+    match env.arg(i, &mut []) {
+        Ok(_) => false,
+        Err(FillError::TooLong) => false,
+        Err(FillError::NotPresent) => true,
+    }
+}
+
+// The file of a name, to be read; none where it can't be opened.
+pub fn open<F: Files>(files: &F, name: &[u8]) -> Option<F::File> {
+    match str::from_utf8(name) {
+        Ok(path) => fs::open(files, path).ok(),
+        Err(_) => None,
+    }
+}
