@@ -22,10 +22,10 @@ static int says(xew_opened answer, uint8_t refusal, size_t place)
 
 int main(void)
 {
-    xew_written written = xew_small_expand(XEW_COULOMB, four, roll, sizeof roll, 0);
+    xew_written written = xew_small_expand(4, &four, roll, sizeof roll, 0);
     if (written.refusal || written.length != XEW_SMALL_ROLL || written.terms != XEW_SMALL_TERMS) return 1;
     if (!says(xew_small_check(roll, written.length), 0, 0)) return 2;
-    written = xew_small_expand(XEW_OVERLAP, two, roll, sizeof roll, 0);
+    written = xew_small_expand(0, &two, roll, sizeof roll, 0);
     if (written.refusal || written.length != sizeof right || written.terms != 2) return 3;
     for (size_t i = 0; i < sizeof right; i++)
         if (roll[i] != right[i]) return 4;

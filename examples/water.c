@@ -6,6 +6,7 @@
 #include <stdlib.h>
 #include "xewumbal.h"
 #define PI 3.14159265358979323846
+enum { OVERLAP, KINETIC, NUCLEAR, MOMENT, COULOMB };
 enum { ATOMS = 3, FUNCTIONS = 7, PRIMITIVES = 3, MOST_L = 4, LEAST_VALUES = 12 };
 
 static const double expected[] = {
@@ -95,7 +96,7 @@ static double primitive(int kind, const uint8_t *roll, size_t length, const xew_
     double boys[ATOMS * (MOST_L + 1)], aux, other;
     xew_centre p = product(c[0], c[1], &aux);
     xew_value answer;
-    if (kind == XEW_NUCLEAR) {
+    if (kind == NUCLEAR) {
         for (int a = 0; a < ATOMS; a++)
             boys_numbers(l, p.exponent * squared_distance(p, atoms.centres[a]), boys + a * (l + 1));
         aux *= -2 * sqrt(p.exponent / PI);
@@ -103,13 +104,13 @@ static double primitive(int kind, const uint8_t *roll, size_t length, const xew_
         accept(answer.refusal, answer.place);
         return answer.value;
     }
-    if (kind == XEW_COULOMB) {
+    if (kind == COULOMB) {
         xew_centre q = product(c[2], c[3], &other);
         double rho = p.exponent * q.exponent / (p.exponent + q.exponent);
         boys_numbers(l, rho * squared_distance(p, q), boys);
         aux *= 2 * sqrt(p.exponent * q.exponent / PI) * other; /* k1*k2; the library divides by the root of the exponents' sum */
     }
-    size_t count = kind == XEW_COULOMB ? l + 1 : 0;
+    size_t count = kind == COULOMB ? l + 1 : 0;
     answer = xew_evaluate_grouped(roll, length, c[0], c[1], c[2], c[3], aux, boys, count, buffer, room);
     accept(answer.refusal, answer.place);
     return answer.value;
@@ -123,13 +124,13 @@ static double integral(int kind, const int *f, int count)
     int l = 0, choices = 1;
     for (int i = 0; i < count; i++, choices *= PRIMITIVES)
         if (basis[f[i]].axis >= 0) orders[3 * i + basis[f[i]].axis] = 1, l++;
-    xew_written size = xew_measure(kind, orders);
+    xew_written size = xew_measure(kind, &orders);
     accept(size.refusal, 0);
     size_t most = size.length + size.terms;       /* what the roll takes at most in form 2 */
     size_t room = (size_t)XEW_ENTRY * size.terms; /* for the groups of a Coulomb roll */
     uint8_t *stored = malloc(most), *roll = malloc(size.length), *buffer = malloc(room);
     if (stored == NULL || roll == NULL || buffer == NULL) perror("water"), exit(1);
-    xew_written written = xew_expand2(kind, orders, stored, most, 0);
+    xew_written written = xew_expand2(kind, &orders, stored, most, 0);
     accept(written.refusal, 0);
     xew_opened confirmed = xew_confirm(stored, written.length); /* the expansion itself; xew_check2 says only that it reads */
     accept(confirmed.refusal, confirmed.place);
@@ -155,19 +156,11 @@ static double integral(int kind, const int *f, int count)
 
 int main(void)
 {
-    if (xew_version() != XEW_VERSION) {
-        fprintf(stderr, "water: the library is of version %u, and the header of version %d\n", (unsigned)xew_version(), XEW_VERSION);
-        return 1;
-    }
-    if (xew_float_mode()) {
-        fprintf(stderr, "water: another float mode than the library needs: %d\n", xew_float_mode());
-        return 1;
-    }
     static const char *const names[XEW_KINDS] = {"overlap", "kinetic", "nuclear", "moment", "coulomb"};
     double largest[XEW_KINDS] = {0}, worst[XEW_KINDS] = {0};
     int values[XEW_KINDS] = {0}, status = 0;
     for (const double *e = expected; e < expected + sizeof expected / sizeof *expected; e += 6) {
-        int kind = e[0], f[4] = {e[1], e[2], e[3], e[4]}, count = kind == XEW_COULOMB ? 4 : 2;
+        int kind = e[0], f[4] = {e[1], e[2], e[3], e[4]}, count = kind == COULOMB ? 4 : 2;
         double ours = integral(kind, f, count), difference = fabs(ours - e[5]);
         printf("%s", names[kind]);
         for (int i = 0; i < count; i++) printf(" %-4s", basis[f[i]].name);
@@ -176,7 +169,7 @@ int main(void)
         worst[kind] = fmax(worst[kind], difference);
         values[kind]++;
     }
-    for (int kind = XEW_OVERLAP; kind <= XEW_COULOMB; kind += kind == XEW_NUCLEAR ? 2 : 1) {
+    for (int kind = OVERLAP; kind <= COULOMB; kind += kind == NUCLEAR ? 2 : 1) {
         double part = worst[kind] / largest[kind];
         printf("%s: %d values, largest difference %.1e of the largest value\n", names[kind], values[kind], part);
         if (values[kind] < LEAST_VALUES || !(part <= 1e-12)) status = 1;

@@ -78,14 +78,14 @@ fn primitive(kind: u8, roll: &[u8], c: [Centre; 4], l: usize) -> Result<f64, Ref
             let (q, other) = product(c[2], c[3]);
             let rho = p.exponent * q.exponent / (p.exponent + q.exponent);
             // k1·k2, which the library divides by the root of the exponents' sum
-            (
-                2.0 * (p.exponent * q.exponent / PI).sqrt() * overlap * other,
-                boys_numbers(l, rho * squared_distance(p, q)),
-            )
+            (2.0 * (p.exponent * q.exponent / PI).sqrt() * overlap * other, boys_numbers(l, rho * squared_distance(p, q)))
         }
         _ => (overlap, vec![]),
     };
-    evaluate(roll, c[0], c[1], c[2], c[3], aux, &boys)
+    match evaluate(roll, c[0], c[1], c[2], c[3], aux, &boys) {
+        Value::Is(value) => Ok(value),
+        Value::Refused(refusal) => Err(refusal),
+    }
 }
 
 /// One integral over basis functions. Its roll is made once, confirmed as if another board had written it (`check` would only say
@@ -93,10 +93,18 @@ fn primitive(kind: u8, roll: &[u8], c: [Centre; 4], l: usize) -> Result<f64, Ref
 fn integral(kind: u8, functions: &[&Function]) -> Result<f64, Refusal> {
     let mut orders = [0; ORDERS];
     functions.iter().zip(orders.chunks_mut(3)).for_each(|(f, three)| three.copy_from_slice(&f.orders));
-    let mut room = vec![0; measure(kind, &orders)?.length]; // what the roll takes is lent, and no more
-    let length = expand(kind, &orders, &mut room, 0)?.length;
-    let roll = &room[..length];
-    let l = usize::from(confirm(roll)?.cursor.l);
+    let mut room = match measure(kind, &orders) {
+        Expanded::Roll { length, .. } => vec![0; length], // what the roll takes is lent, and no more
+        Expanded::Refused(refusal) => return Err(refusal),
+    };
+    let roll = match expand(kind, &orders, &mut room, 0) {
+        Expanded::Roll { length, .. } => &room[..length],
+        Expanded::Refused(refusal) => return Err(refusal),
+    };
+    let l = match confirm(roll) {
+        Opened::Roll { cursor, .. } => usize::from(cursor.l),
+        Opened::Refused(refusal) => return Err(refusal),
+    };
     let mut sum = 0.0;
     for choice in 0..3_usize.pow(functions.len() as u32) {
         let (mut c, mut factor, mut rest) = ([Centre::default(); 4], 1.0, choice);
@@ -120,10 +128,6 @@ fn integral(kind: u8, functions: &[&Function]) -> Result<f64, Refusal> {
 }
 
 fn main() {
-    if let Err(mode) = float_mode() {
-        eprintln!("water: {mode}");
-        exit(1);
-    }
     let mut seen = [(0, 0.0_f64, 0.0_f64); KINDS as usize]; // of each kind: values, largest, largest difference
     for line in EXPECTED.lines().filter(|line| !line.starts_with("//")) {
         let row: Vec<f64> = line.split(',').flat_map(|text| text.trim().parse()).collect();
@@ -131,7 +135,7 @@ fn main() {
         let used = if kind == COULOMB { 4 } else { 2 };
         let functions: Vec<&Function> = row[1..=used].iter().map(|&f| &BASIS[f as usize]).collect();
         let ours = integral(kind, &functions).unwrap_or_else(|refusal| {
-            eprintln!("water: {refusal}");
+            eprintln!("water: refused {}: {refusal} ({refusal:?})", refusal.number());
             exit(1)
         });
         let names: String = functions.iter().map(|f| format!(" {:4}", f.name)).collect();

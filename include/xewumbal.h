@@ -65,8 +65,8 @@
  * writing in each form, so moving it there and back returns the same bytes. docs/requests/Q-7.md has its rules.
  *
  * Stack: a call takes at most 23,032 bytes below its caller's frame (xew_confirm; xew_salvage 15,960, the expansions 15,560, the
- * others at most 6,680). This is measured, with the deepest input that is known of each call, by `checks/faults/run stack`; no
- * proof bounds it.
+ * others at most 6,680). This is measured, with the deepest input that is known of each call, by `checks/faults/run stack`, of the
+ * library as the older kit built it; no proof bounds it.
  *
  * The float mode is a premise of every promise about floats: rounding to nearest, subnormals kept (neither flush-to-zero nor
  * denormals-are-zero), floating-point traps off. A program starts so, but for one that is linked with -ffast-math or -Ofast;
@@ -236,19 +236,13 @@ typedef struct {
     uint32_t count;
 } xew_contraction;
 
-/* What was written from the start place on, or measured: the bytes and the terms of a roll. */
+/* What was written from the start place on, or measured: its bytes, and the terms of a roll or the triples of a shell
+ * list. */
 typedef struct {
     size_t length;
     uint32_t terms;
     uint8_t refusal;
 } xew_written;
-
-/* What was written of a shell from the start place on: its bytes and its triples. */
-typedef struct {
-    size_t length;
-    uint32_t triples;
-    uint8_t refusal;
-} xew_listed;
 
 typedef struct {
     double value;
@@ -418,22 +412,22 @@ uint32_t xew_version(void);
  * history. orders points to twelve bytes, 0 where the kind uses none, as everywhere. XEW_MOST_ROLL bytes hold any
  * roll. Refusals: 1, 2, 3, 5, 4, 6. */
 XEW_MUST_USE
-xew_written xew_expand(uint8_t kind, const uint8_t *orders, uint8_t *out, size_t out_len, size_t start);
+xew_written xew_expand(uint8_t kind, const uint8_t (*orders)[12], uint8_t *out, size_t out_len, size_t start);
 
 /* The bytes and the terms of that roll, without writing it: xew_expand answers the same from any start place that has
  * room for so many bytes. Refusals: 1, 2, 3, 4. */
 XEW_MUST_USE
-xew_written xew_measure(uint8_t kind, const uint8_t *orders);
+xew_written xew_measure(uint8_t kind, const uint8_t (*orders)[12]);
 
 /* Writes the roll of a request in form 2, as xew_expand does in form 1. The length plus the terms that xew_measure tells
  * always hold it. Refusals: 1, 2, 3, 5, 4, 6. */
 XEW_MUST_USE
-xew_written xew_expand2(uint8_t kind, const uint8_t *orders, uint8_t *out, size_t out_len, size_t start);
+xew_written xew_expand2(uint8_t kind, const uint8_t (*orders)[12], uint8_t *out, size_t out_len, size_t start);
 
 /* Writes the triples of a shell, (order + 1) * (order + 2) / 2 of them, three bytes each, x descending, then y. Refusals: 2, 5,
  * 6. */
 XEW_MUST_USE
-xew_listed xew_shell_list(uint8_t order, uint8_t *out, size_t out_len, size_t start);
+xew_written xew_shell_list(uint8_t order, uint8_t *out, size_t out_len, size_t start); /* terms: triples */
 
 /* A component of two shells by its number, from 0, the last shell fastest. A shell of order m has (m + 1) * (m + 2) / 2 triples,
  * and a pair as many components as their product: at most 784. Refusals: 2, 13. */
@@ -510,7 +504,7 @@ xew_opened xew_small_check(const uint8_t *roll, size_t roll_len);
  * kind other than 0 and 4, or an order sum above 1 on a centre; 5, 6. 4 is never given: no such request has more than
  * XEW_SMALL_TERMS histories. */
 XEW_MUST_USE
-xew_written xew_small_expand(uint8_t kind, const uint8_t *orders, uint8_t *out, size_t out_len, size_t start);
+xew_written xew_small_expand(uint8_t kind, const uint8_t (*orders)[12], uint8_t *out, size_t out_len, size_t start);
 
 /* Writes a form 1 roll as text for a spreadsheet into out from start on: first the line kind,orders..,count, then a line
  * scale,order,prefactors.. for each term; decimal digits without leading zeros, no blanks, a line feed (one byte, 10) at the
@@ -544,7 +538,7 @@ xew_met xew_compare_next(xew_pair cursor, const uint8_t *left, size_t left_len, 
 /* What the scales of a request's terms add up to, worked out from the orders alone (docs/BY-HAND.md): for overlap, nuclear
  * and moment xew_roll_total of the roll that xew_expand writes is the same number. Refusals: 1, 2, 3. */
 XEW_MUST_USE
-xew_total xew_scale_total(uint8_t kind, const uint8_t *orders);
+xew_total xew_scale_total(uint8_t kind, const uint8_t (*orders)[12]);
 
 /* The scales of a roll's terms added up; the roll is judged whole first. Refusals: 7 or 14. */
 XEW_MUST_USE

@@ -35,7 +35,6 @@ use std::io::{stdin, BufRead};
 use std::process::exit;
 
 /// As include/xewumbal.h has them; the structs of the binding take them.
-const VERSION: u32 = 2;
 const ORDERS: usize = 12;
 const PREFACTORS: usize = 24;
 const TABLE: usize = 23;

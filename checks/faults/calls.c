@@ -18,9 +18,9 @@ static void try_shell_list(void)
     size_t need = expected_list(order, list);
     size_t length = (size_t[]){ need, need, need + below(80), need ? need - 1 : 0, below(100), 0, 1 }[below(7)];
     size_t start = any_start(length, need), room = start <= length ? length - start : 0;
-    xew_listed expected = { need, (uint32_t)need / 3, 0 };
+    xew_written expected = { need, (uint32_t)need / 3, 0 };
     if (order > XEW_MOST_ORDER || start > length || need > room)
-        expected = (xew_listed){ 0, 0, order > XEW_MOST_ORDER ? 2 : start > length ? 5 : 6 };
+        expected = (xew_written){ 0, 0, order > XEW_MOST_ORDER ? 2 : start > length ? 5 : 6 };
     struct slice out = lend(&out_arena, "out", length, 1);
     maybe_null(&out, LIST_OUT);
     for (int again = 0; again < 2; again++) {
@@ -28,10 +28,9 @@ static void try_shell_list(void)
         fill(&out, byte);
         BEGIN(SHELL_LIST, "order out_len start", order, length, start);
         with_slice(&out);
-        xew_listed w = xew_shell_list(order, out.lent, length, start);
+        xew_written w = xew_shell_list(order, out.lent, length, start);
         count(SHELL_LIST, w.refusal, again);
-        hold(w.length == expected.length && w.triples == expected.triples && w.refusal == expected.refusal,
-             "xew_shell_list: another answer than document 01's");
+        hold(same_written(w, expected), "xew_shell_list: another answer than document 01's");
         size_t from = w.refusal ? 0 : start;
         hold(untouched(&out, byte, from, from + w.length), "xew_shell_list: a byte changed beside the list");
         hold(!memcmp((uint8_t *)out.mine + from, list, w.length), "xew_shell_list: another list than document 01's");
@@ -301,5 +300,5 @@ int main(int words, char **word)
         play_quotients();
         play_roots(ROOTS_A_CALL * (call.number - before));
     } while (words == 4 && call.number < calls);
-    return words == 5 || report() ? 0 : 3; /* 3: nothing was wrong, and something never came up */
+    return words == 5 || report() ? 0 : 1;
 }

@@ -217,7 +217,7 @@ void try_expand2(const struct request *request)
     static uint8_t form1[MOST_BYTES];
     struct slice orders = lend_copy(&orders_arena, "orders", request->orders, XEW_ORDERS, 1);
     uint8_t kind = request->kind, refusal = expected_request(kind, request->orders);
-    xew_written plain = xew_expand(kind, request->orders, form1, sizeof form1, 0);
+    xew_written plain = xew_expand(kind, &request->orders, form1, sizeof form1, 0);
     size_t need = plain.refusal ? 0 : in_form2(form1, plain.length, expected_bytes, UINT32_MAX, 0);
     hold(need <= plain.length + plain.terms, "a form 2 roll of more bytes than the header tells to lend");
     size_t start, length = any_output(need, &start);

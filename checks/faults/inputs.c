@@ -89,7 +89,7 @@ static void legal_request(struct request *request, uint64_t least, uint64_t most
 static bool keep(struct request *request, size_t most)
 {
     static uint8_t out[MOST_NAMED];
-    xew_written written = xew_expand(request->kind, request->orders, out, most, 0);
+    xew_written written = xew_expand(request->kind, &request->orders, out, most, 0);
     if (written.refusal)
         return false;
     uint8_t *roll = malloc(written.length);

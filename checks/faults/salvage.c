@@ -44,7 +44,7 @@ static xew_salvaged compared(bool two, xew_opened2 opened, struct slice roll, xe
 /* The fresh roll of a header that reads, in fresh: xew_expand's, moved by document 02 where the form is 2. */
 static xew_written worked_out(bool two, xew_opened2 opened)
 {
-    const uint8_t *orders = opened.orders;
+    const uint8_t(*orders)[XEW_ORDERS] = (const uint8_t(*)[XEW_ORDERS])opened.orders;
     xew_written written = xew_expand(opened.cursor.cursor.kind, orders, form1, sizeof form1, 0);
     if (!written.refusal && two)
         written.length = in_form2(form1, written.length, fresh, UINT32_MAX, 0);

@@ -86,7 +86,7 @@ static size_t measured(void (*calls)(void), uint8_t paint)
 }
 
 /* One in steps of the requests of a kind, and the one with the most terms; of Coulomb most are refused 4. */
-static void each_request(xew_written (*called)(const uint8_t *orders))
+static void each_request(xew_written (*called)(const uint8_t (*orders)[12]))
 {
     uint32_t count = 1;
     for (int i = 0; i < centres[kind]; i++)
@@ -96,24 +96,24 @@ static void each_request(xew_written (*called)(const uint8_t *orders))
         uint32_t rest = number;
         for (int i = 0; i < centres[kind]; i++, rest /= TRIPLES)
             memcpy(orders + 3 * i, triples[rest % TRIPLES], 3);
-        note(called(orders).refusal);
+        note(called(&orders).refusal);
     }
-    note(called(most_terms[kind]).refusal);
+    note(called(&most_terms[kind]).refusal);
 }
 
-CALLER xew_written expand_one(const uint8_t *orders)
+CALLER xew_written expand_one(const uint8_t (*orders)[12])
 {
     FROM_HERE;
     return xew_expand(kind, orders, out, sizeof out, 0);
 }
 
-CALLER xew_written expand2_one(const uint8_t *orders)
+CALLER xew_written expand2_one(const uint8_t (*orders)[12])
 {
     FROM_HERE;
     return xew_expand2(kind, orders, out, sizeof out, 0);
 }
 
-CALLER xew_written measure_one(const uint8_t *orders)
+CALLER xew_written measure_one(const uint8_t (*orders)[12])
 {
     FROM_HERE;
     return xew_measure(kind, orders);
@@ -136,22 +136,22 @@ static void measure(void)
 
 static void expand_deepest(void)
 {
-    note(expand_one(deepest).refusal);
+    note(expand_one(&deepest).refusal);
 }
 
 static void expand2_deepest(void)
 {
-    note(expand2_one(deepest).refusal);
+    note(expand2_one(&deepest).refusal);
 }
 
 static void expand_most_orders(void)
 {
-    note(expand_one(most_orders).refusal);
+    note(expand_one(&most_orders).refusal);
 }
 
 static void measure_most_orders(void)
 {
-    note(measure_one(most_orders).refusal);
+    note(measure_one(&most_orders).refusal);
 }
 
 CALLER void shell_list(void)
@@ -279,7 +279,7 @@ CALLER void small_expand(void)
 {
     FROM_HERE;
     for (int i = 0; i < SMALL; i++)
-        note(xew_small_expand(profile[i].kind, profile[i].orders, out, XEW_SMALL_ROLL, 0).refusal);
+        note(xew_small_expand(profile[i].kind, &profile[i].orders, out, XEW_SMALL_ROLL, 0).refusal);
 }
 
 CALLER void export_rolls(void)
@@ -316,7 +316,7 @@ CALLER void scale_total(void)
 {
     FROM_HERE;
     for (uint8_t k = 0; k < XEW_KINDS; k++)
-        note(xew_scale_total(k, most_terms[k]).refusal);
+        note(xew_scale_total(k, &most_terms[k]).refusal);
 }
 
 CALLER void roll_total(void)
@@ -422,7 +422,7 @@ static void make_profile(void)
         for (int centre = 0, rest = i < 16 ? i : i - 16; centre < 4; centre++, rest /= 4)
             if (rest % 4 > 0)
                 profile[i].orders[3 * centre + rest % 4 - 1] = 1;
-        profile[i].length = xew_expand(profile[i].kind, profile[i].orders, profile[i].roll, XEW_SMALL_ROLL, 0).length;
+        profile[i].length = xew_expand(profile[i].kind, &profile[i].orders, profile[i].roll, XEW_SMALL_ROLL, 0).length;
     }
 }
 
@@ -439,19 +439,19 @@ int main(int words, char **word)
             for (int y = m - x; y >= 0; y--)
                 memcpy(triples[count++], (uint8_t[]){ (uint8_t)x, (uint8_t)y, (uint8_t)(m - x - y) }, 3);
     for (uint8_t k = 0; k < XEW_KINDS; k++) {
-        lengths[k] = xew_measure(k, most_terms[k]).length;
+        lengths[k] = xew_measure(k, &most_terms[k]).length;
         rolls[k] = malloc(lengths[k]);
-        if (!rolls[k] || xew_expand(k, most_terms[k], rolls[k], lengths[k], 0).refusal)
+        if (!rolls[k] || xew_expand(k, &most_terms[k], rolls[k], lengths[k], 0).refusal)
             abort();
         opened[k] = xew_open(rolls[k], lengths[k]);
-        lengths2[k] = xew_expand2(k, most_terms[k], out, sizeof out, 0).length;
+        lengths2[k] = xew_expand2(k, &most_terms[k], out, sizeof out, 0).length;
         rolls2[k] = copied(out, lengths2[k]);
         text_lengths[k] = xew_export(rolls[k], lengths[k], text_out, sizeof text_out, 0).length;
         texts[k] = copied(text_out, text_lengths[k]);
     }
-    deepest_lengths[0] = xew_expand(4, deepest, out, sizeof out, 0).length;
+    deepest_lengths[0] = xew_expand(4, &deepest, out, sizeof out, 0).length;
     deepest_rolls[0] = copied(out, deepest_lengths[0]);
-    deepest_lengths[1] = xew_expand2(4, deepest, out, sizeof out, 0).length;
+    deepest_lengths[1] = xew_expand2(4, &deepest, out, sizeof out, 0).length;
     deepest_rolls[1] = copied(out, deepest_lengths[1]);
     make_profile();
     while (nuclei.count < XEW_MOST_NUCLEI)

@@ -54,13 +54,13 @@ xew_opened __wrap_xew_check(const uint8_t *roll, size_t roll_len)
 
 static uint8_t *lent_before; /* to an expansion */
 
-xew_written __real_xew_measure(uint8_t kind, const uint8_t *orders);
-xew_written __wrap_xew_measure(uint8_t kind, const uint8_t *orders)
+xew_written __real_xew_measure(uint8_t kind, const uint8_t (*orders)[12]);
+xew_written __wrap_xew_measure(uint8_t kind, const uint8_t (*orders)[12])
 {
     if (is("measures-a-thirteenth-order"))
-        seen = ((const volatile uint8_t *)orders)[XEW_ORDERS];
+        seen = (*(const volatile uint8_t (*)[13])orders)[12];
     if (is("measures-and-writes-the-orders"))
-        *(volatile uint8_t *)orders = orders[0];
+        *(volatile uint8_t *)*orders = (*orders)[0];
     if (is("measures-and-writes-as-before") && lent_before) {
         *lent_before ^= 1;
         lent_before = NULL;
@@ -73,8 +73,8 @@ xew_written __wrap_xew_measure(uint8_t kind, const uint8_t *orders)
     return size;
 }
 
-xew_written __real_xew_expand(uint8_t kind, const uint8_t *orders, uint8_t *out, size_t out_len, size_t start);
-xew_written __wrap_xew_expand(uint8_t kind, const uint8_t *orders, uint8_t *out, size_t out_len, size_t start)
+xew_written __real_xew_expand(uint8_t kind, const uint8_t (*orders)[12], uint8_t *out, size_t out_len, size_t start);
+xew_written __wrap_xew_expand(uint8_t kind, const uint8_t (*orders)[12], uint8_t *out, size_t out_len, size_t start)
 {
     if (is("refuses-where-there-is-room") && __real_xew_measure(kind, orders).length == out_len - start)
         out_len = start = 0;
@@ -405,8 +405,8 @@ xew_restored __wrap_xew_grouped_term(const uint8_t *grouping, size_t grouping_le
     return answer;
 }
 
-xew_written __real_xew_expand2(uint8_t kind, const uint8_t *orders, uint8_t *out, size_t out_len, size_t start);
-xew_written __wrap_xew_expand2(uint8_t kind, const uint8_t *orders, uint8_t *out, size_t out_len, size_t start)
+xew_written __real_xew_expand2(uint8_t kind, const uint8_t (*orders)[12], uint8_t *out, size_t out_len, size_t start);
+xew_written __wrap_xew_expand2(uint8_t kind, const uint8_t (*orders)[12], uint8_t *out, size_t out_len, size_t start)
 {
     if (is("expands-in-form-1"))
         return __real_xew_expand(kind, orders, out, out_len, start);
@@ -595,7 +595,7 @@ xew_opened __wrap_xew_confirm(const uint8_t *roll, size_t roll_len)
     if (opened.refusal != 20)
         return opened;
     xew_opened reads = checked(roll, roll_len);
-    const uint8_t *orders = reads.orders;
+    const uint8_t(*orders)[12] = (const uint8_t(*)[12])reads.orders;
     xew_total total = xew_scale_total(reads.cursor.kind, orders);
     if (is("confirms-whatever-reads") || (is("confirms-by-the-count-alone")
         && __real_xew_measure(reads.cursor.kind, orders).terms == reads.cursor.left))
@@ -627,8 +627,8 @@ xew_opened __wrap_xew_small_check(const uint8_t *roll, size_t roll_len)
     return opened;
 }
 
-xew_written __real_xew_small_expand(uint8_t kind, const uint8_t *orders, uint8_t *out, size_t out_len, size_t start);
-xew_written __wrap_xew_small_expand(uint8_t kind, const uint8_t *orders, uint8_t *out, size_t out_len, size_t start)
+xew_written __real_xew_small_expand(uint8_t kind, const uint8_t (*orders)[12], uint8_t *out, size_t out_len, size_t start);
+xew_written __wrap_xew_small_expand(uint8_t kind, const uint8_t (*orders)[12], uint8_t *out, size_t out_len, size_t start)
 {
     if (is("small-says-19-first") && kind > 4)
         return (xew_written){ 0, 0, 19 };
@@ -777,14 +777,14 @@ xew_met __wrap_xew_compare_next(xew_pair cursor, const uint8_t *left, size_t lef
     return met;
 }
 
-xew_total __real_xew_scale_total(uint8_t kind, const uint8_t *orders);
-xew_total __wrap_xew_scale_total(uint8_t kind, const uint8_t *orders)
+xew_total __real_xew_scale_total(uint8_t kind, const uint8_t (*orders)[12]);
+xew_total __wrap_xew_scale_total(uint8_t kind, const uint8_t (*orders)[12])
 {
-    uint8_t without[XEW_ORDERS];
-    memcpy(without, orders, XEW_ORDERS);
+    uint8_t without[12];
+    memcpy(without, *orders, 12);
     if (is("leaves-the-operator-out") && kind == 3)
         memset(without + 6, 0, 3);
-    xew_total total = __real_xew_scale_total(kind, without);
+    xew_total total = __real_xew_scale_total(kind, (const uint8_t (*)[12])&without);
     if (is("totals-a-kinetic-request") && kind == 1 && !total.refusal)
         total.claimed = 1;
     return total;

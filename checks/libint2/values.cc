@@ -139,7 +139,7 @@ std::vector<Component> components(Kind kind, const std::vector<int> &o) {
         if (found.refusal == 13 || refused(found.refusal)) return all; // 13: one past the last
         Component component;
         std::memcpy(component.orders.data(), found.orders, 12);
-        const xew_written written = xew_expand(kind, found.orders, buffer.data(), buffer.size(), 0);
+        const xew_written written = xew_expand(kind, &found.orders, buffer.data(), buffer.size(), 0);
         if (!refused(written.refusal)) {
             most_terms = std::max(most_terms, written.terms);
             component.roll.assign(buffer.begin(), buffer.begin() + written.length);

@@ -63,10 +63,10 @@ class Loading(unittest.TestCase):
     def test_empty(self) -> None:
         with tempfile.TemporaryDirectory() as folder:
             said = imported("import xewumbal", XEWUMBAL_LIBRARY=self.compiled(folder, ""))
-        self.assertRegex(said, "^ImportError: .* has no xew_expand: .* without --whole-archive$")
+        self.assertRegex(said, "^ImportError: .* has no xew_version: .* without --whole-archive$")
 
     def test_other_version(self) -> None:
-        calls = "".join(f"void {name}(void) {{}}\n" for name in raw.CALLS)
+        calls = "".join(f"void {name}(void) {{}}\n" for name in raw.CALLS if name != "xew_version")
         for version, expected in ((1, f"is of version 1, and this binding of version {xewumbal.VERSION}"), (xewumbal.VERSION, "")):
             with tempfile.TemporaryDirectory() as folder:
                 library = self.compiled(folder, f"{calls} unsigned xew_version(void) {{ return {version}; }}")

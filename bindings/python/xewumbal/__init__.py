@@ -336,7 +336,7 @@ def scale_total(kind: int, orders: Sequence[int]) -> Optional[int]:
 
 
 def shell_list_into(order: int, buffer: Data, start: int = 0) -> Written:
-    """Writes the triples of a shell. Refusals: 2, 5, 6."""
+    """Writes the triples of a shell, which terms counts. Refusals: 2, 5, 6."""
     return _written(raw.library.xew_shell_list(_byte(order, "an order"), *_write(buffer), _place(start)))
 
 

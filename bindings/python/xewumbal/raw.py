@@ -40,10 +40,6 @@ class Written(Structure):
     _fields_ = [("length", c_size_t), ("terms", c_uint32), ("refusal", c_uint8)]
 
 
-class Listed(Structure):
-    _fields_ = [("length", c_size_t), ("triples", c_uint32), ("refusal", c_uint8)]
-
-
 class Value(Structure):
     _fields_ = [("value", c_double), ("place", c_size_t), ("refusal", c_uint8)]
 
@@ -184,7 +180,7 @@ CALLS: Dict[str, Tuple[Any, List[Any]]] = {
     "xew_expand": (Written, _REQUEST + _WRITE),
     "xew_measure": (Written, _REQUEST),
     "xew_expand2": (Written, _REQUEST + _WRITE),
-    "xew_shell_list": (Listed, [c_uint8, *_WRITE]),
+    "xew_shell_list": (Written, [c_uint8, *_WRITE]),
     "xew_shell2": (Component, [c_uint8, c_uint8, c_uint32]),
     "xew_shell4": (Component, [c_uint8, c_uint8, c_uint8, c_uint8, c_uint32]),
     "xew_open": (Opened, _READ),

@@ -1,10 +1,11 @@
 //! The structs and functions of include/xewumbal.h, and every `unsafe` of the crate: each function here lends slices as
 //! a pointer and a length, and the library reads and writes within them, during the call alone.
-use crate::{MOST_NUCLEI, MOST_PRIMITIVES, ORDERS, PREFACTORS, TABLE, VERSION};
+use crate::{MOST_NUCLEI, MOST_PRIMITIVES, ORDERS, PREFACTORS, TABLE};
+#[cfg(target_arch = "x86_64")]
 use core::arch::asm;
 use core::mem::size_of;
+#[cfg(target_arch = "x86_64")]
 use core::ptr::addr_of_mut;
-use core::sync::atomic::{AtomicBool, Ordering};
 
 /// What `found` of a step says.
 pub const FOUND_REFUSED: u8 = 0;
@@ -82,13 +83,6 @@ pub struct Cursor {
 pub struct Written {
     pub length: usize,
     pub terms: u32,
-    pub refusal: u8,
-}
-
-#[repr(C)]
-pub struct Listed {
-    pub length: usize,
-    pub triples: u32,
     pub refusal: u8,
 }
 
@@ -288,10 +282,10 @@ const _: () = assert!(size_of::<Term>() == 32 && size_of::<Met>() == 184);
 #[rustfmt::skip]
 extern "C" {
     fn xew_version() -> u32;
-    fn xew_expand(kind: u8, orders: *const u8, out: *mut u8, out_len: usize, start: usize) -> Written;
-    fn xew_measure(kind: u8, orders: *const u8) -> Written;
-    fn xew_expand2(kind: u8, orders: *const u8, out: *mut u8, out_len: usize, start: usize) -> Written;
-    fn xew_shell_list(order: u8, out: *mut u8, out_len: usize, start: usize) -> Listed;
+    fn xew_expand(kind: u8, orders: *const [u8; ORDERS], out: *mut u8, out_len: usize, start: usize) -> Written;
+    fn xew_measure(kind: u8, orders: *const [u8; ORDERS]) -> Written;
+    fn xew_expand2(kind: u8, orders: *const [u8; ORDERS], out: *mut u8, out_len: usize, start: usize) -> Written;
+    fn xew_shell_list(order: u8, out: *mut u8, out_len: usize, start: usize) -> Written;
     fn xew_shell2(a: u8, b: u8, number: u32) -> Component;
     fn xew_shell4(a: u8, b: u8, c: u8, d: u8, number: u32) -> Component;
     fn xew_open(roll: *const u8, roll_len: usize) -> Opened;
@@ -305,12 +299,12 @@ extern "C" {
     fn xew_salvage(roll: *const u8, roll_len: usize, out: *mut u8, out_len: usize, start: usize) -> Salvaged;
     fn xew_confirm(roll: *const u8, roll_len: usize) -> Opened;
     fn xew_small_check(roll: *const u8, roll_len: usize) -> Opened;
-    fn xew_small_expand(kind: u8, orders: *const u8, out: *mut u8, out_len: usize, start: usize) -> Written;
+    fn xew_small_expand(kind: u8, orders: *const [u8; ORDERS], out: *mut u8, out_len: usize, start: usize) -> Written;
     fn xew_export(roll: *const u8, roll_len: usize, out: *mut u8, out_len: usize, start: usize) -> Text;
     fn xew_import(text: *const u8, text_len: usize, out: *mut u8, out_len: usize, start: usize) -> Imported;
     fn xew_compare(left: *const u8, left_len: usize, right: *const u8, right_len: usize) -> Compared;
     fn xew_compare_next(cursor: Pair, left: *const u8, left_len: usize, right: *const u8, right_len: usize) -> Met;
-    fn xew_scale_total(kind: u8, orders: *const u8) -> Total;
+    fn xew_scale_total(kind: u8, orders: *const [u8; ORDERS]) -> Total;
     fn xew_roll_total(roll: *const u8, roll_len: usize) -> Scales;
     fn xew_prefactors(kind: u8, a: Centre, b: Centre, c: Centre, d: Centre) -> Table;
     fn xew_root(x: f64) -> Rooted;
@@ -333,6 +327,7 @@ pub fn version() -> u32 {
 }
 
 /// What is otherwise than the library needs in the float mode of the calling thread, as `xew_float_mode` of the header.
+#[cfg(target_arch = "x86_64")]
 pub fn float_mode() -> u8 {
     let mut mode = 0_u32;
     unsafe { asm!("stmxcsr [{}]", in(reg) addr_of_mut!(mode), options(nostack, preserves_flags)) };
@@ -343,178 +338,135 @@ pub fn float_mode() -> u8 {
         | other(mode & 0x1f80 != 0x1f80, MODE_TRAPS)
 }
 
-/// Ends the program unless the archive is of this binding's version: the structs of another would be read wrongly. It is asked
-/// once.
-fn ours() {
-    static KNOWN: AtomicBool = AtomicBool::new(false);
-    if !KNOWN.load(Ordering::Relaxed) {
-        let told = version();
-        assert!(told == VERSION, "libxewumbal.a is of version {}, and this binding of version {}", told, VERSION);
-        KNOWN.store(true, Ordering::Relaxed);
-    }
-}
-
 pub fn expand(kind: u8, orders: &[u8; ORDERS], out: &mut [u8], start: usize) -> Written {
-    ours();
-    unsafe { xew_expand(kind, orders.as_ptr(), out.as_mut_ptr(), out.len(), start) }
+    unsafe { xew_expand(kind, orders, out.as_mut_ptr(), out.len(), start) }
 }
 
 pub fn measure(kind: u8, orders: &[u8; ORDERS]) -> Written {
-    ours();
-    unsafe { xew_measure(kind, orders.as_ptr()) }
+    unsafe { xew_measure(kind, orders) }
 }
 
 pub fn expand2(kind: u8, orders: &[u8; ORDERS], out: &mut [u8], start: usize) -> Written {
-    ours();
-    unsafe { xew_expand2(kind, orders.as_ptr(), out.as_mut_ptr(), out.len(), start) }
+    unsafe { xew_expand2(kind, orders, out.as_mut_ptr(), out.len(), start) }
 }
 
-pub fn shell_list(order: u8, out: &mut [u8], start: usize) -> Listed {
-    ours();
+pub fn shell_list(order: u8, out: &mut [u8], start: usize) -> Written {
     unsafe { xew_shell_list(order, out.as_mut_ptr(), out.len(), start) }
 }
 
 pub fn shell2(a: u8, b: u8, number: u32) -> Component {
-    ours();
     unsafe { xew_shell2(a, b, number) }
 }
 
 pub fn shell4(a: u8, b: u8, c: u8, d: u8, number: u32) -> Component {
-    ours();
     unsafe { xew_shell4(a, b, c, d, number) }
 }
 
 pub fn open(roll: &[u8]) -> Opened {
-    ours();
     unsafe { xew_open(roll.as_ptr(), roll.len()) }
 }
 
 pub fn check(roll: &[u8]) -> Opened {
-    ours();
     unsafe { xew_check(roll.as_ptr(), roll.len()) }
 }
 
 pub fn next(cursor: Cursor, roll: &[u8]) -> Step {
-    ours();
     unsafe { xew_next(cursor, roll.as_ptr(), roll.len()) }
 }
 
 pub fn open2(roll: &[u8]) -> Opened2 {
-    ours();
     unsafe { xew_open2(roll.as_ptr(), roll.len()) }
 }
 
 pub fn check2(roll: &[u8]) -> Opened2 {
-    ours();
     unsafe { xew_check2(roll.as_ptr(), roll.len()) }
 }
 
 pub fn next2(cursor: Cursor2, roll: &[u8]) -> Step2 {
-    ours();
     unsafe { xew_next2(cursor, roll.as_ptr(), roll.len()) }
 }
 
 pub fn to_form2(roll: &[u8], out: &mut [u8], start: usize) -> Moved {
-    ours();
     unsafe { xew_to_form2(roll.as_ptr(), roll.len(), out.as_mut_ptr(), out.len(), start) }
 }
 
 pub fn to_form1(roll: &[u8], out: &mut [u8], start: usize) -> Moved {
-    ours();
     unsafe { xew_to_form1(roll.as_ptr(), roll.len(), out.as_mut_ptr(), out.len(), start) }
 }
 
 pub fn salvage(roll: &[u8], out: &mut [u8], start: usize) -> Salvaged {
-    ours();
     unsafe { xew_salvage(roll.as_ptr(), roll.len(), out.as_mut_ptr(), out.len(), start) }
 }
 
 pub fn confirm(roll: &[u8]) -> Opened {
-    ours();
     unsafe { xew_confirm(roll.as_ptr(), roll.len()) }
 }
 
 pub fn small_check(roll: &[u8]) -> Opened {
-    ours();
     unsafe { xew_small_check(roll.as_ptr(), roll.len()) }
 }
 
 pub fn small_expand(kind: u8, orders: &[u8; ORDERS], out: &mut [u8], start: usize) -> Written {
-    ours();
-    unsafe { xew_small_expand(kind, orders.as_ptr(), out.as_mut_ptr(), out.len(), start) }
+    unsafe { xew_small_expand(kind, orders, out.as_mut_ptr(), out.len(), start) }
 }
 
 pub fn export(roll: &[u8], out: &mut [u8], start: usize) -> Text {
-    ours();
     unsafe { xew_export(roll.as_ptr(), roll.len(), out.as_mut_ptr(), out.len(), start) }
 }
 
 pub fn import(text: &[u8], out: &mut [u8], start: usize) -> Imported {
-    ours();
     unsafe { xew_import(text.as_ptr(), text.len(), out.as_mut_ptr(), out.len(), start) }
 }
 
 pub fn compare(left: &[u8], right: &[u8]) -> Compared {
-    ours();
     unsafe { xew_compare(left.as_ptr(), left.len(), right.as_ptr(), right.len()) }
 }
 
 pub fn compare_next(cursor: Pair, left: &[u8], right: &[u8]) -> Met {
-    ours();
     unsafe { xew_compare_next(cursor, left.as_ptr(), left.len(), right.as_ptr(), right.len()) }
 }
 
 pub fn scale_total(kind: u8, orders: &[u8; ORDERS]) -> Total {
-    ours();
-    unsafe { xew_scale_total(kind, orders.as_ptr()) }
+    unsafe { xew_scale_total(kind, orders) }
 }
 
 pub fn roll_total(roll: &[u8]) -> Scales {
-    ours();
     unsafe { xew_roll_total(roll.as_ptr(), roll.len()) }
 }
 
 pub fn prefactors(kind: u8, a: Centre, b: Centre, c: Centre, d: Centre) -> Table {
-    ours();
     unsafe { xew_prefactors(kind, a, b, c, d) }
 }
 
 pub fn root(x: f64) -> Rooted {
-    ours();
     unsafe { xew_root(x) }
 }
 
 pub fn evaluate(roll: &[u8], a: Centre, b: Centre, c: Centre, d: Centre, aux: f64, boys: &[f64]) -> Value {
-    ours();
     unsafe { xew_evaluate(roll.as_ptr(), roll.len(), a, b, c, d, aux, boys.as_ptr(), boys.len()) }
 }
 
 pub fn nuclear(roll: &[u8], a: Centre, b: Centre, nuclei: Nuclei, aux: f64, boys: &[f64]) -> Value {
-    ours();
     unsafe { xew_nuclear(roll.as_ptr(), roll.len(), a, b, nuclei, aux, boys.as_ptr(), boys.len()) }
 }
 
 pub fn contracted(roll: &[u8], left: Contraction, right: Contraction, host: &[f64]) -> Value {
-    ours();
     unsafe { xew_contracted(roll.as_ptr(), roll.len(), left, right, host.as_ptr(), host.len()) }
 }
 
 #[rustfmt::skip]
 pub fn evaluate_grouped(roll: &[u8], a: Centre, b: Centre, c: Centre, d: Centre, aux: f64, boys: &[f64], buffer: &mut [u8]) -> Value {
-    ours();
     unsafe {
         xew_evaluate_grouped(roll.as_ptr(), roll.len(), a, b, c, d, aux, boys.as_ptr(), boys.len(), buffer.as_mut_ptr(), buffer.len())
     }
 }
 
 pub fn grouped_term(grouping: &[u8], l: u8, terms: u32, number: u32) -> Restored {
-    ours();
     unsafe { xew_grouped_term(grouping.as_ptr(), grouping.len(), l, terms, number) }
 }
 
 #[rustfmt::skip]
 pub fn jk(n: usize, i: &[f64], d: &[f64], j: &mut [f64], k: &mut [f64]) -> u8 {
-    ours();
     unsafe {
         xew_jk(n, i.as_ptr(), i.len(), d.as_ptr(), d.len(), j.as_mut_ptr(), j.len(), k.as_mut_ptr(), k.len())
     }

@@ -3,7 +3,6 @@ use core::fmt;
 
 /// Why a call refused. Nothing that was lent has changed then, but for the grouping that `evaluate_grouped` leaves.
 #[derive(Clone, Copy, Debug, PartialEq, Eq)]
-#[must_use]
 pub enum Refusal {
     Kind,
     OrderSum,
@@ -88,10 +87,10 @@ impl Refusal {
         }
     }
 
-    /// Goes on where nothing was refused.
-    pub(crate) fn unless(number: u8, place: usize) -> Result<(), Refusal> {
-        Err(match number {
-            0 => return Ok(()),
+    /// The refusal of an answer: none for 0.
+    pub(crate) fn of(number: u8, place: usize) -> Option<Refusal> {
+        Some(match number {
+            0 => return None,
             1 => Refusal::Kind,
             2 => Refusal::OrderSum,
             3 => Refusal::UnusedOrder,
@@ -116,69 +115,21 @@ impl Refusal {
         })
     }
 
-    /// The same of an answer that has a line in place of a place.
-    pub(crate) fn unless_at_line(number: u8, line: u64) -> Result<(), Refusal> {
+    /// The refusal of an answer that has a line in place of a place.
+    pub(crate) fn at_line(number: u8, line: u64) -> Option<Refusal> {
         match number {
-            21 => Err(Refusal::LineShape { line }),
-            22 => Err(Refusal::LineNumbers { line }),
-            _ => Refusal::unless(number, 0),
+            21 => Some(Refusal::LineShape { line }),
+            22 => Some(Refusal::LineNumbers { line }),
+            _ => Refusal::of(number, 0),
         }
     }
 }
 
-/// `refused 14 at 16: ` and the words, or `refused 21 line 3: `.
 impl fmt::Display for Refusal {
     fn fmt(&self, out: &mut fmt::Formatter) -> fmt::Result {
-        let (number, words) = self.both();
-        write!(out, "refused {number}")?;
-        match self {
-            Refusal::BadRoll { place } | Refusal::CutRoll { place } | Refusal::NotTheExpansion { place } => {
-                write!(out, " at {place}")?
-            }
-            Refusal::LineShape { line } | Refusal::LineNumbers { line } => write!(out, " line {line}")?,
-            _ => {}
-        }
-        write!(out, ": {words}")
-    }
-}
-
-/// One of the two rolls of a comparison.
-#[derive(Clone, Copy, Debug, PartialEq, Eq)]
-pub enum Side {
-    Left,
-    Right,
-}
-
-/// Why a comparison refused: one of its two rolls is.
-#[derive(Clone, Copy, Debug, PartialEq, Eq)]
-#[must_use]
-pub struct RefusedRoll {
-    pub side: Side,
-    pub refusal: Refusal,
-}
-
-impl fmt::Display for RefusedRoll {
-    fn fmt(&self, out: &mut fmt::Formatter) -> fmt::Result {
-        let side = match self.side {
-            Side::Left => "left",
-            Side::Right => "right",
-        };
-        write!(out, "{side} roll {}", self.refusal)
-    }
-}
-
-impl From<RefusedRoll> for Refusal {
-    fn from(refused: RefusedRoll) -> Refusal {
-        refused.refusal
+        out.pad(self.words())
     }
 }
 
 #[cfg(feature = "std")]
 impl std::error::Error for Refusal {}
-
-#[cfg(feature = "std")]
-impl std::error::Error for RefusedRoll {
-    fn source(&self) -> Option<&(dyn std::error::Error + 'static)> {
-        Some(&self.refusal)
-    }
-}

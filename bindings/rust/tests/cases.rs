@@ -1,6 +1,8 @@
 //! The binding's answers are those of documents 01 and 02.
 use xewumbal::*;
 
+const HEADER: &str = include_str!("../../../include/xewumbal.h");
+
 /// Document 01's roll of overlap Ax1 Bx1, whose terms are [0,1] and [7].
 const ROLL: [u8; 17] = [0, 1, 0, 0, 1, 0, 0, 2, 1, 0, 2, 0, 1, 1, 0, 1, 7];
 const ROLL_ORDERS: [u8; ORDERS] = [1, 0, 0, 1, 0, 0, 0, 0, 0, 0, 0, 0];
@@ -21,18 +23,18 @@ fn one_at(places: &[usize]) -> [u8; ORDERS] {
 /// The terms of a roll, each as scale, Boys order and prefactors.
 fn terms(roll: &[u8]) -> Vec<(u32, u8, Vec<u8>)> {
     let mut cursor = match check(roll) {
-        Ok(Opened { cursor, .. }) => cursor,
+        Opened::Roll { cursor, .. } => cursor,
         refused => panic!("{refused:?}"),
     };
     let mut found = vec![];
     loop {
         match cursor.next(roll) {
-            Ok(Some(Step { term, next })) => {
+            Step::Term { term, next } => {
                 found.push((term.scale, term.boys, term.prefactors().to_vec()));
                 cursor = next;
             }
-            Ok(None) => return found,
-            Err(refusal) => panic!("{refusal:?}"),
+            Step::End => return found,
+            Step::Refused(refusal) => panic!("{refusal:?}"),
         }
     }
 }
@@ -41,7 +43,7 @@ fn terms(roll: &[u8]) -> Vec<(u32, u8, Vec<u8>)> {
 fn expanded(kind: u8, orders: [u8; ORDERS]) -> Vec<u8> {
     let measured = measure(kind, &orders);
     let mut room = match measured {
-        Ok(Written { length, .. }) => vec![0; length],
+        Expanded::Roll { length, .. } => vec![0; length],
         refused => panic!("{refused:?}"),
     };
     assert_eq!(expand(kind, &orders, &mut room, 0), measured);
@@ -51,7 +53,7 @@ fn expanded(kind: u8, orders: [u8; ORDERS]) -> Vec<u8> {
 #[test]
 fn the_roll_stands_where_it_was_asked_for() {
     let mut room = [UNTOUCHED; 20];
-    assert_eq!(expand(OVERLAP, &ROLL_ORDERS, &mut room, 2), Ok(Written { length: 17, terms: 2 }));
+    assert_eq!(expand(OVERLAP, &ROLL_ORDERS, &mut room, 2), Expanded::Roll { length: 17, terms: 2 });
     assert_eq!(room[..2], [UNTOUCHED; 2]);
     assert_eq!(room[2..19], ROLL);
     assert_eq!(room[19], UNTOUCHED);
@@ -59,10 +61,10 @@ fn the_roll_stands_where_it_was_asked_for() {
 
 #[test]
 fn a_roll_measured_and_not_written() {
-    let measured = Ok(Written { length: 17, terms: 2 });
+    let measured = Expanded::Roll { length: 17, terms: 2 };
     assert_eq!(measure(OVERLAP, &ROLL_ORDERS), measured);
     let mut room = [UNTOUCHED; 17];
-    assert_eq!(expand(OVERLAP, &ROLL_ORDERS, &mut room[..16], 0), Err(Refusal::NoRoom));
+    assert_eq!(expand(OVERLAP, &ROLL_ORDERS, &mut room[..16], 0), Expanded::Refused(Refusal::NoRoom));
     assert_eq!(room, [UNTOUCHED; 17]);
     assert_eq!(expand(OVERLAP, &ROLL_ORDERS, &mut room, 0), measured);
     assert_eq!(room, ROLL);
@@ -83,14 +85,14 @@ fn terms_of_the_printed_cases() {
 #[test]
 fn the_form_2_roll_stands_where_it_was_asked_for() {
     let mut room = [UNTOUCHED; 29];
-    assert_eq!(expand2(OVERLAP, &FORM2_ORDERS, &mut room, 2), Ok(Written { length: 26, terms: 3 }));
+    assert_eq!(expand2(OVERLAP, &FORM2_ORDERS, &mut room, 2), Expanded::Roll { length: 26, terms: 3 });
     assert_eq!(room[..2], [UNTOUCHED; 2]);
     assert_eq!(room[2..28], FORM2);
     assert_eq!(room[28], UNTOUCHED);
     let mut room = [UNTOUCHED; 25];
-    assert_eq!(expand2(OVERLAP, &FORM2_ORDERS, &mut room, 0), Err(Refusal::NoRoom));
-    assert_eq!(expand2(OVERLAP, &FORM2_ORDERS, &mut room, 26), Err(Refusal::StartBeyondEnd));
-    assert_eq!(expand2(5, &FORM2_ORDERS, &mut room, 0), Err(Refusal::Kind));
+    assert_eq!(expand2(OVERLAP, &FORM2_ORDERS, &mut room, 0), Expanded::Refused(Refusal::NoRoom));
+    assert_eq!(expand2(OVERLAP, &FORM2_ORDERS, &mut room, 26), Expanded::Refused(Refusal::StartBeyondEnd));
+    assert_eq!(expand2(5, &FORM2_ORDERS, &mut room, 0), Expanded::Refused(Refusal::Kind));
     assert_eq!(room, [UNTOUCHED; 25]);
 }
 
@@ -98,14 +100,14 @@ fn the_form_2_roll_stands_where_it_was_asked_for() {
 fn there_and_back() {
     let form1 = expanded(OVERLAP, FORM2_ORDERS);
     let mut room = [UNTOUCHED; 27];
-    assert_eq!(to_form2(&form1, &mut room, 1), Ok(Written { length: 26, terms: 3 }));
+    assert_eq!(to_form2(&form1, &mut room, 1), Moved::Roll { length: 26, terms: 3 });
     assert_eq!((room[0], &room[1..]), (UNTOUCHED, &FORM2[..]));
     let mut back = vec![UNTOUCHED; form1.len()];
-    assert_eq!(to_form1(&FORM2, &mut back, 0), Ok(Written { length: form1.len(), terms: 3 }));
+    assert_eq!(to_form1(&FORM2, &mut back, 0), Moved::Roll { length: form1.len(), terms: 3 });
     assert_eq!(back, form1);
-    assert_eq!(to_form1(&FORM2, &mut back[1..], 0), Err(Refusal::NoRoom));
-    assert_eq!(to_form2(&form1, &mut room, 28), Err(Refusal::StartBeyondEnd));
-    assert_eq!(to_form2(&form1[..23], &mut [], 1), Err(Refusal::CutRoll { place: 23 }));
+    assert_eq!(to_form1(&FORM2, &mut back[1..], 0), Moved::Refused(Refusal::NoRoom));
+    assert_eq!(to_form2(&form1, &mut room, 28), Moved::Refused(Refusal::StartBeyondEnd));
+    assert_eq!(to_form2(&form1[..23], &mut [], 1), Moved::Refused(Refusal::CutRoll { place: 23 }));
     assert_eq!((back, &room[1..]), (form1, &FORM2[..]));
 }
 
@@ -113,31 +115,31 @@ fn there_and_back() {
 fn terms_of_a_form_2_roll() {
     let cursor = Cursor { place: 8, left: 3, kind: OVERLAP, l: 3 };
     let mut cursor = Cursor2 { cursor, ..Cursor2::default() };
-    assert_eq!(check2(&FORM2), Ok(Opened2 { cursor, orders: FORM2_ORDERS }));
+    assert_eq!(check2(&FORM2), Opened2::Roll { cursor, orders: FORM2_ORDERS });
     assert_eq!(open2(&FORM2[..8]), check2(&FORM2));
     let mut found = vec![];
-    while let Ok(Some(Step2 { term, next })) = cursor.next(&FORM2) {
+    while let Step2::Term { term, next } = cursor.next(&FORM2) {
         assert_eq!(next.earlier[..usize::from(next.count)], *term.prefactors());
         found.push((term.scale, term.boys, term.prefactors().to_vec()));
         cursor = next;
     }
-    assert_eq!(cursor.next(&FORM2), Ok(None));
+    assert_eq!(cursor.next(&FORM2), Step2::End);
     assert_eq!(found, terms(&expanded(OVERLAP, FORM2_ORDERS)));
 }
 
 #[test]
 fn each_form_refuses_the_other() {
     let (form1, wrong) = (expanded(OVERLAP, FORM2_ORDERS), Refusal::BadRoll { place: 0 });
-    assert_eq!((open(&FORM2), check(&FORM2)), (Err(wrong), Err(wrong)));
-    assert_eq!((open2(&form1), check2(&form1)), (Err(wrong), Err(wrong)));
-    assert_eq!(to_form2(&FORM2, &mut [0; 99], 0), Err(wrong));
-    assert_eq!(to_form1(&form1, &mut [0; 99], 0), Err(wrong));
+    assert_eq!((open(&FORM2), check(&FORM2)), (Opened::Refused(wrong), Opened::Refused(wrong)));
+    assert_eq!((open2(&form1), check2(&form1)), (Opened2::Refused(wrong), Opened2::Refused(wrong)));
+    assert_eq!(to_form2(&FORM2, &mut [0; 99], 0), Moved::Refused(wrong));
+    assert_eq!(to_form1(&form1, &mut [0; 99], 0), Moved::Refused(wrong));
 }
 
 /// Of the three terms of overlap Ax3 in form 2 the second one is damaged, then the count, then nothing but what follows.
 #[test]
 fn what_is_salvaged() {
-    let told = |kept, miscounted, after| Ok(Salvaged { length: 26, terms: 3, kept, anew: 3 - kept, miscounted, after });
+    let told = |kept, miscounted, after| Salvaged::Roll { length: 26, terms: 3, kept, anew: 3 - kept, miscounted, after };
     let mut room = [UNTOUCHED; 28];
     let mut salvaged = |roll: &[u8]| {
         let answer = salvage(roll, &mut room, 1);
@@ -155,25 +157,25 @@ fn what_is_salvaged() {
     longer[7] = 1;
     assert_eq!(salvaged(&longer[..26]), told(3, true, After::Nothing));
     let mut room = [UNTOUCHED; 25];
-    assert_eq!(salvage(&FORM2, &mut room, 0), Err(Refusal::NoRoom));
-    assert_eq!(salvage(&FORM2, &mut room, 26), Err(Refusal::StartBeyondEnd));
-    assert_eq!(salvage(&FORM2[..7], &mut room, 26), Err(Refusal::CutRoll { place: 7 }));
+    assert_eq!(salvage(&FORM2, &mut room, 0), Salvaged::Refused(Refusal::NoRoom));
+    assert_eq!(salvage(&FORM2, &mut room, 26), Salvaged::Refused(Refusal::StartBeyondEnd));
+    assert_eq!(salvage(&FORM2[..7], &mut room, 26), Salvaged::Refused(Refusal::CutRoll { place: 7 }));
     assert_eq!(room, [UNTOUCHED; 25]);
 }
 
 /// The answer of a roll that is confirmed is that of `check`, in either form; a roll that reads may still be another.
 #[test]
 fn confirmed_or_only_readable() {
-    assert!(matches!(confirm(&ROLL), Ok(Opened { orders: ROLL_ORDERS, .. })));
+    assert!(matches!(confirm(&ROLL), Opened::Roll { orders: ROLL_ORDERS, .. }));
     assert_eq!(confirm(&ROLL), check(&ROLL));
     let cursor = Cursor { place: 8, left: 3, kind: OVERLAP, l: 3 };
-    assert_eq!(confirm(&FORM2), Ok(Opened { cursor, orders: FORM2_ORDERS }));
+    assert_eq!(confirm(&FORM2), Opened::Roll { cursor, orders: FORM2_ORDERS });
     let differs = |roll: &[u8], place| {
         assert!(matches!(
             (roll[0], check(roll), check2(roll)),
-            (0, Ok(Opened { .. }), _) | (16, _, Ok(Opened2 { .. }))
+            (0, Opened::Roll { .. }, _) | (16, _, Opened2::Roll { .. })
         ));
-        assert_eq!(confirm(roll), Err(Refusal::NotTheExpansion { place }));
+        assert_eq!(confirm(roll), Opened::Refused(Refusal::NotTheExpansion { place }));
     };
     // Overlap Ax3: [0,6] and 2[6,0] merged into 3[0,6], in both forms; 2[6,0] parted; [0,6] lost.
     differs(&[0, 3, 0, 0, 0, 0, 0, 2, 1, 0, 3, 0, 0, 0, 3, 0, 2, 0, 6], 7);
@@ -191,16 +193,16 @@ fn confirmed_or_only_readable() {
 
 #[test]
 fn refusals_of_confirm() {
-    assert_eq!(confirm(&[]), Err(Refusal::CutRoll { place: 0 }));
-    assert_eq!(confirm(&[5]), Err(Refusal::BadRoll { place: 0 }));
-    assert_eq!(confirm(&ROLL[..16]), Err(Refusal::CutRoll { place: 16 }));
-    assert_eq!(confirm(&FORM2[..25]), Err(Refusal::CutRoll { place: 25 }));
-    assert_eq!(confirm(&[&ROLL[..], &[0]].concat()), Err(Refusal::BadRoll { place: 17 }));
+    assert_eq!(confirm(&[]), Opened::Refused(Refusal::CutRoll { place: 0 }));
+    assert_eq!(confirm(&[5]), Opened::Refused(Refusal::BadRoll { place: 0 }));
+    assert_eq!(confirm(&ROLL[..16]), Opened::Refused(Refusal::CutRoll { place: 16 }));
+    assert_eq!(confirm(&FORM2[..25]), Opened::Refused(Refusal::CutRoll { place: 25 }));
+    assert_eq!(confirm(&[&ROLL[..], &[0]].concat()), Opened::Refused(Refusal::BadRoll { place: 17 }));
     // A roll that reads, of a request with too many histories, in both forms; one that is cut is 14 first.
     let many = |first, term: &[u8]| [&[first, 6, 0, 0, 6, 0, 0, 6, 0, 0, 6, 0, 0, 1], term].concat();
-    assert_eq!(confirm(&many(4, &[1, 0, 0])), Err(Refusal::TooManyTerms));
-    assert_eq!(confirm(&many(20, &[1, 0, 0, 0])), Err(Refusal::TooManyTerms));
-    assert_eq!(confirm(&many(4, &[1, 0])), Err(Refusal::CutRoll { place: 16 }));
+    assert_eq!(confirm(&many(4, &[1, 0, 0])), Opened::Refused(Refusal::TooManyTerms));
+    assert_eq!(confirm(&many(20, &[1, 0, 0, 0])), Opened::Refused(Refusal::TooManyTerms));
+    assert_eq!(confirm(&many(4, &[1, 0])), Opened::Refused(Refusal::CutRoll { place: 16 }));
 }
 
 /// Document 01's terms of Coulomb Ax1 Cx1: [0,2] [0,5]o1 [4,2]o1 [4,5]o2 [22]o1.
@@ -211,10 +213,10 @@ const SMALL: [u8; 38] =
 fn rolls_of_the_profile() {
     let mut room = [UNTOUCHED; SMALL_ROLL];
     let orders = one_at(&[0, 6]);
-    assert_eq!(small_expand(COULOMB, &orders, &mut room, 3), Ok(Written { length: 38, terms: 5 }));
+    assert_eq!(small_expand(COULOMB, &orders, &mut room, 3), Expanded::Roll { length: 38, terms: 5 });
     assert_eq!((&room[..3], &room[3..41], &room[41..44]), (&[UNTOUCHED; 3][..], &SMALL[..], &[UNTOUCHED; 3][..]));
     let cursor = Cursor { place: 14, left: 5, kind: COULOMB, l: 2 };
-    assert_eq!(small_check(&SMALL), Ok(Opened { cursor, orders }));
+    assert_eq!(small_check(&SMALL), Opened::Roll { cursor, orders });
     assert_eq!(small_check(&ROLL), check(&ROLL));
     // Each byte changed in each way: the roll is refused, and by 20 where it reads and its header is of the profile.
     for place in 0..SMALL.len() {
@@ -222,10 +224,10 @@ fn rolls_of_the_profile() {
             let mut other = SMALL;
             other[place] = byte;
             let refusal = match small_check(&other) {
-                Err(refusal) => refusal,
+                Opened::Refused(refusal) => refusal,
                 taken => panic!("{taken:?}"),
             };
-            if place > 13 && matches!(check(&other), Ok(Opened { .. })) {
+            if place > 13 && matches!(check(&other), Opened::Roll { .. }) {
                 assert_eq!(refusal, Refusal::NotTheExpansion { place });
             }
         }
@@ -236,7 +238,7 @@ fn rolls_of_the_profile() {
 #[test]
 fn refusals_of_the_profile() {
     let refused = |roll: &[u8]| match small_check(roll) {
-        Err(refusal) => refusal,
+        Opened::Refused(refusal) => refusal,
         taken => panic!("{taken:?}"),
     };
     assert_eq!((refused(&[]), refused(&[5])), (Refusal::CutRoll { place: 0 }, Refusal::BadRoll { place: 0 }));
@@ -252,7 +254,7 @@ fn refusals_of_the_profile() {
     assert_eq!(refused(&[0, 0, 0, 0, 0, 0, 0, 1, 2, 0, 0]), Refusal::NotTheExpansion { place: 8 });
     let mut room = [UNTOUCHED; 10];
     let mut expanded = |kind, orders, start| match small_expand(kind, &orders, &mut room, start) {
-        Err(refusal) => refusal,
+        Expanded::Refused(refusal) => refusal,
         written => panic!("{written:?}"),
     };
     assert_eq!(expanded(5, [255; ORDERS], 11), Refusal::Kind);
@@ -266,7 +268,7 @@ fn refusals_of_the_profile() {
     assert_eq!(room, [UNTOUCHED; 10]);
 }
 
-fn imported(text: &str) -> Result<Written, Refusal> {
+fn imported(text: &str) -> Imported {
     import(text.as_bytes(), &mut vec![UNTOUCHED; text.len()], 0)
 }
 
@@ -281,16 +283,16 @@ fn there_and_back_by_text() {
         (moment, "3,0,0,0,0,0,0,2,0,0,2\n1,0,6,6\n1,0,9\n"),
         (made_up, "1,0,0,0,0,0,0,2\n2176778240,0,10\n127,0\n"),
     ] {
-        assert!(matches!(check(roll), Ok(Opened { .. })));
+        assert!(matches!(check(roll), Opened::Roll { .. }));
         let (length, size) = (text.len(), roll.len());
         let mut room = vec![UNTOUCHED; length + 3];
-        assert_eq!(export(roll, &mut room, 2), Ok(length));
+        assert_eq!(export(roll, &mut room, 2), Exported::Text { length });
         assert_eq!(
             (&room[..2], &room[2..length + 2], room[length + 2]),
             (&[UNTOUCHED; 2][..], text.as_bytes(), UNTOUCHED)
         );
         let terms = text.lines().count() as u32 - 1;
-        assert_eq!(import(text.as_bytes(), &mut room, 1), Ok(Written { length: size, terms }));
+        assert_eq!(import(text.as_bytes(), &mut room, 1), Imported::Roll { length: size, terms });
         assert_eq!((room[0], &room[1..=size], room[size + 1]), (UNTOUCHED, roll, text.as_bytes()[size - 1]));
         assert!(length <= 3 * size && size <= length);
         // Each cut of the text is 21 at its last line, or 22 at the line that is missing.
@@ -299,7 +301,7 @@ fn there_and_back_by_text() {
             let whole = cut > 0 && text[..cut].ends_with('\n');
             let refusal =
                 if whole { Refusal::LineNumbers { line: lines + 1 } } else { Refusal::LineShape { line: lines + 1 } };
-            assert_eq!(imported(&text[..cut]), Err(refusal), "{}", &text[..cut]);
+            assert_eq!(imported(&text[..cut]), Imported::Refused(refusal), "{}", &text[..cut]);
         }
     }
 }
@@ -308,7 +310,7 @@ fn there_and_back_by_text() {
 fn refusals_of_an_export() {
     let mut room = [UNTOUCHED; 29];
     let mut refused = |roll: &[u8], start| match export(roll, &mut room, start) {
-        Err(refusal) => refusal,
+        Exported::Refused(refusal) => refusal,
         written => panic!("{written:?}"),
     };
     assert_eq!((refused(&[], 30), refused(&FORM2, 30)), (Refusal::CutRoll { place: 0 }, Refusal::BadRoll { place: 0 }));
@@ -322,9 +324,11 @@ fn refusals_of_an_export() {
 #[test]
 fn refusals_of_an_import() {
     let right = "0,1,0,0,1,0,0,2\n1,0,0,1\n1,0,7\n";
-    assert_eq!(imported(right), Ok(Written { length: 17, terms: 2 }));
-    let shape = |text: &str, line| assert_eq!(imported(text), Err(Refusal::LineShape { line }), "{text:?}");
-    let numbers = |text: &str, line| assert_eq!(imported(text), Err(Refusal::LineNumbers { line }), "{text:?}");
+    assert_eq!(imported(right), Imported::Roll { length: 17, terms: 2 });
+    let shape =
+        |text: &str, line| assert_eq!(imported(text), Imported::Refused(Refusal::LineShape { line }), "{text:?}");
+    let numbers =
+        |text: &str, line| assert_eq!(imported(text), Imported::Refused(Refusal::LineNumbers { line }), "{text:?}");
     // The first line by its shape: empty, seven and nine numbers, a blank, a sign, a carriage return, a leading zero, no line feed.
     for first in [
         "",
@@ -378,7 +382,7 @@ fn refusals_of_an_import() {
     numbers("0,1,0,0,1,0,0,2\n0,0,0,1\n1;0,7\n", 2); // the first line that is wrong
     let mut room = [UNTOUCHED; 16];
     let mut refused = |text: &str, start| match import(text.as_bytes(), &mut room, start) {
-        Err(refusal) => refusal,
+        Imported::Refused(refusal) => refusal,
         written => panic!("{written:?}"),
     };
     assert_eq!(
@@ -397,7 +401,7 @@ fn what_differs() {
     let mut found = vec![];
     for (a, b) in [(&ROLL[..], &right[..]), (&ROLL[..], &FORM2[..])] {
         let mut at = match compare(a, b) {
-            Ok(Compared { differ: 3, kinds: false, orders: true, terms: true, left, right, cursor }) => {
+            Compared::Rolls { differ: 3, kinds: false, orders: true, terms: true, left, right, cursor } => {
                 assert_eq!((left, right), (ROLL_ORDERS, FORM2_ORDERS));
                 cursor
             }
@@ -405,15 +409,15 @@ fn what_differs() {
         };
         loop {
             match at.next(a, b) {
-                Ok(Some(Met::Both { number, left, right, next })) => {
+                Met::Both { number, left, right, next } => {
                     found.push((number, left.prefactors().to_vec(), right.prefactors().to_vec()));
                     at = next;
                 }
-                Ok(Some(Met::One { side: Side::Right, number, term, next })) => {
+                Met::One { side: Side::Right, number, term, next } => {
                     found.push((number, vec![], term.prefactors().to_vec()));
                     at = next;
                 }
-                Ok(None) => break,
+                Met::End => break,
                 other => panic!("{other:?}"),
             }
         }
@@ -421,12 +425,12 @@ fn what_differs() {
     let once = [(1, vec![0, 1], vec![0, 0, 0]), (2, vec![7], vec![0, 6]), (3, vec![], vec![6, 0])];
     assert_eq!(found, [once.clone(), once].concat());
     let same = compare(&right, &FORM2);
-    assert!(matches!(same, Ok(Compared { differ: 0, kinds: false, orders: false, terms: false, .. })), "{same:?}");
+    assert!(matches!(same, Compared::Rolls { differ: 0, kinds: false, orders: false, terms: false, .. }), "{same:?}");
     let cut = |place| Refusal::CutRoll { place };
-    assert_eq!(compare(&ROLL[..9], &FORM2[..8]), Err(RefusedRoll { side: Side::Left, refusal: cut(9) }));
-    assert_eq!(compare(&ROLL, &FORM2[..8]), Err(RefusedRoll { side: Side::Right, refusal: cut(8) }));
+    assert_eq!(compare(&ROLL[..9], &FORM2[..8]), Compared::Refused(Side::Left, cut(9)));
+    assert_eq!(compare(&ROLL, &FORM2[..8]), Compared::Refused(Side::Right, cut(8)));
     let forged = Pair { number: 7, ..Pair::default() };
-    assert_eq!(forged.next(&[5], &[]), Err(RefusedRoll { side: Side::Left, refusal: Refusal::BadRoll { place: 0 } }));
+    assert_eq!(forged.next(&[5], &[]), Met::Refused(Side::Left, Refusal::BadRoll { place: 0 }));
 }
 
 /// Document 02's faults, each at its place.
@@ -437,13 +441,13 @@ fn faults_of_form_2() {
         roll[place] = byte;
         check2(&roll)
     };
-    let wrong = |place| Err(Refusal::BadRoll { place });
+    let wrong = |place| Opened2::Refused(Refusal::BadRoll { place });
     assert_eq!(with(10, 1), wrong(10)); // the first term shares nothing
     assert_eq!(with(17, 4), wrong(17)); // the term before has three prefactors
     assert_eq!(with(18, 3), wrong(18)); // one and three are more than L
     assert_eq!(with(19, 0), wrong(19)); // the one that follows in the term before
     for cut in 0..FORM2.len() {
-        assert_eq!(check2(&FORM2[..cut]), Err(Refusal::CutRoll { place: cut }));
+        assert_eq!(check2(&FORM2[..cut]), Opened2::Refused(Refusal::CutRoll { place: cut }));
     }
 }
 
@@ -453,11 +457,11 @@ fn a_form_2_cursor_that_was_made_up() {
         let cursor = Cursor { place: 15, left: 2, kind: OVERLAP, l: 3 };
         Cursor2 { cursor, count, earlier: [prefactor; PREFACTORS] }.next(&FORM2)
     };
-    let wrong = |place| Err(Refusal::BadRoll { place });
+    let wrong = |place| Step2::Refused(Refusal::BadRoll { place });
     assert_eq!((made_up(4, 0), made_up(1, 8)), (wrong(15), wrong(15))); // no term has these
     assert_eq!((made_up(0, 0), made_up(2, 6)), (wrong(17), wrong(19)));
     match made_up(1, 7) {
-        Ok(Some(Step2 { term, .. })) => assert_eq!(term.prefactors(), [7, 6]),
+        Step2::Term { term, .. } => assert_eq!(term.prefactors(), [7, 6]),
         other => panic!("{other:?}"),
     }
 }
@@ -469,24 +473,24 @@ fn totals_by_hand() {
     three[0] = 3;
     let mut two = [0; ORDERS];
     two[0] = 2;
-    assert_eq!(scale_total(OVERLAP, &three), Ok(Some(4)));
-    assert_eq!(roll_total(&expanded(OVERLAP, three)), Ok(4));
-    assert_eq!(scale_total(NUCLEAR, &two), Ok(Some(6)));
-    assert_eq!(roll_total(&expanded(NUCLEAR, two)), Ok(6));
-    assert_eq!(scale_total(KINETIC, &two), Ok(None));
-    assert_eq!(scale_total(COULOMB, &two), Ok(None));
-    assert_eq!(scale_total(MOMENT, &[0, 0, 0, 0, 0, 0, 0, 0, 0, 1, 0, 0]), Err(Refusal::UnusedOrder));
-    assert_eq!(roll_total(&[]), Err(Refusal::CutRoll { place: 0 }));
+    assert_eq!(scale_total(OVERLAP, &three), Total::Is(4));
+    assert_eq!(roll_total(&expanded(OVERLAP, three)), Scales::Are(4));
+    assert_eq!(scale_total(NUCLEAR, &two), Total::Is(6));
+    assert_eq!(roll_total(&expanded(NUCLEAR, two)), Scales::Are(6));
+    assert_eq!(scale_total(KINETIC, &two), Total::NotClaimed);
+    assert_eq!(scale_total(COULOMB, &two), Total::NotClaimed);
+    assert_eq!(scale_total(MOMENT, &[0, 0, 0, 0, 0, 0, 0, 0, 0, 1, 0, 0]), Total::Refused(Refusal::UnusedOrder));
+    assert_eq!(roll_total(&[]), Scales::Refused(Refusal::CutRoll { place: 0 }));
 }
 
 #[test]
 fn open_and_check() {
     let cursor = Cursor { place: 8, left: 2, kind: 0, l: 2 };
-    assert_eq!(check(&ROLL), Ok(Opened { cursor, orders: ROLL_ORDERS }));
+    assert_eq!(check(&ROLL), Opened::Roll { cursor, orders: ROLL_ORDERS });
     assert_eq!(open(&ROLL), check(&ROLL));
     assert_eq!(open(&ROLL[..16]), open(&ROLL));
-    assert_eq!(check(&ROLL[..16]), Err(Refusal::CutRoll { place: 16 }));
-    assert_eq!(check(&[0x80, 0]), Err(Refusal::BadRoll { place: 0 }));
+    assert_eq!(check(&ROLL[..16]), Opened::Refused(Refusal::CutRoll { place: 16 }));
+    assert_eq!(check(&[0x80, 0]), Opened::Refused(Refusal::BadRoll { place: 0 }));
 }
 
 /// Every byte of the roll is a number, so a cut roll is refused where it ends.
@@ -494,17 +498,17 @@ fn open_and_check() {
 fn each_cut_of_a_roll() {
     for cut in 0..ROLL.len() {
         let (roll, cut_there) = (&ROLL[..cut], Refusal::CutRoll { place: cut });
-        assert_eq!(check(roll), Err(cut_there));
-        assert_eq!(evaluate(roll, UNIT, UNIT, UNIT, UNIT, 1.0, &[]), Err(cut_there));
+        assert_eq!(check(roll), Opened::Refused(cut_there));
+        assert_eq!(evaluate(roll, UNIT, UNIT, UNIT, UNIT, 1.0, &[]), Value::Refused(cut_there));
         match open(roll) {
-            Ok(Opened { mut cursor, .. }) => {
+            Opened::Roll { mut cursor, .. } => {
                 assert!(cut >= 8);
-                while let Ok(Some(Step { next, .. })) = cursor.next(roll) {
+                while let Step::Term { next, .. } = cursor.next(roll) {
                     cursor = next;
                 }
-                assert_eq!(cursor.next(roll), Err(cut_there));
+                assert_eq!(cursor.next(roll), Step::Refused(cut_there));
             }
-            Err(refusal) => assert_eq!((refusal, cut < 8), (cut_there, true)),
+            Opened::Refused(refusal) => assert_eq!((refusal, cut < 8), (cut_there, true)),
         }
     }
 }
@@ -521,45 +525,45 @@ fn cut_or_wrong() {
         (&[0xff; 6], wrong),
     ];
     for (roll, expected) in cases {
-        assert_eq!(open(roll), Err(expected), "{roll:?}");
-        assert_eq!(check(roll), Err(expected), "{roll:?}");
-        assert_eq!(Cursor { place: 0, left: 1, kind: OVERLAP, l: 0 }.next(roll), Err(expected), "{roll:?}");
+        assert_eq!(open(roll), Opened::Refused(expected), "{roll:?}");
+        assert_eq!(check(roll), Opened::Refused(expected), "{roll:?}");
+        assert_eq!(Cursor { place: 0, left: 1, kind: OVERLAP, l: 0 }.next(roll), Step::Refused(expected), "{roll:?}");
     }
     let too_many = [&ROLL[..], &[0x80]].concat();
-    assert_eq!(check(&too_many), Err(Refusal::BadRoll { place: 17 }));
+    assert_eq!(check(&too_many), Opened::Refused(Refusal::BadRoll { place: 17 }));
 }
 
 #[test]
 fn a_cursor_that_was_made_up() {
     let made_up = |place, left, kind| Cursor { place, left, kind, l: 2 }.next(&ROLL);
-    assert_eq!(made_up(18, 1, OVERLAP), Err(Refusal::BadRoll { place: 18 }));
-    assert_eq!(made_up(17, 1, OVERLAP), Err(Refusal::CutRoll { place: 17 }));
-    assert_eq!(made_up(16, 0, OVERLAP), Err(Refusal::BadRoll { place: 16 }));
-    assert_eq!(made_up(3, 1, 5), Err(Refusal::BadRoll { place: 3 }));
-    assert_eq!(made_up(17, 0, OVERLAP), Ok(None));
+    assert_eq!(made_up(18, 1, OVERLAP), Step::Refused(Refusal::BadRoll { place: 18 }));
+    assert_eq!(made_up(17, 1, OVERLAP), Step::Refused(Refusal::CutRoll { place: 17 }));
+    assert_eq!(made_up(16, 0, OVERLAP), Step::Refused(Refusal::BadRoll { place: 16 }));
+    assert_eq!(made_up(3, 1, 5), Step::Refused(Refusal::BadRoll { place: 3 }));
+    assert_eq!(made_up(17, 0, OVERLAP), Step::End);
 }
 
 #[test]
 fn shells() {
     let mut room = [UNTOUCHED; 19];
-    assert_eq!(shell_list(2, &mut room, 0), Ok(Listed { length: 18, triples: 6 }));
+    assert_eq!(shell_list(2, &mut room, 0), Listed::Triples { length: 18, triples: 6 });
     assert_eq!(room[..18], [2, 0, 0, 1, 1, 0, 1, 0, 1, 0, 2, 0, 0, 1, 1, 0, 0, 2]);
     assert_eq!(room[18], UNTOUCHED);
-    assert_eq!(shell2(1, 1, 1), Ok([1, 0, 0, 0, 1, 0, 0, 0, 0, 0, 0, 0]));
-    assert_eq!(shell4(0, 1, 0, 1, 5), Ok([0, 0, 0, 0, 1, 0, 0, 0, 0, 0, 0, 1]));
-    assert_eq!(shell4(4, 4, 4, 4, 50624), Ok([0, 0, 4, 0, 0, 4, 0, 0, 4, 0, 0, 4]));
-    assert_eq!(shell4(6, 6, 6, 6, 614655), Ok([0, 0, 6, 0, 0, 6, 0, 0, 6, 0, 0, 6]));
+    assert_eq!(shell2(1, 1, 1), Component::Orders([1, 0, 0, 0, 1, 0, 0, 0, 0, 0, 0, 0]));
+    assert_eq!(shell4(0, 1, 0, 1, 5), Component::Orders([0, 0, 0, 0, 1, 0, 0, 0, 0, 0, 0, 1]));
+    assert_eq!(shell4(4, 4, 4, 4, 50624), Component::Orders([0, 0, 4, 0, 0, 4, 0, 0, 4, 0, 0, 4]));
+    assert_eq!(shell4(6, 6, 6, 6, 614655), Component::Orders([0, 0, 6, 0, 0, 6, 0, 0, 6, 0, 0, 6]));
 }
 
 #[test]
 fn values() {
     let none = Centre::default();
-    assert_eq!(evaluate(&ROLL, UNIT, UNIT, none, none, 1.0, &[]), Ok(0.25));
+    assert_eq!(evaluate(&ROLL, UNIT, UNIT, none, none, 1.0, &[]), Value::Is(0.25));
     let mut entries = [0.0; TABLE];
     (entries[6], entries[7]) = (0.25, 0.25);
-    assert_eq!(prefactors(OVERLAP, UNIT, UNIT, none, none), Ok(entries));
+    assert_eq!(prefactors(OVERLAP, UNIT, UNIT, none, none), Table::Entries(entries));
     let (mut j, mut k) = ([9.0], [9.0]);
-    assert_eq!(jk(1, &[0.5], &[3.0], &mut j, &mut k), Ok(()));
+    assert_eq!(jk(1, &[0.5], &[3.0], &mut j, &mut k), Matrices::Written);
     assert_eq!((j, k), ([1.5], [1.5]));
 }
 
@@ -570,7 +574,7 @@ const ROOT_OF_3: u64 = 0x3ffbb67ae8584caa;
 #[test]
 fn roots() {
     let of = |x| match root(x) {
-        Ok(root) => root.to_bits(),
+        Root::Is(root) => root.to_bits(),
         refused => panic!("{refused:?}"),
     };
     assert_eq!(of(4.0), 2f64.to_bits());
@@ -581,10 +585,10 @@ fn roots() {
     assert_eq!(of(0.0), 0);
     assert_eq!(of(-0.0), 1 << 63);
     for below in [-1.0, -f64::from_bits(1), f64::MIN] {
-        assert_eq!(root(below), Err(Refusal::BelowZero));
+        assert_eq!(root(below), Root::Refused(Refusal::BelowZero));
     }
     for odd in [f64::NAN, -f64::NAN, f64::INFINITY, f64::NEG_INFINITY] {
-        assert_eq!(root(odd), Err(Refusal::InputNotFinite));
+        assert_eq!(root(odd), Root::Refused(Refusal::InputNotFinite));
     }
 }
 
@@ -601,13 +605,13 @@ fn aux_of_coulomb_is_divided_by_the_root() {
         assert_eq!(evaluate_grouped(&COULOMB_S, a, b, c, d, aux, &[0.5], &mut buffer), value);
         value
     };
-    assert_eq!(both([1.0; 4], 3.0), Ok(0.75));
-    assert_eq!(both([0.5; 4], 1.0), Ok(0.5 * (1.0 / f64::from_bits(ROOT_OF_2))));
+    assert_eq!(both([1.0; 4], 3.0), Value::Is(0.75));
+    assert_eq!(both([0.5; 4], 1.0), Value::Is(0.5 * (1.0 / f64::from_bits(ROOT_OF_2))));
     // Added one after the other these are 3; two by two they would be more, with another root.
-    assert_eq!(both([3.0, f64::EPSILON, f64::EPSILON, f64::EPSILON], f64::from_bits(ROOT_OF_3)), Ok(0.5));
+    assert_eq!(both([3.0, f64::EPSILON, f64::EPSILON, f64::EPSILON], f64::from_bits(ROOT_OF_3)), Value::Is(0.5));
     // A sum that is not finite, and a quotient.
-    assert_eq!(both([f64::MAX / 2.0; 4], 1.0), Err(Refusal::ResultNotFinite));
-    assert_eq!(both([1e-300; 4], f64::MAX), Err(Refusal::ResultNotFinite));
+    assert_eq!(both([f64::MAX / 2.0; 4], 1.0), Value::Refused(Refusal::ResultNotFinite));
+    assert_eq!(both([1e-300; 4], f64::MAX), Value::Refused(Refusal::ResultNotFinite));
 }
 
 /// The roll of nuclear s,s: its one term has no prefactor, so the integral is aux times F(0).
@@ -626,9 +630,9 @@ fn nuclei(charges: &[u32]) -> Nuclei {
 }
 
 /// The bits of a value.
-fn bits(value: Result<f64, Refusal>) -> u64 {
+fn bits(value: Value) -> u64 {
     match value {
-        Ok(value) => value.to_bits(),
+        Value::Is(value) => value.to_bits(),
         refused => panic!("{refused:?}"),
     }
 }
@@ -636,12 +640,12 @@ fn bits(value: Result<f64, Refusal>) -> u64 {
 #[test]
 fn lists_of_nuclei() {
     let total = |charges: &[u32], boys: &[f64]| nuclear(&NUCLEAR_S, UNIT, UNIT, nuclei(charges), 1.5, boys);
-    assert_eq!(total(&[8], &[0.5]), Ok(6.0));
-    assert_eq!(total(&[8, 1], &[0.5, 0.25]), Ok(6.375));
-    assert_eq!(total(&[MOST_CHARGE; MOST_NUCLEI], &[0.5; MOST_NUCLEI]), Ok(2832.0));
+    assert_eq!(total(&[8], &[0.5]), Value::Is(6.0));
+    assert_eq!(total(&[8, 1], &[0.5, 0.25]), Value::Is(6.375));
+    assert_eq!(total(&[MOST_CHARGE; MOST_NUCLEI], &[0.5; MOST_NUCLEI]), Value::Is(2832.0));
     // From 0.0 in list order: 0.75 is lost beside 1.5e17 and stays beside 0.0.
-    assert_eq!(total(&[1; 3], &[0.5, 1e17, -1e17]), Ok(0.0));
-    assert_eq!(total(&[1; 3], &[1e17, -1e17, 0.5]), Ok(0.75));
+    assert_eq!(total(&[1; 3], &[0.5, 1e17, -1e17]), Value::Is(0.0));
+    assert_eq!(total(&[1; 3], &[1e17, -1e17, 0.5]), Value::Is(0.75));
 }
 
 /// A total is that of all but the last nucleus plus the last one's value, and that of one nucleus 0.0 plus its value.
@@ -670,7 +674,7 @@ fn charge_0() {
     assert_eq!(bits(nuclear(&NUCLEAR_S, UNIT, UNIT, nuclei(&[0; 2]), -1.5, &[0.5; 2])), 0.0_f64.to_bits());
     // An infinity times 0 is no number.
     let infinite = evaluate(&NUCLEAR_S, UNIT, UNIT, Centre { charge: 0, ..UNIT }, ODD, f64::MAX, &[f64::MAX]);
-    assert_eq!(infinite, Err(Refusal::ResultNotFinite));
+    assert_eq!(infinite, Value::Refused(Refusal::ResultNotFinite));
 }
 
 #[test]
@@ -686,7 +690,7 @@ fn the_charge_of_a_nucleus_alone_is_looked_at() {
         };
         let roll = expanded(kind, one_at(&[0, if kind == COULOMB { 6 } else { 3 }]));
         let value = evaluate(&roll, a, b, c, d, 1.5, boys);
-        assert!(matches!(value, Ok(_)), "{value:?}");
+        assert!(matches!(value, Value::Is(_)), "{value:?}");
         assert_eq!(evaluate(&roll, any(a), any(b), nucleus, any(d), 1.5, boys), value);
         assert_eq!(grouped(&roll, [any(a), any(b), nucleus, any(d)], boys, &mut buffer), value);
         assert_eq!(prefactors(kind, any(a), any(b), any(c), any(d)), prefactors(kind, a, b, c, d));
@@ -699,7 +703,7 @@ fn the_charge_of_a_nucleus_alone_is_looked_at() {
 #[test]
 fn refusals_of_a_list() {
     let refused = |roll: &[u8], a: Centre, list: Nuclei, boys: &[f64]| match nuclear(roll, a, UNIT, list, 1.5, boys) {
-        Err(refusal) => refusal,
+        Value::Refused(refusal) => refusal,
         other => panic!("{other:?}"),
     };
     let below = Centre { exponent: -1.0, ..UNIT };
@@ -761,7 +765,7 @@ fn one_primitive_each() {
             assert_eq!(bits(contracted(&roll, alone(a), alone(b), &[1.5])), bits(value));
         }
     }
-    assert_eq!(contracted(&OVERLAP_S, units(&[[2.0, 5.0]]), units(&[[3.0, 7.0]]), &[0.5]), Ok(105.0));
+    assert_eq!(contracted(&OVERLAP_S, units(&[[2.0, 5.0]]), units(&[[3.0, 7.0]]), &[0.5]), Value::Is(105.0));
 }
 
 /// The right function is outer: the host numbers are those of the first right primitive with both left ones, then of the second.
@@ -771,7 +775,7 @@ fn two_by_two() {
     let host = [1.0, 10.0, 100.0, 1000.0];
     let first = 13.0 * (3.0 * (22.0 * host[0]) + 7.0 * (55.0 * host[1]));
     let second = 19.0 * (3.0 * (34.0 * host[2]) + 7.0 * (85.0 * host[3]));
-    assert_eq!(contracted(&OVERLAP_S, left, right, &host), Ok(first + second));
+    assert_eq!(contracted(&OVERLAP_S, left, right, &host), Value::Is(first + second));
     // Left norm times right norm, then the value, then the left coefficient: 0.1 * 0.2, 0.3, 0.7 round otherwise in other orders.
     let (left, right) = (units(&[[0.1, 0.7], [0.3, 0.9]]), units(&[[0.2, 1.1], [0.6, 1.3]]));
     let host = [0.3, 0.31, 0.37, 0.41];
@@ -781,8 +785,8 @@ fn two_by_two() {
     // In order within each sum: 1.0 is lost beside 1e17 and stays beside 0.0.
     let ones = units(&[[1.0, 1.0]; 3]);
     for (host, element) in [([1.0, 1e17, -1e17], 0.0), ([1e17, -1e17, 1.0], 1.0)] {
-        assert_eq!(contracted(&OVERLAP_S, ones, units(&[[1.0, 1.0]]), &host), Ok(element));
-        assert_eq!(contracted(&OVERLAP_S, units(&[[1.0, 1.0]]), ones, &host), Ok(element));
+        assert_eq!(contracted(&OVERLAP_S, ones, units(&[[1.0, 1.0]]), &host), Value::Is(element));
+        assert_eq!(contracted(&OVERLAP_S, units(&[[1.0, 1.0]]), ones, &host), Value::Is(element));
     }
 }
 
@@ -831,7 +835,7 @@ fn charges_of_primitives_are_not_looked_at() {
 #[test]
 fn refusals_of_an_element() {
     let refused = |roll: &[u8], left, right, host: &[f64]| match contracted(roll, left, right, host) {
-        Err(refusal) => refusal,
+        Value::Refused(refusal) => refusal,
         other => panic!("{other:?}"),
     };
     let below = Centre { exponent: -1.0, ..UNIT };
@@ -886,7 +890,7 @@ const CENTRES: [Centre; 4] = [
     Centre { x: 0.5, y: -0.9, z: 1.3, exponent: 0.6, charge: 1 },
 ];
 
-fn grouped(roll: &[u8], [a, b, c, d]: [Centre; 4], boys: &[f64], buffer: &mut [u8]) -> Result<f64, Refusal> {
+fn grouped(roll: &[u8], [a, b, c, d]: [Centre; 4], boys: &[f64], buffer: &mut [u8]) -> Value {
     evaluate_grouped(roll, a, b, c, d, 1.5, boys, buffer)
 }
 
@@ -901,12 +905,12 @@ fn in_forty_a_term(orders: [u8; ORDERS], room: usize) {
     let mut buffer = vec![UNTOUCHED; room + 1];
     let value = grouped(&roll, CENTRES, &boys, &mut buffer[..room]);
     match (value, evaluate(&roll, a, b, c, d, 1.5, &boys)) {
-        (Ok(ours), Ok(plain)) => assert_eq!(ours.to_bits(), plain.to_bits()),
+        (Value::Is(ours), Value::Is(plain)) => assert_eq!(ours.to_bits(), plain.to_bits()),
         both => panic!("{both:?}"),
     }
     for (number, term) in (1..).zip(&listed) {
         match grouped_term(&buffer, l, listed.len() as u32, number) {
-            Ok(t) => assert_eq!((t.scale, t.boys, t.prefactors().to_vec()), *term),
+            Restored::Term(t) => assert_eq!((t.scale, t.boys, t.prefactors().to_vec()), *term),
             refused => panic!("{number}: {refused:?}"),
         }
     }
@@ -914,7 +918,7 @@ fn in_forty_a_term(orders: [u8; ORDERS], room: usize) {
     let size = roll.len() - 14 + listed.len();
     assert!(buffer[size..].iter().all(|&byte| byte == UNTOUCHED));
     let mut less = vec![UNTOUCHED; room - 1];
-    assert_eq!(grouped(&roll, CENTRES, &boys, &mut less), Err(Refusal::NoRoom));
+    assert_eq!(grouped(&roll, CENTRES, &boys, &mut less), Value::Refused(Refusal::NoRoom));
     assert!(less.iter().all(|&byte| byte == UNTOUCHED));
 }
 
@@ -942,14 +946,14 @@ fn the_grouping_stays_beside_later_refusals() {
     ];
     for (refusal, centres, boys) in cases {
         let mut buffer = [UNTOUCHED; 203];
-        assert_eq!(grouped(&roll, centres, boys, &mut buffer), Err(refusal));
+        assert_eq!(grouped(&roll, centres, boys, &mut buffer), Value::Refused(refusal));
         assert_eq!((&buffer[..29], &buffer[29..]), (&GROUPING[..], &[UNTOUCHED; 174][..]));
         let mut short = [UNTOUCHED; 199];
-        assert_eq!(grouped(&roll, centres, boys, &mut short), Err(Refusal::NoRoom));
+        assert_eq!(grouped(&roll, centres, boys, &mut short), Value::Refused(Refusal::NoRoom));
         let mut bad = roll.clone();
         bad[13] = 0; // its term count
-        assert_eq!(grouped(&bad, centres, boys, &mut short), Err(Refusal::BadRoll { place: 13 }));
-        assert_eq!(grouped(&roll[..20], centres, boys, &mut short), Err(Refusal::CutRoll { place: 20 }));
+        assert_eq!(grouped(&bad, centres, boys, &mut short), Value::Refused(Refusal::BadRoll { place: 13 }));
+        assert_eq!(grouped(&roll[..20], centres, boys, &mut short), Value::Refused(Refusal::CutRoll { place: 20 }));
         assert_eq!(short, [UNTOUCHED; 199]);
     }
 }
@@ -958,16 +962,16 @@ fn the_grouping_stays_beside_later_refusals() {
 #[test]
 fn other_kinds_are_not_grouped() {
     let mut buffer = [UNTOUCHED; 100];
-    assert_eq!(evaluate_grouped(&ROLL, UNIT, UNIT, UNIT, UNIT, 1.0, &[], &mut buffer), Ok(0.25));
+    assert_eq!(evaluate_grouped(&ROLL, UNIT, UNIT, UNIT, UNIT, 1.0, &[], &mut buffer), Value::Is(0.25));
     assert_eq!(buffer, [UNTOUCHED; 100]);
-    assert_eq!(evaluate_grouped(&ROLL, UNIT, UNIT, UNIT, UNIT, 1.0, &[], &mut []), Ok(0.25));
+    assert_eq!(evaluate_grouped(&ROLL, UNIT, UNIT, UNIT, UNIT, 1.0, &[], &mut []), Value::Is(0.25));
 }
 
 /// The first fault of a grouping in reading order, after L and the number asked.
 #[test]
 fn faults_of_a_grouping() {
     let refused = |grouping: &[u8], asked| match grouped_term(grouping, 2, 5, asked) {
-        Err(refusal) => refusal,
+        Restored::Refused(refusal) => refusal,
         term => panic!("{term:?}"),
     };
     let with = |place: usize, byte: u8, asked| {
@@ -976,7 +980,7 @@ fn faults_of_a_grouping() {
         refused(&grouping, asked)
     };
     let wrong = |place| Refusal::BadRoll { place };
-    assert_eq!(grouped_term(&[], 25, 5, 0), Err(wrong(0)));
+    assert_eq!(grouped_term(&[], 25, 5, 0), Restored::Refused(wrong(0)));
     assert_eq!((refused(&[], 0), refused(&[], 6)), (Refusal::ComponentNumber, Refusal::ComponentNumber));
     assert_eq!((with(0, 0, 1), with(6, 6, 1)), (wrong(0), wrong(6))); // no number from 1 to 5
     assert_eq!((with(8, 3, 1), with(28, 23, 1)), (wrong(8), wrong(28))); // a Boys order above L; no prefactor
@@ -996,7 +1000,7 @@ fn j_and_k_are_not_exchanged() {
     i[0b0011] = 1.0;
     let d = [0.0, 0.0, 0.0, 2.0];
     let (mut j, mut k) = ([9.0; 4], [9.0; 4]);
-    assert_eq!(jk(2, &i, &d, &mut j, &mut k), Ok(()));
+    assert_eq!(jk(2, &i, &d, &mut j, &mut k), Matrices::Written);
     assert_eq!((j, k), ([2.0, 0.0, 0.0, 0.0], [0.0; 4]));
 }
 
@@ -1007,15 +1011,24 @@ fn k_is_not_mirrored() {
     (i[0b0011], i[0b1100]) = (1.0, 1.0);
     let d = [0.0, 1.0, 0.0, 0.0];
     let (mut j, mut k) = ([9.0; 4], [9.0; 4]);
-    assert_eq!(jk(2, &i, &d, &mut j, &mut k), Ok(()));
+    assert_eq!(jk(2, &i, &d, &mut j, &mut k), Matrices::Written);
     assert_eq!((j, k), ([0.0; 4], [0.0, 1.0, 0.0, 0.0]));
+}
+
+macro_rules! refusal {
+    ($answer:ident, $call:expr) => {
+        match $call {
+            $answer::Refused(refusal) => refusal,
+            other => panic!("{other:?}"),
+        }
+    };
 }
 
 /// A call for each refusal.
 fn refusals() -> [(u8, Refusal); 22] {
     let mut room = [UNTOUCHED; 10];
-    let mut request = |kind, orders, start| expand(kind, &orders, &mut room, start).unwrap_err();
-    let sum = |roll, a, boys| evaluate(roll, a, UNIT, UNIT, UNIT, 1.0, boys).unwrap_err();
+    let mut request = |kind, orders, start| refusal!(Expanded, expand(kind, &orders, &mut room, start));
+    let sum = |roll, a, boys| refusal!(Value, evaluate(roll, a, UNIT, UNIT, UNIT, 1.0, boys));
     let found = [
         (1, request(5, [0; ORDERS], 0)),
         (2, request(OVERLAP, [7, 0, 0, 0, 0, 0, 0, 0, 0, 0, 0, 0], 0)),
@@ -1028,34 +1041,28 @@ fn refusals() -> [(u8, Refusal); 22] {
         (9, sum(&ROLL, Centre { exponent: -0.0, ..UNIT }, &[])),
         (10, sum(&ROLL, UNIT, &[1.0])),
         (11, sum(&ROLL, Centre { x: 1e155, ..UNIT }, &[])),
-        (12, jk(0, &[], &[], &mut [], &mut []).unwrap_err()),
-        (13, shell2(0, 0, 1).unwrap_err()),
+        (12, refusal!(Matrices, jk(0, &[], &[], &mut [], &mut []))),
+        (13, refusal!(Component, shell2(0, 0, 1))),
         (14, sum(&ROLL[..16], UNIT, &[])),
-        (15, contracted(&ROLL, units(&[]), units(&[]), &[]).unwrap_err()),
-        (16, contracted(&ROLL, units(&[[1.0; 2]]), units(&[[1.0; 2]]), &[]).unwrap_err()),
-        (17, nuclear(&NUCLEAR_S, UNIT, UNIT, nuclei(&[119]), 1.0, &[1.0]).unwrap_err()),
-        (18, root(-1.0).unwrap_err()),
-        (19, small_check(&NUCLEAR_S).unwrap_err()),
-        (20, confirm(&[0, 0, 0, 0, 0, 0, 0, 1, 2, 0, 0]).unwrap_err()),
-        (21, imported("0,0,0,0,0,0,0,1\n1, 0\n").unwrap_err()),
-        (22, imported("5,0,0,0,0,0,0,1\n1,0\n").unwrap_err()),
+        (15, refusal!(Value, contracted(&ROLL, units(&[]), units(&[]), &[]))),
+        (16, refusal!(Value, contracted(&ROLL, units(&[[1.0; 2]]), units(&[[1.0; 2]]), &[]))),
+        (17, refusal!(Value, nuclear(&NUCLEAR_S, UNIT, UNIT, nuclei(&[119]), 1.0, &[1.0]))),
+        (18, refusal!(Root, root(-1.0))),
+        (19, refusal!(Opened, small_check(&NUCLEAR_S))),
+        (20, refusal!(Opened, confirm(&[0, 0, 0, 0, 0, 0, 0, 1, 2, 0, 0]))),
+        (21, refusal!(Imported, imported("0,0,0,0,0,0,0,1\n1, 0\n"))),
+        (22, refusal!(Imported, imported("5,0,0,0,0,0,0,1\n1,0\n"))),
     ];
     assert_eq!(room, [UNTOUCHED; 10]);
     found
 }
 
 #[test]
-fn each_refusal_comes_up_and_prints_itself() {
+fn each_refusal_comes_up_with_the_words_of_the_header() {
     for (number, refusal) in refusals() {
         assert_eq!(refusal.number(), number);
-        let at = match refusal {
-            Refusal::BadRoll { place } | Refusal::CutRoll { place } | Refusal::NotTheExpansion { place } => {
-                format!(" at {place}")
-            }
-            Refusal::LineShape { line } | Refusal::LineNumbers { line } => format!(" line {line}"),
-            _ => String::new(),
-        };
-        assert_eq!(refusal.to_string(), format!("refused {number}{at}: {}", refusal.words()));
+        assert!(HEADER.contains(&format!("\n *   {number:2}  {refusal}\n")), "{number} {refusal}");
+        assert_eq!(refusal.words(), refusal.to_string());
     }
     assert_eq!(refusals()[6].1, Refusal::BadRoll { place: 0 });
     assert_eq!(refusals()[13].1, Refusal::CutRoll { place: 16 });
@@ -1064,47 +1071,23 @@ fn each_refusal_comes_up_and_prints_itself() {
         (refusals()[20].1, refusals()[21].1),
         (Refusal::LineShape { line: 2 }, Refusal::LineNumbers { line: 1 })
     );
-    let cut = refusals()[13].1;
-    assert_eq!(cut.to_string(), "refused 14 at 16: the roll ends before a number does; carries the place");
-}
-
-/// `?` hands a refusal on, also as a boxed error, and of a comparison with its side.
-#[test]
-fn a_refusal_is_an_error() {
-    fn opened(roll: &[u8]) -> Result<u32, Box<dyn std::error::Error>> {
-        Ok(check(roll)?.cursor.left)
-    }
-    fn differ(left: &[u8], right: &[u8]) -> Result<u32, Box<dyn std::error::Error>> {
-        Ok(compare(left, right)?.differ)
-    }
-    assert_eq!(opened(&ROLL).unwrap(), 2);
-    assert_eq!(opened(&[5]).unwrap_err().to_string(), "refused 7 at 0: roll breaks a rule below; carries the place");
-    let refused = differ(&ROLL, &[5]).unwrap_err();
-    assert_eq!(refused.to_string(), "right roll refused 7 at 0: roll breaks a rule below; carries the place");
-    assert_eq!(refused.source().unwrap().to_string(), opened(&[5]).unwrap_err().to_string());
-    assert_eq!(Refusal::from(compare(&ROLL[..16], &ROLL).unwrap_err()), Refusal::CutRoll { place: 16 });
-}
-
-#[test]
-fn the_archive_is_of_the_binding_s_version() {
-    assert_eq!(version(), VERSION);
 }
 
 #[test]
 fn the_other_ways_to_refuse() {
     let mut room = [UNTOUCHED; 18];
-    assert_eq!(shell_list(7, &mut room, 0), Err(Refusal::OrderSum));
-    assert_eq!(shell_list(2, &mut room, 19), Err(Refusal::StartBeyondEnd));
-    assert_eq!(shell_list(2, &mut room, 1), Err(Refusal::NoRoom));
+    assert_eq!(shell_list(7, &mut room, 0), Listed::Refused(Refusal::OrderSum));
+    assert_eq!(shell_list(2, &mut room, 19), Listed::Refused(Refusal::StartBeyondEnd));
+    assert_eq!(shell_list(2, &mut room, 1), Listed::Refused(Refusal::NoRoom));
     assert_eq!(room, [UNTOUCHED; 18]);
-    assert_eq!(prefactors(5, UNIT, UNIT, UNIT, UNIT), Err(Refusal::Kind));
-    assert_eq!(shell4(4, 4, 4, 4, 50625), Err(Refusal::ComponentNumber));
-    assert_eq!(shell4(6, 6, 6, 6, 614656), Err(Refusal::ComponentNumber));
-    assert_eq!(open(&[]), Err(Refusal::CutRoll { place: 0 }));
-    assert_eq!(expand(OVERLAP, &[0; ORDERS], &mut [], 0), Err(Refusal::NoRoom));
-    assert_eq!(measure(5, &[0; ORDERS]), Err(Refusal::Kind));
-    assert_eq!(measure(OVERLAP, &[7; ORDERS]), Err(Refusal::OrderSum));
-    assert_eq!(measure(OVERLAP, &one_at(&[6])), Err(Refusal::UnusedOrder));
+    assert_eq!(prefactors(5, UNIT, UNIT, UNIT, UNIT), Table::Refused(Refusal::Kind));
+    assert_eq!(shell4(4, 4, 4, 4, 50625), Component::Refused(Refusal::ComponentNumber));
+    assert_eq!(shell4(6, 6, 6, 6, 614656), Component::Refused(Refusal::ComponentNumber));
+    assert_eq!(open(&[]), Opened::Refused(Refusal::CutRoll { place: 0 }));
+    assert_eq!(expand(OVERLAP, &[0; ORDERS], &mut [], 0), Expanded::Refused(Refusal::NoRoom));
+    assert_eq!(measure(5, &[0; ORDERS]), Expanded::Refused(Refusal::Kind));
+    assert_eq!(measure(OVERLAP, &[7; ORDERS]), Expanded::Refused(Refusal::OrderSum));
+    assert_eq!(measure(OVERLAP, &one_at(&[6])), Expanded::Refused(Refusal::UnusedOrder));
     let sixes = [6, 0, 0, 6, 0, 0, 6, 0, 0, 6, 0, 0];
-    assert_eq!(measure(COULOMB, &sixes), Err(Refusal::TooManyTerms));
+    assert_eq!(measure(COULOMB, &sixes), Expanded::Refused(Refusal::TooManyTerms));
 }
