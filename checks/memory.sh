@@ -1,8 +1,8 @@
-# Where the prover works, for the scripts that read this file by `. "$root/checks/memory.sh"`; they remove the folder at their end.
+# Where wrong programs are tried, for the scripts that read this file by `. "$root/checks/memory.sh"`; they remove the folder at their end.
 # shellcheck shell=sh
 
-# Each check lays out the modules of all crates below: up to 9,500 files, 500 MB. In memory that takes half the system's time.
-# Says a folder in memory where there is room for the checks that run at once, else a folder of the usual sort.
+# For each wrong program rt lays out anew what is proved of its crate, up to some thousand files and 300 MB.
+# Says a folder in memory where there is room for those that are tried at once, else a folder of the usual sort.
 working_folder() {
     room=$(df -Pk /dev/shm 2>/dev/null | awk 'NR == 2 { print $4 }')
     free=$(awk '$1 == "MemAvailable:" { print $2 }' /proc/meminfo 2>/dev/null)
@@ -11,7 +11,5 @@ working_folder() {
     else
         folder=$(mktemp -d)
     fi
-    # rt runs the programs as another user, who has to reach a folder below
-    chmod 711 "$folder"
     echo "$folder"
 }
