@@ -18,6 +18,8 @@ use streams::{argument_count, open, read_full};
 
 // The bytes of a piece: no head and no line has more.
 const PIECE: usize = 256;
+// The arguments of a call, the name of the program among them.
+const ARGUMENTS: usize = 3;
 // The bytes of a file's name.
 const NAME: usize = 4096;
 // The bytes of the buffers that rolls usually go through; a file that has as many may have more.
@@ -177,7 +179,7 @@ fn in_large(rt: &(impl Env + Files + Print + Eprint + Alloc)) -> io::Result<()> 
 }
 
 fn main(rt: HostRuntime) -> io::Result<()> {
-    if argument_count(&rt) != 3 {
+    if argument_count(&rt, ARGUMENTS + 1) != ARGUMENTS {
         return eprintln!(rt; "compare LEFT RIGHT: where two rolls differ");
     }
     let long = in_usual(&rt)?;

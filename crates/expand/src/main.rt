@@ -18,6 +18,8 @@ use text::Parsed;
 const ROOM: usize = 1048576;
 // The bytes of the larger one: more than any roll has.
 const LARGE: usize = 16777216;
+// The most arguments of a call: the program, the word that asks for form 2, the kind, the orders.
+const ARGUMENTS: usize = 3 + Kind::ORDERS;
 // The digits of the largest byte.
 const DIGITS: usize = 3;
 // The letters of the word that asks for form 2.
@@ -215,7 +217,7 @@ fn called(
     at: u8,
     first: u8,
 ) -> io::Result<()> {
-    let count = argument_count(rt);
+    let count = argument_count(rt, ARGUMENTS + 1);
     let before = first as usize;
     if before < count {
         if let Byte::Is(kind) = argument(rt, at as usize) {

@@ -1,7 +1,8 @@
 // What the programs read: their input up to a limit, their arguments, and the files that these name.
 #![tactic(auto)]
 
-ghost use Rattle.std.specs.Prelude.{◌≡◌, ◌<◌, ◌≤◌, length, take, IfOk};
+ghost use Rattle.std.specs.Prelude.{◌≡◌, ◌<◌, ◌≤◌, length, take, IfOk, IfSome};
+ghost use Rattle.std.specs.Str.{IsUtf8};
 ghost use Rattle.std.specs.Io.{ReadsAtMost};
 ghost use Rattle.std.specs.Io.KnownBytes.{Consumes, IsAtEnd};
 
@@ -37,14 +38,16 @@ pub fn argument<E: Env>(env: &E, i: usize, word: &mut [u8]) -> usize
     }
 }
 
-// How many arguments there are, the name of the program among them.
-pub fn argument_count<E: Env>(env: &E) -> usize {
-    for i in 0..usize::MAX {
+// How many arguments there are, the name of the program among them, counted up to a number.
+pub fn argument_count<E: Env>(env: &E, most: usize) -> usize
+    ensures { result ≤ most }
+{
+    for i in 0..most {
         if is_missing(env, i) {
             return i;
         }
     }
-    usize::MAX
+    most
 }
 
 fn is_missing<E: Env>(env: &E, i: usize) -> bool {
@@ -55,8 +58,10 @@ fn is_missing<E: Env>(env: &E, i: usize) -> bool {
     }
 }
 
-// The file of a name, to be read; none where it can't be opened.
-pub fn open<F: Files>(files: &F, name: &[u8]) -> Option<F::File> {
+// The file of a name, to be read; none where it can't be opened, and of a name that is no text.
+pub fn open<F: Files>(files: &F, name: &[u8]) -> Option<F::File>
+    ensures { IfSome result (λ _. IsUtf8 name.now) }
+{
     match str::from_utf8(name) {
         Ok(path) => fs::open(files, path).ok(),
         Err(_) => None,
