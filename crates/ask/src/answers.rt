@@ -1,71 +1,46 @@
 // The answers: the number of each one's form, and what a question's module tells.
 use crate::{forms, lines};
 use forms::{NUMBERS, OWN, Told};
-use kind::Kind;
+use kind::{Fault, Kind, Refusal};
 use lines::{Found, State};
 
 // The lines of the table of forms in `turns`, in its order.
-pub(crate) const ECHO: usize = 0;
-
-pub(crate) const UNKNOWN: usize = 1;
-
-pub(crate) const SPOILED: usize = 2;
-
-pub(crate) const REFUSED: usize = 3;
-
-pub(crate) const REFUSED_AT: usize = 4;
-
-pub(crate) const ROLL: usize = 5;
-
-pub(crate) const SHELL: usize = 6;
-
-pub(crate) const COMPONENT: usize = 7;
-
-pub(crate) const LISTING: usize = 8;
-
-pub(crate) const OPENED: usize = 9;
-
-pub(crate) const TERM: usize = 10;
-
-pub(crate) const END: usize = 11;
-
-pub(crate) const VALUE: usize = 12;
-
-pub(crate) const TABLE: usize = 13;
-
-pub(crate) const MATRICES: usize = 14;
-
-pub(crate) const MEASURED: usize = 15;
-
-pub(crate) const TOTAL: usize = 16;
-
-pub(crate) const NO_TOTAL: usize = 17;
-
-pub(crate) const SCALES: usize = 18;
-
-// The first of three, by what follows: of the same count, then of another.
-pub(crate) const SALVAGED: usize = 19;
-
-pub(crate) const SALVAGED_OTHER: usize = 22;
-
-pub(crate) const COMPARED: usize = 25;
-
-pub(crate) const REFUSED_LEFT: usize = 26;
-
-pub(crate) const REFUSED_RIGHT: usize = 27;
-
-pub(crate) const ROOT: usize = 28;
-
-pub(crate) const CONFIRMED: usize = 29;
-
-pub(crate) const TEXT: usize = 30;
-
-pub(crate) const REFUSED_LINE: usize = 31;
-
-pub(crate) const WAIT: usize = 32;
-
-// The refusal of an output that has no room.
-const NO_ROOM: u64 = 6;
+#[derive(Clone, Copy, PartialEq, Eq)]
+pub(crate) enum Form {
+    Echo,
+    Unknown,
+    Spoiled,
+    Refused,
+    RefusedAt,
+    Roll,
+    Shell,
+    Component,
+    Listing,
+    Opened,
+    Term,
+    End,
+    Value,
+    Table,
+    Matrices,
+    Measured,
+    Total,
+    NoTotal,
+    Scales,
+    SalvagedNone,
+    SalvagedBytes,
+    SalvagedUnknown,
+    OtherNone,
+    OtherBytes,
+    OtherUnknown,
+    Compared,
+    RefusedLeft,
+    RefusedRight,
+    Root,
+    Confirmed,
+    Text,
+    RefusedLine,
+    Wait,
+}
 
 // The answer to what was heard: a line that is too long is no question. Where no line has come, what waits goes out, since
 // nothing says when more will come.
@@ -74,13 +49,12 @@ pub(crate) fn heard(s: State, t: Told) -> Told {
     match found {
         Found::Line => t,
         Found::Lost => unknown(),
-        Found::More => plain(WAIT),
-        Found::End => plain(WAIT),
+        Found::More | Found::End => plain(Form::Wait),
     }
 }
 
 // The words of a form alone.
-pub(crate) fn plain(form: usize) -> Told {
+pub(crate) fn plain(form: Form) -> Told {
     Told {
         form,
         numbers: [0; NUMBERS],
@@ -96,44 +70,55 @@ pub(crate) fn plain(form: usize) -> Told {
 
 // The answer to a line that is no question.
 pub(crate) fn unknown() -> Told {
-    plain(UNKNOWN)
+    plain(Form::Unknown)
 }
 
 // The answer where the library changed a byte that was not its own (D-79).
 pub(crate) fn spoiled() -> Told {
-    plain(SPOILED)
+    plain(Form::Spoiled)
 }
 
 // A refusal, with its place where a roll breaks a rule.
-pub(crate) fn refused(refusal: u8, place: usize) -> Told {
-    let numbers = [refusal as u64, place as u64, 0, 0];
+pub(crate) fn refused(fault: Fault) -> Told {
+    let refusal = fault.refusal;
+    let numbers = [number(refusal), fault.place as u64, 0, 0];
     bytes(form_of(refusal), numbers, 0, 0)
 }
 
+// A refusal that has no place.
+pub(crate) fn refused_by(refusal: Refusal) -> Told {
+    refused(Fault { refusal, place: 0 })
+}
+
 // 7, 14 and 20 tell a place of a roll.
-fn form_of(refusal: u8) -> usize {
+fn form_of(refusal: Refusal) -> Form {
     match refusal {
-        7 | 14 | 20 => REFUSED_AT,
-        _ => REFUSED,
+        Refusal::BadRoll | Refusal::CutRoll | Refusal::NotTheExpansion => Form::RefusedAt,
+        _ => Form::Refused,
     }
 }
 
 // A refusal, with its line where a text breaks a rule.
-pub(crate) fn refused_line(refusal: u8, line: u64) -> Told {
-    let numbers = [refusal as u64, line, 0, 0];
+pub(crate) fn refused_line(refusal: Refusal, line: u64) -> Told {
+    let numbers = [number(refusal), line, 0, 0];
     bytes(line_form_of(refusal), numbers, 0, 0)
 }
 
 // 21 and 22 tell a line of a text.
-fn line_form_of(refusal: u8) -> usize {
+fn line_form_of(refusal: Refusal) -> Form {
     match refusal {
-        21 | 22 => REFUSED_LINE,
-        _ => REFUSED,
+        Refusal::LineShape | Refusal::LineNumbers => Form::RefusedLine,
+        _ => Form::Refused,
     }
 }
 
+// The number that is printed of a refusal.
+pub(crate) fn number(refusal: Refusal) -> u64 {
+    u64::from(u8::from(refusal))
+}
+
 // Numbers, and so many of the bytes that were lent from a place on.
-pub(crate) fn bytes(form: usize, numbers: [u64; NUMBERS], start: usize, long: usize) -> Told {
+pub(crate) fn bytes(form: Form, numbers: [u64; NUMBERS], start: usize, long: usize) -> Told {
     let mut t = plain(form);
     t.numbers = numbers;
     t.start = start;
@@ -143,22 +128,20 @@ pub(crate) fn bytes(form: usize, numbers: [u64; NUMBERS], start: usize, long: us
 
 // A roll of so many bytes and terms, which was written from a place on.
 pub(crate) fn roll(long: usize, terms: u32, start: usize) -> Told {
-    bytes(ROLL, [long as u64, terms as u64, 0, 0], start, long)
+    bytes(Form::Roll, [long as u64, terms as u64, 0, 0], start, long)
 }
 
 // How many bytes an answer asks for: those that its question lends, where it had no room in fewer.
 pub(crate) fn wanted(t: Told, lends: usize) -> usize {
     let numbers = t.numbers;
-    if t.form == REFUSED {
-        if numbers[0] == NO_ROOM {
-            return lends;
-        }
+    if t.form == Form::Refused && numbers[0] == number(Refusal::NoRoom) {
+        return lends;
     }
     0
 }
 
 // Numbers, and the first `count` of the answer's own bytes; no answer has more of them than there are.
-pub(crate) fn own(form: usize, numbers: [u64; NUMBERS], own: [u8; OWN], count: usize) -> Told {
+pub(crate) fn own(form: Form, numbers: [u64; NUMBERS], own: [u8; OWN], count: usize) -> Told {
     if OWN < count {
         return spoiled();
     }
@@ -172,16 +155,12 @@ pub(crate) fn own(form: usize, numbers: [u64; NUMBERS], own: [u8; OWN], count: u
 // Orders as an answer's own bytes.
 pub(crate) fn of_orders(orders: [u8; Kind::ORDERS]) -> [u8; OWN] {
     let mut own = [0; OWN];
-    let mut i = 0;
-    while i < Kind::ORDERS {
-        own[i] = orders[i];
-        i += 1;
-    }
+    own[..Kind::ORDERS].copy_from_slice(&orders);
     own
 }
 
 // The first of the floats, and so many others after them.
-pub(crate) fn floats(form: usize, first: usize, others: usize) -> Told {
+pub(crate) fn floats(form: Form, first: usize, others: usize) -> Told {
     let mut t = plain(form);
     t.first = first;
     t.others = others;
@@ -189,7 +168,7 @@ pub(crate) fn floats(form: usize, first: usize, others: usize) -> Told {
 }
 
 // The entries of a table.
-pub(crate) fn entries(form: usize, entries: [f64; Kind::TABLE]) -> Told {
+pub(crate) fn entries(form: Form, entries: [f64; Kind::TABLE]) -> Told {
     let mut t = plain(form);
     t.entries = entries;
     t

@@ -1,7 +1,8 @@
 // The forms of answers: a table with a line for each. A letter stands for itself; a mark, for what the answer tells.
 ghost use Rattle.std.specs.Prelude.{◌<◌};
 
-use crate::output;
+use crate::{answers, output};
+use answers::Form;
 use kind::Kind;
 use std::io;
 use std::io::Write;
@@ -16,7 +17,7 @@ pub(crate) const OWN: usize = Kind::PREFACTORS;
 // others follow.
 #[derive(Clone, Copy)]
 pub(crate) struct Told {
-    pub(crate) form: usize,
+    pub(crate) form: Form,
     pub(crate) numbers: [u64; NUMBERS],
     pub(crate) own: [u8; OWN],
     pub(crate) count: usize,
@@ -37,7 +38,7 @@ pub(crate) fn print<W: Write>(
     out: &mut W,
 ) -> io::Result<()> {
     let mut k = 0;
-    let mut i = form_start(table, t.form);
+    let mut i = form_start(table, t.form as usize);
     while i < table.len() {
         output::run(table[i], k, t, line, bytes, floats, out)?;
         k = counted(table[i], k);
@@ -63,11 +64,10 @@ fn form_start(table: &[u8], form: usize) -> usize {
 // A form ends in a line feed (D-49).
 fn less(letter: u8, left: usize) -> usize {
     if letter == b'\n' {
-        if 0 < left {
-            return left - 1;
-        }
+        left.saturating_sub(1)
+    } else {
+        left
     }
-    left
 }
 
 // The next letter; the table's end after a line feed.
@@ -87,8 +87,7 @@ fn counted(letter: u8, k: usize) -> usize {
         return k;
     }
     match letter {
-        b'#' => k + 1,
-        b'$' => k + 1,
+        b'#' | b'$' => k + 1,
         _ => k,
     }
 }

@@ -20,20 +20,14 @@ const FILL: u8 = 0xa5;
 const FILL_BITS: u64 = 0xa5a5_a5a5_a5a5_a5a5;
 
 pub(crate) fn fill(space: &mut [u8]) {
-    let mut i = 0;
-    while i < space.len() {
-        space[i] = FILL;
-        i += 1;
-    }
+    space.fill(FILL);
 }
 
 // Whether each byte is as it was filled.
 fn is_kept(space: &[u8]) -> bool {
     let mut changed: u8 = 0;
-    let mut i = 0;
-    while i < space.len() {
-        changed = changed | (space[i] ^ FILL);
-        i += 1;
+    for byte in space {
+        changed = changed | (*byte ^ FILL);
     }
     changed == 0
 }
@@ -42,17 +36,12 @@ fn is_kept(space: &[u8]) -> bool {
 pub(crate) fn looked(lent: &[u8], t: Told) -> Told {
     let start = t.start;
     let long = t.long;
-    if lent.len() < start {
-        return answers::spoiled();
-    }
-    if lent.len() - start < long {
+    if lent.len() < start || lent.len() - start < long {
         return answers::spoiled();
     }
     let end = start + long;
-    if is_kept(&lent[0..start]) {
-        if is_kept(&lent[end..]) {
-            return t;
-        }
+    if is_kept(&lent[0..start]) && is_kept(&lent[end..]) {
+        return t;
     }
     answers::spoiled()
 }
@@ -65,10 +54,8 @@ pub(crate) fn fill_float() -> f64 {
 // Whether each float has the bits that it was filled with.
 pub(crate) fn are_kept(lent: &[f64]) -> bool {
     let mut changed: u64 = 0;
-    let mut i = 0;
-    while i < lent.len() {
-        changed = changed | (floats::bits(lent[i]) ^ FILL_BITS);
-        i += 1;
+    for x in lent {
+        changed = changed | (floats::bits(*x) ^ FILL_BITS);
     }
     changed == 0
 }
@@ -76,9 +63,5 @@ pub(crate) fn are_kept(lent: &[f64]) -> bool {
 // Lays floats down at the front, as many as have room.
 pub(crate) fn lay(room: &mut [f64], floats: &[f64]) {
     let count = least(floats.len(), room.len());
-    let mut i = 0;
-    while i < count {
-        room[i] = floats[i];
-        i += 1;
-    }
+    room[..count].copy_from_slice(&floats[..count]);
 }

@@ -61,10 +61,7 @@ pub(crate) fn next<R: Read>(from: &mut R, input: &mut [u8], s: State) -> State {
 pub(crate) fn line(input: &[u8], s: State) -> &[u8] {
     let start = s.start;
     let stop = s.stop;
-    if stop < start {
-        return &input[0..0];
-    }
-    if input.len() < stop {
+    if stop < start || input.len() < stop {
         return &input[0..0];
     }
     &input[start..stop]
@@ -103,10 +100,8 @@ fn kept(lost: bool, start: usize, stop: usize) -> Found {
     if lost {
         return Found::Lost;
     }
-    if start <= stop {
-        if stop - start <= MOST_LINE {
-            return Found::Line;
-        }
+    if start <= stop && stop - start <= MOST_LINE {
+        return Found::Line;
     }
     Found::Lost
 }
@@ -116,12 +111,10 @@ fn line_end(input: &[u8], from: usize, end: usize) -> usize {
     if input.len() < end {
         return end;
     }
-    let mut i = from;
-    while i < end {
+    for i in from..end {
         if input[i] == b'\n' {
             return i;
         }
-        i += 1;
     }
     end
 }
@@ -164,13 +157,7 @@ fn filled<R: Read>(from: &mut R, rest: &mut [u8]) -> usize
 fn carried(input: &mut [u8], s: State) -> State {
     let start = s.begun;
     let end = s.end;
-    if s.lost {
-        return carry(0, true);
-    }
-    if end < start {
-        return carry(0, true);
-    }
-    if MOST_LINE < end - start {
+    if s.lost || end < start || MOST_LINE < end - start {
         return carry(0, true);
     }
     shift(input, start, end);
@@ -178,19 +165,10 @@ fn carried(input: &mut [u8], s: State) -> State {
 }
 
 fn shift(input: &mut [u8], start: usize, end: usize) {
-    if start == 0 {
+    if start == 0 || input.len() < end || end < start {
         return;
     }
-    if input.len() < end {
-        return;
-    }
-    let mut from = start;
-    let mut i = 0;
-    while from < end {
-        input[i] = input[from];
-        i += 1;
-        from += 1;
-    }
+    input.copy_within(start..end, 0);
 }
 
 // The input has ended: the last line, where no line feed ended it.

@@ -65,9 +65,7 @@ fn left(s: State, turns: u64) -> u64
 {
     let found = s.found;
     match found {
-        Found::Line => turns - 1,
-        Found::Lost => turns - 1,
-        Found::More => turns - 1,
+        Found::Line | Found::Lost | Found::More => turns - 1,
         Found::End => 0,
     }
 }

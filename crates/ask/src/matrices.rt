@@ -3,9 +3,9 @@ ghost use Rattle.std.specs.Prelude.{◌≤◌};
 ghost use Rattle.kind.specs.Limits.{most_size};
 
 use crate::{answers, forms, lent, questions, words};
+use answers::Form;
 use forms::Told;
-use jk::Answer;
-use kind::Kind;
+use kind::{Kind, Refusal};
 use questions::least;
 use words::NUMBERS;
 
@@ -49,10 +49,7 @@ fn of_size(n: usize, size: usize) -> Sizes
 fn in_range(n: usize) -> usize
     ensures { result ≤ most_size }
 {
-    if n <= Kind::MOST_SIZE {
-        return n;
-    }
-    0
+    if n <= Kind::MOST_SIZE { n } else { 0 }
 }
 
 // The lengths are said, right or wrong.
@@ -68,21 +65,8 @@ pub(crate) fn sized(n: [u64; NUMBERS]) -> Sizes {
 
 // Whether the lengths are no more than can be lent, and there are floats for I and D, and no more.
 fn fits(s: Sizes, floats: usize) -> bool {
-    if s.i <= MOST_TENSOR {
-        if s.d <= MOST_MATRIX {
-            if s.i + s.d == floats {
-                return are_lent(s.j, s.k);
-            }
-        }
-    }
-    false
-}
-
-fn are_lent(j: usize, k: usize) -> bool {
-    if j <= MOST_MATRIX {
-        return k <= MOST_MATRIX;
-    }
-    false
+    let is_given = s.i <= MOST_TENSOR && s.d <= MOST_MATRIX && s.i + s.d == floats;
+    is_given && s.j <= MOST_MATRIX && s.k <= MOST_MATRIX
 }
 
 pub(crate) fn asked(s: Sizes, floats: &mut [f64]) -> Told {
@@ -117,21 +101,17 @@ fn lay(floats: &mut [f64], j: &[f64], k: &[f64]) {
 }
 
 // J and K, which are finite where they come back; a refusal changes no float.
-fn told(answer: Answer, j: &[f64], k: &[f64]) -> Told {
+fn told(answer: Result<(), Refusal>, j: &[f64], k: &[f64]) -> Told {
     match answer {
-        Answer::Done => {
-            if geometry::all_finite(j) {
-                if geometry::all_finite(k) {
-                    return answers::floats(answers::MATRICES, j.len(), k.len());
-                }
+        Ok(()) => {
+            if geometry::all_finite(j) && geometry::all_finite(k) {
+                return answers::floats(Form::Matrices, j.len(), k.len());
             }
             answers::spoiled()
         }
-        Answer::Refused(refusal) => {
-            if lent::are_kept(j) {
-                if lent::are_kept(k) {
-                    return answers::refused(refusal, 0);
-                }
+        Err(refusal) => {
+            if lent::are_kept(j) && lent::are_kept(k) {
+                return answers::refused_by(refusal);
             }
             answers::spoiled()
         }

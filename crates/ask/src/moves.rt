@@ -2,11 +2,12 @@
 use crate::{answers, forms};
 use form2::Moved;
 use forms::Told;
+use kind::Fault;
 
 // The roll that was written from a place on.
-pub(crate) fn told(answer: Moved, start: usize) -> Told {
+pub(crate) fn told(answer: Result<Moved, Fault>, start: usize) -> Told {
     match answer {
-        Moved::Roll(long, terms) => answers::roll(long, terms, start),
-        Moved::Refused(refusal, place) => answers::refused(refusal, place),
+        Ok(roll) => answers::roll(roll.length, roll.terms, start),
+        Err(fault) => answers::refused(fault),
     }
 }

@@ -7,19 +7,15 @@ use kind::Kind;
 use questions::{least, sum};
 use std::io;
 use std::io::Write;
-use text::Written;
 
 // More bytes than one number or letter takes.
 const PIECE: usize = 32;
 
 // How many bytes of a piece are written: none where it had no room.
-fn end(piece: &[u8], w: Written) -> usize
+fn end(piece: &[u8], written: Option<usize>) -> usize
     ensures { result ≤ length piece.now }
 {
-    match w {
-        Written::To(next) => least(next, piece.len()),
-        Written::NoRoom => 0,
-    }
+    least(written.unwrap_or(0), piece.len())
 }
 
 // What stands for a letter of a form, where `k` numbers are told. # is a number, $ one in sixteen
@@ -83,31 +79,23 @@ fn value(
 }
 
 fn number_at(numbers: [u64; NUMBERS], k: usize) -> u64 {
-    if k < NUMBERS {
-        return numbers[k];
-    }
-    0
+    if k < NUMBERS { numbers[k] } else { 0 }
 }
 
 fn byte_at(bytes: &[u8], i: usize) -> u8 {
-    if i < bytes.len() {
-        return bytes[i];
-    }
-    0
+    bytes.get(i).copied().unwrap_or(0)
 }
 
 fn bits_at(floats: &[f64], i: usize) -> u64 {
     if i < floats.len() {
-        return floats::bits(floats[i]);
+        floats::bits(floats[i])
+    } else {
+        0
     }
-    0
 }
 
 fn bar(byte: u8) -> u8 {
-    if byte == b'\n' {
-        return b'|';
-    }
-    byte
+    if byte == b'\n' { b'|' } else { byte }
 }
 
 // The blank that some letters ask for before a value.
@@ -130,7 +118,7 @@ fn unit<W: Write>(letter: u8, v: u64, out: &mut W) -> io::Result<()> {
 }
 
 // One value of a letter as text, at the front of a piece.
-fn spelled(letter: u8, v: u64, piece: &mut [u8]) -> Written {
+fn spelled(letter: u8, v: u64, piece: &mut [u8]) -> Option<usize> {
     match letter {
         b'#' | b'~' => text::decimal(piece, 0, v),
         b'$' | b'*' | b'<' | b'>' => text::hex_word(piece, 0, v),

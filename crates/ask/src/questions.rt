@@ -5,6 +5,7 @@ use crate::{
     answers, compares, expands, forms, lent, lists, matrices, moves, rolls, salvages, shells, sums,
     values, words,
 };
+use answers::Form;
 use forms::Told;
 use kind::Kind;
 use words::{Asked, NUMBERS};
@@ -202,7 +203,7 @@ pub(crate) fn least(a: usize, b: usize) -> usize
 // The questions that have nothing lent; `count` numbers are said.
 fn in_numbers(q: Question, n: [u64; NUMBERS], count: usize, roll: &[u8], floats: &[f64]) -> Told {
     match q {
-        Question::Echo => answers::plain(answers::ECHO),
+        Question::Echo => answers::plain(Form::Echo),
         Question::Pair => shells::pair(n),
         Question::Four => shells::four(n),
         Question::Open => rolls::opened(roll::open(roll)),
@@ -330,10 +331,7 @@ fn in_floats(q: Question, n: [u64; NUMBERS], floats: &mut [f64], told: Told) -> 
 
 // The sum, or the most that there is.
 pub(crate) fn sum(a: usize, b: usize) -> usize {
-    if b <= usize::MAX - a {
-        return a + b;
-    }
-    usize::MAX
+    a.saturating_add(b)
 }
 
 pub(crate) fn byte(n: u64) -> u8 {

@@ -1,54 +1,54 @@
 // `open ROLL`, `check ROLL` and `next KIND L LEFT PLACE ROLL`: a roll's header, the whole roll judged, a cursor's step.
 // `open2`, `check2` and `next2` ask the same of form 2, `small ROLL` the small profile's reader, and `confirm ROLL` whether a roll is the expansion.
 use crate::{answers, forms, questions, words};
+use answers::Form;
 use form2::{Cursor2, Opened2};
 use forms::{OWN, Told};
-use kind::{Kind, Named};
+use kind::{Fault, Kind};
 use questions::{byte, word};
-use roll::{Cursor, Found, Opened, Opening};
+use roll::{Cursor, Opened};
 use term::Term;
 use words::{CURSOR, NUMBERS};
 
-pub(crate) fn opened(o: Opened) -> Told {
-    header_as(answers::OPENED, o)
+pub(crate) fn opened(answer: Result<Opened, Fault>) -> Told {
+    header_as(Form::Opened, answer)
 }
 
-pub(crate) fn confirmed(o: Opened) -> Told {
-    header_as(answers::CONFIRMED, o)
+pub(crate) fn confirmed(answer: Result<Opened, Fault>) -> Told {
+    header_as(Form::Confirmed, answer)
 }
 
 // A header in a form, or its refusal.
-fn header_as(form: usize, o: Opened) -> Told {
-    let found = o.found;
-    let orders = o.orders;
-    match found {
-        Opening::Roll => header(form, o.cursor, answers::of_orders(orders)),
-        Opening::Refused(refusal, place) => answers::refused(refusal, place),
+fn header_as(form: Form, answer: Result<Opened, Fault>) -> Told {
+    match answer {
+        Ok(o) => {
+            let orders = o.orders;
+            header(form, o.cursor, answers::of_orders(orders))
+        }
+        Err(fault) => answers::refused(fault),
     }
 }
 
 // No term stands before the first, so form 2 tells what form 1 does.
-pub(crate) fn opened2(o: Opened2) -> Told {
-    let found = o.found;
-    let held = o.cursor;
-    let cursor = held.cursor;
-    let orders = o.orders;
-    opened(Opened {
-        found,
-        cursor,
-        orders,
-    })
+pub(crate) fn opened2(answer: Result<Opened2, Fault>) -> Told {
+    match answer {
+        Ok(o) => {
+            let orders = o.orders;
+            header(Form::Opened, o.cursor.cursor, answers::of_orders(orders))
+        }
+        Err(fault) => answers::refused(fault),
+    }
 }
 
 // How many orders a kind uses. More than there are where there is no such kind, so that the answer is spoiled.
 fn used_orders(kind: u8) -> usize {
     match Kind::of(kind) {
-        Named::Is(known) => known.orders(),
-        Named::Unknown => usize::MAX,
+        Some(known) => known.orders(),
+        None => usize::MAX,
     }
 }
 
-fn header(form: usize, c: Cursor, orders: [u8; OWN]) -> Told {
+fn header(form: Form, c: Cursor, orders: [u8; OWN]) -> Told {
     let numbers = [c.kind as u64, c.l as u64, c.left as u64, c.place as u64];
     answers::own(form, numbers, orders, used_orders(c.kind))
 }
@@ -66,10 +66,8 @@ fn cursor(n: [u64; NUMBERS]) -> Cursor {
 // The prefactors of the term before, which are said after the cursor.
 fn earlier(n: [u64; NUMBERS]) -> [u8; Kind::PREFACTORS] {
     let mut earlier = [0; Kind::PREFACTORS];
-    let mut i = 0;
-    while i < Kind::PREFACTORS {
+    for i in 0..Kind::PREFACTORS {
         earlier[i] = byte(n[CURSOR + i]);
-        i += 1;
     }
     earlier
 }
@@ -83,11 +81,11 @@ fn earlier_count(numbers: usize) -> u8 {
 }
 
 pub(crate) fn next(n: [u64; NUMBERS], roll: &[u8]) -> Told {
-    let step = cursor(n).next(roll);
-    let found = step.found;
-    let term = step.term;
-    let next = step.next;
-    stepped(found, term, next)
+    match cursor(n).next(roll) {
+        Ok(Some(step)) => term_told(step.term, step.next),
+        Ok(None) => answers::plain(Form::End),
+        Err(fault) => answers::refused(fault),
+    }
 }
 
 pub(crate) fn next2(n: [u64; NUMBERS], numbers: usize, roll: &[u8]) -> Told {
@@ -99,19 +97,10 @@ pub(crate) fn next2(n: [u64; NUMBERS], numbers: usize, roll: &[u8]) -> Told {
         count,
         earlier,
     };
-    let step = from.next(roll);
-    let found = step.found;
-    let term = step.term;
-    let held = step.next;
-    let next = held.cursor;
-    stepped(found, term, next)
-}
-
-fn stepped(found: Found, t: Term, next: Cursor) -> Told {
-    match found {
-        Found::Term => term_told(t, next),
-        Found::End => answers::plain(answers::END),
-        Found::Refused(refusal, place) => answers::refused(refusal, place),
+    match from.next(roll) {
+        Ok(Some(step)) => term_told(step.term, step.next.cursor),
+        Ok(None) => answers::plain(Form::End),
+        Err(fault) => answers::refused(fault),
     }
 }
 
@@ -123,5 +112,5 @@ fn term_told(t: Term, next: Cursor) -> Told {
         next.place as u64,
         next.left as u64,
     ];
-    answers::own(answers::TERM, numbers, prefactors, t.count as usize)
+    answers::own(Form::Term, numbers, prefactors, t.count as usize)
 }

@@ -1,12 +1,14 @@
 // `salvage ROLL ..`: a damaged roll worked out afresh.
 use crate::{answers, forms};
+use answers::Form;
 use forms::Told;
-use salvaging::{After, Salvaged};
+use kind::Fault;
+use salvaging::{After, Told as Salvaged};
 
 // The fresh roll that was written from a place on, and what was kept of the damaged one.
-pub(crate) fn told(answer: Salvaged, start: usize) -> Told {
+pub(crate) fn told(answer: Result<Salvaged, Fault>, start: usize) -> Told {
     match answer {
-        Salvaged::Roll(t) => answers::bytes(
+        Ok(t) => answers::bytes(
             form_of(t),
             [
                 t.length as u64,
@@ -17,31 +19,32 @@ pub(crate) fn told(answer: Salvaged, start: usize) -> Told {
             start,
             t.length,
         ),
-        Salvaged::Refused(refusal, place) => answers::refused(refusal, place),
+        Err(fault) => answers::refused(fault),
     }
 }
 
 // The line of the table of forms.
-fn form_of(t: salvaging::Told) -> usize {
+fn form_of(t: Salvaged) -> Form {
     let after = t.after;
     if t.miscounted {
-        return other(after);
-    }
-    same(after)
-}
-
-fn same(after: After) -> usize {
-    match after {
-        After::None => answers::SALVAGED,
-        After::Bytes => answers::SALVAGED + 1,
-        After::Unknown => answers::SALVAGED + 2,
+        other(after)
+    } else {
+        same(after)
     }
 }
 
-fn other(after: After) -> usize {
+fn same(after: After) -> Form {
     match after {
-        After::None => answers::SALVAGED_OTHER,
-        After::Bytes => answers::SALVAGED_OTHER + 1,
-        After::Unknown => answers::SALVAGED_OTHER + 2,
+        After::None => Form::SalvagedNone,
+        After::Bytes => Form::SalvagedBytes,
+        After::Unknown => Form::SalvagedUnknown,
+    }
+}
+
+fn other(after: After) -> Form {
+    match after {
+        After::None => Form::OtherNone,
+        After::Bytes => Form::OtherBytes,
+        After::Unknown => Form::OtherUnknown,
     }
 }

@@ -43,10 +43,7 @@ fn on(found: bool, i: usize, all: usize) -> usize
 
 // The end of a shape: it is found where the line fits and nothing follows; else the next one begins.
 fn ended(a: Asked, end: usize) -> Asked {
-    if a.misfit {
-        return begun(words::after(a.question));
-    }
-    if a.at != end {
+    if a.misfit || a.at != end {
         return begun(words::after(a.question));
     }
     let mut b = a;

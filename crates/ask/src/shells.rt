@@ -1,24 +1,25 @@
 // `shell M ..` and `component M1 M2 ..`: a shell's list, and one component of a pair or of four shells.
 use crate::{answers, forms, questions, words};
+use answers::Form;
 use forms::Told;
-use kind::Kind;
+use kind::{Kind, Refusal};
 use questions::{byte, word};
-use shell::{Component, Listed, Sought};
+use shell::Listed;
 use words::NUMBERS;
 
 // The orders of a pair of shells.
 const PAIR: usize = 6;
 
 // The list that was written from a place on.
-pub(crate) fn listed(answer: Listed, start: usize) -> Told {
+pub(crate) fn listed(answer: Result<Listed, Refusal>, start: usize) -> Told {
     match answer {
-        Listed::Bytes(long, _) => answers::bytes(
-            answers::SHELL,
-            [long as u64, 0, 0, 0],
+        Ok(list) => answers::bytes(
+            Form::Shell,
+            [list.length as u64, 0, 0, 0],
             start,
-            long,
+            list.length,
         ),
-        Listed::Refused(refusal) => answers::refused(refusal, 0),
+        Err(refusal) => answers::refused_by(refusal),
     }
 }
 
@@ -34,18 +35,16 @@ pub(crate) fn four(n: [u64; NUMBERS]) -> Told {
 }
 
 // The component's first `n` orders, or the refusal.
-fn component(c: Component, n: usize) -> Told {
-    let found = c.found;
-    let orders = c.orders;
-    match found {
-        Sought::Component => {
+fn component(answer: Result<[u8; Kind::ORDERS], Refusal>, n: usize) -> Told {
+    match answer {
+        Ok(orders) => {
             answers::own(
-                answers::COMPONENT,
+                Form::Component,
                 [0; forms::NUMBERS],
                 answers::of_orders(orders),
                 n,
             )
         }
-        Sought::Refused(refusal) => answers::refused(refusal, 0),
+        Err(refusal) => answers::refused_by(refusal),
     }
 }

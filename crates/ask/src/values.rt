@@ -4,15 +4,14 @@
 ghost use Rattle.std.specs.Prelude.{◌≤◌};
 
 use crate::{answers, floats, forms, questions, words};
+use answers::Form;
 use contracting::{Contracted, MOST_PRIMITIVES, Primitive};
 use forms::Told;
-use geometry::{Centre, Table, Tabled};
-use integrals::Value;
-use kind::Kind;
+use geometry::Centre;
+use kind::{Fault, Kind, Refusal};
 use nuclei::{MOST_NUCLEI, Nuclei};
 use questions::{byte, word};
 use roll::{Cursor, Opened};
-use root::Rooted;
 use words::{Listed, NUMBERS, follow};
 
 // The floats of a centre: its charge stands among them by its bits.
@@ -36,10 +35,7 @@ struct Four {
 
 // The float at a place; a question's shape sees to it that there is one.
 fn at(floats: &[f64], i: usize) -> f64 {
-    if i < floats.len() {
-        return floats[i];
-    }
-    0.0
+    floats.get(i).copied().unwrap_or(0.0)
 }
 
 // The centre that stands from a place on.
@@ -78,10 +74,8 @@ fn function_at(floats: &[f64], from: usize, count: u64) -> Contracted
 {
     let first = primitive_at(floats, from);
     let mut primitives = [first; MOST_PRIMITIVES];
-    let mut i = 0;
-    while i < MOST_PRIMITIVES {
+    for i in 0..MOST_PRIMITIVES {
         primitives[i] = primitive_at(floats, from + PRIMITIVE * i);
-        i += 1;
     }
     Contracted {
         primitives,
@@ -113,10 +107,8 @@ fn four_of(floats: &[f64]) -> Four {
 fn nuclei_of(floats: &[f64], count: u64) -> Nuclei {
     let first = centre(floats, 0);
     let mut centres = [first; MOST_NUCLEI];
-    let mut i = 0;
-    while i < MOST_NUCLEI {
+    for i in 0..MOST_NUCLEI {
         centres[i] = centre(floats, i + 2);
-        i += 1;
     }
     Nuclei {
         centres,
@@ -174,13 +166,13 @@ pub(crate) fn grouped(roll: &[u8], floats: &[f64], lent: &mut [u8]) -> Told {
 }
 
 // How many bytes the grouping may take: none where the roll is not read or has no room, and for kinds that are not grouped.
-fn owned(value: Value, opened: Opened) -> usize {
-    let cursor = opened.cursor;
+fn owned(value: Result<f64, Fault>, opened: Result<Opened, Fault>) -> usize {
+    let Ok(o) = opened else { return 0 };
     match value {
-        Value::Is(_) => grouping_of(cursor),
-        Value::Refused(refusal, _) => match refusal {
-            6 | 7 | 14 => 0,
-            _ => grouping_of(cursor),
+        Ok(_) => grouping_of(o.cursor),
+        Err(fault) => match fault.refusal {
+            Refusal::NoRoom | Refusal::BadRoll | Refusal::CutRoll => 0,
+            _ => grouping_of(o.cursor),
         },
     }
 }
@@ -193,28 +185,25 @@ fn grouping_of(cursor: Cursor) -> usize {
 }
 
 // A value is finite where it comes back.
-fn value_told(value: Value) -> Told {
+fn value_told(value: Result<f64, Fault>) -> Told {
     match value {
-        Value::Is(x) => {
-            if geometry::finite(x) {
-                return answers::bytes(answers::VALUE, [floats::bits(x), 0, 0, 0], 0, 0);
-            }
-            answers::spoiled()
-        }
-        Value::Refused(refusal, place) => answers::refused(refusal, place),
+        Ok(x) => float_told(Form::Value, x),
+        Err(fault) => answers::refused(fault),
     }
+}
+
+fn float_told(form: Form, x: f64) -> Told {
+    if geometry::finite(x) {
+        return answers::bytes(form, [floats::bits(x), 0, 0, 0], 0, 0);
+    }
+    answers::spoiled()
 }
 
 // A root is finite where it comes back.
 pub(crate) fn root(floats: &[f64]) -> Told {
     match root::root(at(floats, 0)) {
-        Rooted::Is(x) => {
-            if geometry::finite(x) {
-                return answers::bytes(answers::ROOT, [floats::bits(x), 0, 0, 0], 0, 0);
-            }
-            answers::spoiled()
-        }
-        Rooted::Refused(refusal) => answers::refused(refusal, 0),
+        Ok(x) => float_told(Form::Root, x),
+        Err(refusal) => answers::refused_by(refusal),
     }
 }
 
@@ -224,16 +213,14 @@ pub(crate) fn table(n: [u64; NUMBERS], floats: &[f64]) -> Told {
 }
 
 // The entries are finite where they come back.
-fn table_told(table: Table) -> Told {
-    let found = table.found;
-    let entries = table.entries;
-    match found {
-        Tabled::Given => {
+fn table_told(table: Result<[f64; Kind::TABLE], Refusal>) -> Told {
+    match table {
+        Ok(entries) => {
             if geometry::all_finite(&entries) {
-                return answers::entries(answers::TABLE, entries);
+                return answers::entries(Form::Table, entries);
             }
             answers::spoiled()
         }
-        Tabled::Refused(refusal) => answers::refused(refusal, 0),
+        Err(refusal) => answers::refused_by(refusal),
     }
 }

@@ -4,7 +4,6 @@ ghost use Rattle.std.specs.Prelude.{◌≤◌};
 use crate::{floats, questions};
 use kind::Kind;
 use questions::sum;
-use text::Parsed;
 
 // The numbers of a cursor.
 pub(crate) const CURSOR: usize = 4;
@@ -27,18 +26,6 @@ pub(crate) struct Asked {
     pub(crate) bytes: usize,
     pub(crate) floats: usize,
     pub(crate) at: usize,
-}
-
-#[derive(Clone, Copy)]
-enum Byte {
-    Is(u8, usize),
-    Not,
-}
-
-#[derive(Clone, Copy)]
-enum Float {
-    Is(f64, usize),
-    Not,
 }
 
 // How many were read, and the place after them.
@@ -76,19 +63,13 @@ fn put(numbers: [u64; NUMBERS], i: usize, n: u64) -> [u64; NUMBERS] {
 }
 
 pub(crate) fn after(n: usize) -> usize {
-    if n < usize::MAX {
-        return n + 1;
-    }
-    n
+    n.saturating_add(1)
 }
 
 // The letter itself.
 pub(crate) fn letter(line: &[u8], a: Asked, letter: u8) -> Asked {
     let at = a.at;
-    if line.len() <= at {
-        return misfit(a);
-    }
-    if line[at] != letter {
+    if line.get(at) != Some(&letter) {
         return misfit(a);
     }
     let mut b = a;
@@ -106,13 +87,8 @@ pub(crate) fn rest(line: &[u8], a: Asked) -> Asked {
 // A whole number up to `most`.
 pub(crate) fn number(line: &[u8], a: Asked, most: u64) -> Asked {
     match text::read_decimal(line, a.at) {
-        Parsed::Is(n, end) => {
-            if most < n {
-                return misfit(a);
-            }
-            with(a, n, end)
-        }
-        Parsed::Not => misfit(a),
+        Some((n, end)) if n <= most => with(a, n, end),
+        _ => misfit(a),
     }
 }
 
@@ -125,32 +101,26 @@ pub(crate) fn perhaps(line: &[u8], a: Asked, most: u64) -> Asked {
     b
 }
 
-// A float by its bits in hexadecimal, after a blank (D-46).
-fn read_float(line: &[u8], at: usize) -> Float {
-    if line.len() <= at {
-        return Float::Not;
+// A float by its bits in hexadecimal, after a blank, and the place after it (D-46).
+fn read_float(line: &[u8], at: usize) -> Option<(f64, usize)> {
+    if line.get(at) != Some(&b' ') {
+        return None;
     }
-    if line[at] != b' ' {
-        return Float::Not;
-    }
-    match text::read_hex(line, at + 1) {
-        Parsed::Is(bits, end) => Float::Is(floats::of_bits(bits), end),
-        Parsed::Not => Float::Not,
-    }
+    let (bits, end) = text::read_hex(line, at + 1)?;
+    Some((floats::of_bits(bits), end))
 }
 
 // As many floats as stand there and have room.
 fn read_floats(line: &[u8], at: usize, room: &mut [f64]) -> Run {
     let mut end = at;
-    let mut count = 0;
-    while count < room.len() {
-        let Float::Is(x, next) = read_float(line, end) else {
+    for count in 0..room.len() {
+        let Some((x, next)) = read_float(line, end) else {
             return Run { count, end };
         };
         room[count] = x;
         end = next;
-        count += 1;
     }
+    let count = room.len();
     Run { count, end }
 }
 
@@ -183,8 +153,8 @@ fn added(a: Asked, x: f64, end: usize, room: &mut [f64]) -> Asked {
 // A float after a blank.
 pub(crate) fn one_float(line: &[u8], a: Asked, room: &mut [f64]) -> Asked {
     match read_float(line, a.at) {
-        Float::Is(x, end) => added(a, x, end, room),
-        Float::Not => misfit(a),
+        Some((x, end)) => added(a, x, end, room),
+        None => misfit(a),
     }
 }
 
@@ -192,13 +162,8 @@ pub(crate) fn one_float(line: &[u8], a: Asked, room: &mut [f64]) -> Asked {
 fn charge(line: &[u8], a: Asked, room: &mut [f64]) -> Asked {
     let b = letter(line, a, b' ');
     match text::read_decimal(line, b.at) {
-        Parsed::Is(n, end) => {
-            if MOST_WORD < n {
-                return misfit(b);
-            }
-            added(b, floats::of_bits(n), end, room)
-        }
-        Parsed::Not => misfit(b),
+        Some((n, end)) if n <= MOST_WORD => added(b, floats::of_bits(n), end, room),
+        _ => misfit(b),
     }
 }
 
@@ -241,8 +206,7 @@ pub(crate) fn most_listed(sort: Listed) -> u64
 // A count up to 255; of host numbers up to 128.
 fn most_counted(sort: Listed) -> u64 {
     match sort {
-        Listed::Nuclei => 255,
-        Listed::Primitives => 255,
+        Listed::Nuclei | Listed::Primitives => 255,
         Listed::Floats => MOST_HOST,
     }
 }
@@ -252,10 +216,7 @@ pub(crate) fn follow(count: u64, sort: Listed) -> usize
     ensures { result ≤ 128 }
 {
     let most = most_listed(sort);
-    if most < count {
-        return 0;
-    }
-    count as usize
+    if most < count { 0 } else { count as usize }
 }
 
 fn one_of(sort: Listed, line: &[u8], a: Asked, room: &mut [f64]) -> Asked {
@@ -270,10 +231,8 @@ fn one_of(sort: Listed, line: &[u8], a: Asked, room: &mut [f64]) -> Asked {
 fn last(a: Asked) -> u64 {
     let n = a.numbers;
     let count = a.count;
-    if 0 < count {
-        if count <= NUMBERS {
-            return n[count - 1];
-        }
+    if 0 < count && count <= NUMBERS {
+        return n[count - 1];
     }
     0
 }
@@ -281,51 +240,33 @@ fn last(a: Asked) -> u64 {
 // A count after a blank, which is a number of the question, and what follows it.
 pub(crate) fn several(sort: Listed, line: &[u8], a: Asked, room: &mut [f64]) -> Asked {
     let mut b = number(line, letter(line, a, b' '), most_counted(sort));
-    let mut left = follow(last(b), sort);
-    while 0 < left {
+    for _ in 0..follow(last(b), sort) {
         b = one_of(sort, line, b, room);
-        left -= 1;
     }
     b
 }
 
-// A byte in two hexadecimal digits.
-fn read_pair(line: &[u8], at: usize) -> Byte {
-    if line.len() < 2 {
-        return Byte::Not;
+// A byte in two hexadecimal digits, and the place after it.
+fn read_pair(line: &[u8], at: usize) -> Option<(u8, usize)> {
+    let end = at.checked_add(2)?;
+    let (n, length) = text::read_hex(line.get(at..end)?, 0)?;
+    if length != 2 || 255 < n {
+        return None;
     }
-    if line.len() - 2 < at {
-        return Byte::Not;
-    }
-    let end = at + 2;
-    match text::read_hex(&line[at..end], 0) {
-        Parsed::Is(n, length) => pair(n, length, end),
-        Parsed::Not => Byte::Not,
-    }
-}
-
-fn pair(n: u64, length: usize, end: usize) -> Byte {
-    if length != 2 {
-        return Byte::Not;
-    }
-    if 255 < n {
-        return Byte::Not;
-    }
-    Byte::Is(n as u8, end)
+    Some((n as u8, end))
 }
 
 // As many bytes as stand there and have room.
 fn read_pairs(line: &[u8], at: usize, room: &mut [u8]) -> Run {
     let mut end = at;
-    let mut count = 0;
-    while count < room.len() {
-        let Byte::Is(byte, next) = read_pair(line, end) else {
+    for count in 0..room.len() {
+        let Some((byte, next)) = read_pair(line, end) else {
             return Run { count, end };
         };
         room[count] = byte;
         end = next;
-        count += 1;
     }
+    let count = room.len();
     Run { count, end }
 }
 

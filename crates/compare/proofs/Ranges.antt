@@ -13,15 +13,14 @@ use Rattle.term.specs.contracts.Term as term
 use Rattle.comparing.specs.declared.pair.Line.{Line}
 use Rattle.comparing.specs.declared.pair.Line.TheVariants as line
 use Rattle.comparing.specs.declared.pair.Met.{Met}
-use Rattle.comparing.specs.declared.differ.Outcome.{Outcome}
-use Rattle.comparing.specs.declared.differ.Outcome.TheVariants as outcome
+use Rattle.comparing.specs.declared.sides.Sided.{Sided}
 use Rattle.comparing.specs.declared.differ.Compared.{Compared}
 use Rattle.comparing.specs.contracts.pair.Line as line-type
 use Rattle.comparing.specs.contracts.pair.Met as met-type
-use Rattle.comparing.specs.contracts.differ.Outcome as outcome-type
+use Rattle.comparing.specs.contracts.sides.Sided as sided-type
 use Rattle.comparing.specs.contracts.differ.Compared as compared-type
-use Rattle.comparing.specs.Answers.{piece_room, compared_text, met_text}
-use Rattle.comparing.proofs.Room.{Small, SmallLine, SmallHead, SmallOutcome, line-short, head-short}
+use Rattle.comparing.specs.Answers.{piece_room, head_of, met_text, sided_text}
+use Rattle.comparing.proofs.Room.{Small, SmallLine, SmallHead, line-short, head-short, refusal-short}
 
 small-term : (t : Held) (vs : List Val) → Is (row term.the_type) t vs → Small t
 small-term t vs p =
@@ -35,28 +34,20 @@ small-term t vs p =
     }
 
 small_line : (f : Line) (vs : List Val) → Is (variants line-type.the_type) f vs → SmallLine f
-small_line line.Both vs p = tt
-small_line line.Left vs p = tt
-small_line line.Right vs p = tt
-small_line line.End vs p = tt
-small_line (line.RefusedLeft n place) vs p = let f = p.1.1.1.1 in (f.0.1, f.1.0.1)
-small_line (line.RefusedRight n place) vs p = let f = p.1.1.1.1 in (f.0.1, f.1.0.1)
-
-small-outcome : (f : Outcome) (vs : List Val) → Is (variants outcome-type.the_type) f vs → SmallOutcome f
-small-outcome outcome.Rolls vs p = tt
-small-outcome (outcome.RefusedLeft n place) vs p = let f = p.1.1.1.1 in (f.0.1, f.1.0.1)
-small-outcome (outcome.RefusedRight n place) vs p = let f = p.1.1.1.1 in (f.0.1, f.1.0.1)
+small_line (line.Both l r) vs p = let f = p.1.1.1.1 in (small-term l _ f.0, small-term r _ f.1.0)
+small_line (line.Left l) vs p = small-term l _ p.1.1.1.1.0
+small_line (line.Right r) vs p = small-term r _ p.1.1.1.1.0
 
 small-head : (c : Compared) (vs : List Val) → Is (row compared-type.the_type) c vs → SmallHead c
 small-head c vs p =
     let f = p.1.1 in
-    let left = f.1.1.1.1.1.0 in
-    let right = f.1.1.1.1.1.1.0 in
-    let pair = f.1.1.1.1.1.1.1.0.1.1 in
+    let left = f.1.1.1.1.0 in
+    let right = f.1.1.1.1.1.0 in
+    let pair = f.1.1.1.1.1.1.0.1.1 in
     let ours = pair.0.1.1.0.1.1 in
     let theirs = pair.1.0.1.1.0.1.1 in
     record {
-      differ = f.1.0.1;
+      differ = f.0.1;
       left-kind = ours.1.1.0.1;
       right-kind = theirs.1.1.0.1;
       left-terms = ours.1.0.1;
@@ -68,7 +59,10 @@ small-head c vs p =
     }
 
 pub met-room : (m : Met) (vs : List Val) → Is (row met-type.the_type) m vs → length (met_text m) ≤ piece_room
-met-room m vs p = let f = p.1.1 in line-short m (small_line m.found _ f.0) f.1.0.1 (small-term m.left _ f.1.1.0) (small-term m.right _ f.1.1.1.0)
+met-room m vs p = let f = p.1.1 in line-short m f.0.1 (small_line m.line _ f.1.0)
 
-pub head-room : (c : Compared) (vs : List Val) → Is (row compared-type.the_type) c vs → length (compared_text c) ≤ piece_room
-head-room c vs p = head-short c (small-outcome c.found _ p.1.1.0) (small-head c vs p)
+pub head-room : (c : Compared) (vs : List Val) → Is (row compared-type.the_type) c vs → length (head_of c) ≤ piece_room
+head-room c vs p = head-short c (small-head c vs p)
+
+pub refusal-room : (e : Sided) (vs : List Val) → Is (row sided-type.the_type) e vs → length (sided_text e) ≤ piece_room
+refusal-room e vs p = let fault = p.1.1.1.0.1.1 in refusal-short e fault.1.0.1

@@ -3,13 +3,12 @@
 // What there is to tell goes to standard output, one piece after the other; a file that can't be opened is told on standard error (D-105).
 #![tactic(auto)]
 
-ghost use Rattle.std.specs.Prelude.{◌≤◌, length, OnOk};
+ghost use Rattle.std.specs.Prelude.{◌≤◌, length, IfOk, IfSome, OnOk};
 ghost use Rattle.std.specs.Io.KnownBytes.{Appends};
-ghost use Rattle.comparing.specs.Answers.{piece_room, compared_text, met_text};
+ghost use Rattle.comparing.specs.Answers.{piece_room, head_of, met_text, sided_text};
 ghost use Rattle.compare.specs.inner.Room.{Holds};
 
-use comparing::{Compared, Met, Pair, is_line};
-use listing::Listed;
+use comparing::{Compared, Met, Pair, Sided};
 use std::env::Env;
 use std::fs::Files;
 use std::io;
@@ -27,23 +26,19 @@ const ROOM: usize = 1048576;
 // The bytes of the larger ones: more than any roll of either form has.
 const LARGE: usize = 33554432;
 
-// A file that was read whole, or one that fills the buffer and may have more: how many bytes were read; or none that can be opened.
+// How many bytes of a file were read, and whether these are all; a file that fills the buffer may have more.
 #[derive(Clone, Copy)]
-enum File {
-    Whole(usize),
-    Long(usize),
-    Missing,
+struct File {
+    length: usize,
+    whole: bool,
 }
 
 // How many bytes of text say what a comparison answers.
 fn told_head(compared: Compared, text: &mut [u8]) -> usize
     requires { piece_room ≤ length text.old }
-    ensures { Holds text.new result (compared_text compared) }
+    ensures { Holds text.new result (head_of compared) }
 {
-    match comparing::head(compared, text, 0) {
-        Listed::Text(n) => n,
-        Listed::Refused(_, _) => 0,
-    }
+    comparing::head(compared, text, 0).unwrap_or(0)
 }
 
 // How many bytes of text say what a step has met.
@@ -51,15 +46,20 @@ fn told_line(met: Met, text: &mut [u8]) -> usize
     requires { piece_room ≤ length text.old }
     ensures { Holds text.new result (met_text met) }
 {
-    match comparing::line(met, text, 0) {
-        Listed::Text(n) => n,
-        Listed::Refused(_, _) => 0,
-    }
+    comparing::line(met, text, 0).unwrap_or(0)
+}
+
+// How many bytes of text say what is refused.
+fn told_refusal(refused: Sided, text: &mut [u8]) -> usize
+    requires { piece_room ≤ length text.old }
+    ensures { Holds text.new result (sided_text refused) }
+{
+    comparing::refusal_line(refused, text, 0).unwrap_or(0)
 }
 
 fn write_head<W: Write>(out: &mut W, compared: Compared, text: &mut [u8]) -> io::Result<()>
     requires { piece_room ≤ length text.old }
-    ensures { OnOk result (Appends (W.contents out.old) (W.contents out.new) (compared_text compared)) }
+    ensures { OnOk result (Appends (W.contents out.old) (W.contents out.new) (head_of compared)) }
 {
     let n = told_head(compared, text);
     out.write_all(&text[0..n])
@@ -73,6 +73,14 @@ fn write_line<W: Write>(out: &mut W, met: Met, text: &mut [u8]) -> io::Result<()
     out.write_all(&text[0..n])
 }
 
+fn write_refusal<W: Write>(out: &mut W, refused: Sided, text: &mut [u8]) -> io::Result<()>
+    requires { piece_room ≤ length text.old }
+    ensures { OnOk result (Appends (W.contents out.old) (W.contents out.new) (sided_text refused)) }
+{
+    let n = told_refusal(refused, text);
+    out.write_all(&text[0..n])
+}
+
 // The lines of the positions that the steps from a pair on give.
 fn write_lines<W: Write>(
     out: &mut W,
@@ -83,86 +91,73 @@ fn write_lines<W: Write>(
 ) -> io::Result<()>
     requires { piece_room ≤ length text.old }
 {
-    let mut met = pair.next(left, right);
-    let mut more = is_line(met);
-    while more {
+    let mut at = pair;
+    while let Ok(Some(met)) = at.next(left, right) {
         write_line(out, met, text)?;
-        let at = met.next;
-        met = at.next(left, right);
-        more = is_line(met);
+        at = met.next;
     }
     Ok(())
 }
 
 fn show<W: Write>(out: &mut W, left: &[u8], right: &[u8]) -> io::Result<()> {
     let mut text = [0u8; PIECE];
-    let compared = comparing::compare(left, right);
-    write_head(out, compared, &mut text)?;
-    write_lines(out, left, right, compared.cursor, &mut text)
+    match comparing::compare(left, right) {
+        Ok(compared) => {
+            write_head(out, compared, &mut text)?;
+            write_lines(out, left, right, compared.cursor, &mut text)
+        }
+        Err(refused) => write_refusal(out, refused, &mut text),
+    }
 }
 
-// The file that an argument names, at the front of the buffer.
-fn load(rt: &(impl Env + Files), argument: usize, bytes: &mut [u8]) -> io::Result<File> {
+// The file that an argument names, at the front of the buffer; none where it can't be opened.
+fn load(rt: &(impl Env + Files), argument: usize, bytes: &mut [u8]) -> io::Result<Option<File>>
+    ensures { IfOk result (λ answer. IfSome answer (λ file. file.length ≤ length bytes.new)) }
+{
     let mut name = [0u8; NAME];
     let n = streams::argument(rt, argument, &mut name);
     let Some(mut file) = open(rt, &name[0..n]) else {
-        return Ok(File::Missing);
+        return Ok(None);
     };
-    let read = read_full(&mut file, bytes)?;
-    if read < bytes.len() {
-        return Ok(File::Whole(read));
-    }
-    Ok(File::Long(read))
+    let length = read_full(&mut file, bytes)?;
+    let whole = length < bytes.len();
+    Ok(Some(File { length, whole }))
 }
 
-// Both rolls are at the front of their buffers.
-fn show_both(rt: &impl Print, left: &[u8], n: usize, right: &[u8], m: usize) -> io::Result<()> {
-    if left.len() < n {
-        return Ok(());
-    }
-    if right.len() < m {
-        return Ok(());
-    }
-    show(&mut io::writer(rt), &left[0..n], &right[0..m])
-}
-
-// How many bytes were read of a file that has no room; 0 where all is told. The left roll is at the front of its buffer.
+// Whether the right file has room in its buffer; what there is to tell is then told.
 fn with_left(
     rt: &(impl Env + Files + Print + Eprint),
     left: &[u8],
-    n: usize,
     right: &mut [u8],
-) -> io::Result<usize> {
-    match load(rt, 2, right)? {
-        File::Whole(m) => {
-            show_both(rt, left, n, right, m)?;
-            Ok(0)
-        }
-        File::Long(m) => Ok(m),
-        File::Missing => {
-            eprintln!(rt; "The right file can't be opened.")?;
-            Ok(0)
-        }
+) -> io::Result<bool> {
+    let Some(file) = load(rt, 2, right)? else {
+        eprintln!(rt; "The right file can't be opened.")?;
+        return Ok(true);
+    };
+    if file.whole {
+        show(&mut io::writer(rt), left, &right[0..file.length])?;
     }
+    Ok(file.whole)
 }
 
-// How many bytes were read of a file that has no room; 0 where all is told.
+// Whether both files have room in their buffers; what there is to tell is then told.
 fn answer(
     rt: &(impl Env + Files + Print + Eprint),
     left: &mut [u8],
     right: &mut [u8],
-) -> io::Result<usize> {
-    match load(rt, 1, left)? {
-        File::Whole(n) => with_left(rt, left, n, right),
-        File::Long(n) => Ok(n),
-        File::Missing => {
-            eprintln!(rt; "The left file can't be opened.")?;
-            Ok(0)
-        }
+) -> io::Result<bool> {
+    let Some(file) = load(rt, 1, left)? else {
+        eprintln!(rt; "The left file can't be opened.")?;
+        return Ok(true);
+    };
+    if !file.whole {
+        return Ok(false);
     }
+    with_left(rt, &left[0..file.length], right)
 }
 
-fn in_usual(rt: &(impl Env + Files + Print + Eprint + Alloc)) -> io::Result<usize> {
+// The answer by way of the usual buffers.
+fn in_usual(rt: &(impl Env + Files + Print + Eprint + Alloc)) -> io::Result<bool> {
     let mut left = vec![in rt.alloc(); 0u8; ROOM]?;
     let mut right = vec![in rt.alloc(); 0u8; ROOM]?;
     answer(rt, &mut left, &mut right)
@@ -172,7 +167,7 @@ fn in_usual(rt: &(impl Env + Files + Print + Eprint + Alloc)) -> io::Result<usiz
 fn in_large(rt: &(impl Env + Files + Print + Eprint + Alloc)) -> io::Result<()> {
     let mut left = vec![in rt.alloc(); 0u8; LARGE]?;
     let mut right = vec![in rt.alloc(); 0u8; LARGE]?;
-    if answer(rt, &mut left, &mut right)? == 0 {
+    if answer(rt, &mut left, &mut right)? {
         return Ok(());
     }
     eprintln!(rt; "A file is longer than any roll.")
@@ -182,8 +177,7 @@ fn main(rt: HostRuntime) -> io::Result<()> {
     if argument_count(&rt, ARGUMENTS + 1) != ARGUMENTS {
         return eprintln!(rt; "compare LEFT RIGHT: where two rolls differ");
     }
-    let long = in_usual(&rt)?;
-    if long == 0 {
+    if in_usual(&rt)? {
         return Ok(());
     }
     in_large(&rt)

@@ -12,14 +12,18 @@ use Rattle.text.specs.Digits.{decimal_of}
 use Rattle.text.proofs.Digits.{digits-most}
 use Rattle.roll.specs.inner.Held.{from_held}
 use Rattle.listing.specs.Text.{blank, kind_word, after_blanks}
+use Rattle.kind.specs.declared.refusals.Refusal.{Refusal}
+use Rattle.kind.specs.declared.refusals.Refusal.TheVariants.{WrongKind, OrderSum, UnusedOrder, TooManyTerms, StartBeyondEnd, NoRoom, BadRoll, InputNotFinite, Exponent, BoysCount, ResultNotFinite, MatrixSize, ComponentNumber, CutRoll, PrimitiveCount, HostCount, Nuclei, BelowZero, OutsideProfile, NotTheExpansion, LineShape, LineNumbers}
+use Rattle.kind.specs.Refusals.{refusal_number}
 use Rattle.comparing.specs.declared.differ.Compared.{Compared}
-use Rattle.comparing.specs.declared.differ.Outcome.{Outcome}
-use Rattle.comparing.specs.declared.differ.Outcome.TheVariants as outcome
 use Rattle.comparing.specs.declared.pair.Line.{Line}
 use Rattle.comparing.specs.declared.pair.Line.TheVariants as line
 use Rattle.comparing.specs.declared.pair.Met.{Met}
-use Rattle.comparing.specs.Text.{both, terms_word, both_word, left_word, right_word, left_end, right_end, count_line, pair_line, orders_line, reading_text, numbered_text, one_line, line_text, refused_text}
-use Rattle.comparing.specs.Answers.{used_of, head_of, head_as, compared_text, met_as, met_text, piece_room}
+use Rattle.comparing.specs.declared.sides.Side.{Side}
+use Rattle.comparing.specs.declared.sides.Side.TheVariants as side
+use Rattle.comparing.specs.declared.sides.Sided.{Sided}
+use Rattle.comparing.specs.Text.{both, terms_word, both_word, left_word, right_word, count_line, pair_line, orders_line, reading_text, numbered_text, one_line, line_text, side_end, refused_text}
+use Rattle.comparing.specs.Answers.{used_of, head_of, sided_text, position_as, met_text, piece_room}
 
 -- ---- a number's decimal
 
@@ -74,31 +78,61 @@ both_most : (n : ℕ) (l r : Held) → n < 2 ^ 32 → Small l → Small r → le
 unfolding line_text
 both_most n l r few one two = simp length-append (omega (arith, numbered-most n both_word l few one, reading-most r two))
 
-refused-most : (n place : ℕ) (side : List ℕ) → n < 256 → place < 2 ^ 64 → length (refused_text n place side) ≤ 35 + length side
-unfolding refused_text
-refused-most n place side few small = simp length-append (omega (arith, byte-digits n few, place-digits place small))
-
--- what the numbers of a refusal are within
+-- what the terms of a line are within
 abbrev pub SmallLine : Line → Type 0
-SmallLine line.Both = Unit
-SmallLine line.Left = Unit
-SmallLine line.Right = Unit
-SmallLine line.End = Unit
-SmallLine (line.RefusedLeft n place) = (n < 256) × (place < 2 ^ 64)
-SmallLine (line.RefusedRight n place) = (n < 256) × (place < 2 ^ 64)
+SmallLine (line.Both l r) = Small l × Small r
+SmallLine (line.Left l) = Small l
+SmallLine (line.Right r) = Small r
 
-line-most : (f : Line) (m : Met) → SmallLine f → m.number < 2 ^ 32 → Small m.left → Small m.right → length (met_as f m) ≤ piece_room
+line-most : (f : Line) (n : ℕ) → n < 2 ^ 32 → SmallLine f → length (line_text (position_as f n)) ≤ piece_room
 unfolding line_text
-line-most line.Both m f few one two = both_most m.number m.left m.right few one two
-line-most line.Left m f few one two = omega (arith, one-most m.number left_word m.left few one)
-line-most line.Right m f few one two = omega (arith, one-most m.number right_word m.right few two)
-line-most line.End m f few one two = omega arith
-line-most (line.RefusedLeft n place) m f few one two = omega (arith, refused-most n place left_end f.0 f.1)
-line-most (line.RefusedRight n place) m f few one two = omega (arith, refused-most n place right_end f.0 f.1)
+line-most (line.Both l r) n few small = both_most n l r few small.0 small.1
+line-most (line.Left l) n few small = omega (arith, one-most n left_word l few small)
+line-most (line.Right r) n few small = omega (arith, one-most n right_word r few small)
 
-pub line-short : (m : Met) → SmallLine m.found → m.number < 2 ^ 32 → Small m.left → Small m.right → length (met_text m) ≤ piece_room
+pub line-short : (m : Met) → m.number < 2 ^ 32 → SmallLine m.line → length (met_text m) ≤ piece_room
 unfolding met_text
-line-short m found few one two = line-most m.found m found few one two
+line-short m few small = line-most m.line m.number few small
+
+-- ---- a refusal
+
+number-most : (r : Refusal) → refusal_number r < 256
+number-most WrongKind = omega arith
+number-most OrderSum = omega arith
+number-most UnusedOrder = omega arith
+number-most TooManyTerms = omega arith
+number-most StartBeyondEnd = omega arith
+number-most NoRoom = omega arith
+number-most BadRoll = omega arith
+number-most InputNotFinite = omega arith
+number-most Exponent = omega arith
+number-most BoysCount = omega arith
+number-most ResultNotFinite = omega arith
+number-most MatrixSize = omega arith
+number-most ComponentNumber = omega arith
+number-most CutRoll = omega arith
+number-most PrimitiveCount = omega arith
+number-most HostCount = omega arith
+number-most Nuclei = omega arith
+number-most BelowZero = omega arith
+number-most OutsideProfile = omega arith
+number-most NotTheExpansion = omega arith
+number-most LineShape = omega arith
+number-most LineNumbers = omega arith
+
+end-most : (at : Side) → length (side_end at) ≤ 7
+end-most side.Left = omega arith
+end-most side.Right = omega arith
+
+refused-most : (r : Refusal) (place : ℕ) (at : Side) → place < 2 ^ 64 → length (refused_text r place at) ≤ 42
+unfolding refused_text
+refused-most r place at small =
+    simp length-append
+    (omega (arith, byte-digits (refusal_number r) (number-most r), place-digits place small, end-most at))
+
+pub refusal-short : (e : Sided) → e.fault.place < 2 ^ 64 → length (sided_text e) ≤ piece_room
+unfolding sided_text
+refusal-short e small = omega (arith, refused-most e.fault.refusal e.fault.place e.side small)
 
 -- ---- the head
 
@@ -133,14 +167,9 @@ pub record SmallHead (c : Compared) : Type 0 where
   pub left-long : length c.left ≡ request_orders
   pub right-long : length c.right ≡ request_orders
 
-abbrev pub SmallOutcome : Outcome → Type 0
-SmallOutcome outcome.Rolls = Unit
-SmallOutcome (outcome.RefusedLeft n place) = (n < 256) × (place < 2 ^ 64)
-SmallOutcome (outcome.RefusedRight n place) = (n < 256) × (place < 2 ^ 64)
-
-rolls-most : (c : Compared) → SmallHead c → length (head_of c) ≤ piece_room
+pub head-short : (c : Compared) → SmallHead c → length (head_of c) ≤ piece_room
 unfolding head_of
-rolls-most c small =
+head-short c small =
     let l = c.cursor.left.cursor in
     let r = c.cursor.right.cursor in
     simp length-append
@@ -151,12 +180,3 @@ rolls-most c small =
       orders-most c.orders (used_of l.kind) (used_of r.kind) c.left c.right small.left-bytes small.right-bytes small.left-long small.right-long,
       terms-most c.terms l.left r.left small.left-terms small.right-terms,
     ))
-
-head-most : (f : Outcome) (c : Compared) → SmallOutcome f → SmallHead c → length (head_as f c) ≤ piece_room
-head-most outcome.Rolls c f small = rolls-most c small
-head-most (outcome.RefusedLeft n place) c f small = omega (arith, refused-most n place left_end f.0 f.1)
-head-most (outcome.RefusedRight n place) c f small = omega (arith, refused-most n place right_end f.0 f.1)
-
-pub head-short : (c : Compared) → SmallOutcome c.found → SmallHead c → length (compared_text c) ≤ piece_room
-unfolding compared_text
-head-short c found small = head-most c.found c found small

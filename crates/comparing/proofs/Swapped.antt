@@ -13,7 +13,10 @@ use Rattle.roll.specs.Reading.{got, Roll}
 use Rattle.listing.specs.Text.{kind_word}
 use Rattle.comparing.specs.declared.differ.Compared.{Compared}
 use Rattle.comparing.specs.Sides.{side_at}
-use Rattle.comparing.specs.Answers.{compared_of}
+use Rattle.comparing.specs.Answers.{compared_with, compared_of}
+use Rattle.comparing.proofs.Answered.{judged-compared}
+use Rattle.comparing.proofs.Whole.{reads-judged}
+use Rattle.std.specs.Prelude.{Ok}
 use Rattle.laws.specs.Same.{same_numbers}
 use Rattle.comparing.specs.Text.{Difference, both, left, right, differences, terms_word, count_line, pair_line, orders_line, kinds_differ, orders_differ, terms_differ, head_text, lines_text, compare_text}
 use Rattle.laws.proofs.SameLaws.{same-numbers, same-numbers-is}
@@ -72,15 +75,25 @@ pub record SwappedAnswer (there back : Compared) : Type 0 where
   pub left_is : back.left ≡ there.right
   pub right_is : back.right ≡ there.left
 
-pub swapped-answer : (s t : List ℕ) (l r : Roll) (end last : ℕ) → side_at s ≡ got l end → side_at t ≡ got r last → SwappedAnswer (compared_of s t) (compared_of t s)
-unfolding compared_of
+-- each side that reads gives an answer
+pub swapped-answer : (s t : List ℕ) (l r : Roll) (end last : ℕ) → side_at s ≡ got l end → side_at t ≡ got r last → (there : Compared) × (back : Compared) × (compared_of s t ≡ Ok there) × (compared_of t s ≡ Ok back) × SwappedAnswer there back
 swapped-answer s t l r end last one two =
-    rw (one, two)
-    (record {
-      differ = swapped-count 1 l.terms r.terms;
-      kinds = ap not (eqb-swapped (number_of r.kind) (number_of l.kind));
-      orders = ap not (numbers-swapped r.orders l.orders);
-      terms = ap not (eqb-swapped (length r.terms) (length l.terms));
-      left_is = refl;
-      right_is = refl;
-    })
+    let a = reads-judged s l end one in
+    let b = reads-judged t r last two in
+    let there = judged-compared s t a.0 b.0 a.1 b.1 in
+    let back = judged-compared t s b.0 a.0 b.1 a.1 in
+    let ls = a.1.roll in
+    let rs = b.1.roll in (
+      compared_with ls rs a.0 b.0,
+      compared_with rs ls b.0 a.0,
+      there,
+      back,
+      record {
+        differ = swapped-count 1 ls.terms rs.terms;
+        kinds = ap not (eqb-swapped (number_of rs.kind) (number_of ls.kind));
+        orders = ap not (numbers-swapped rs.orders ls.orders);
+        terms = ap not (eqb-swapped (length rs.terms) (length ls.terms));
+        left_is = refl;
+        right_is = refl;
+      },
+    )

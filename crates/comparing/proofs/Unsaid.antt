@@ -4,7 +4,7 @@ use mathlib.Core.Bool.{false}
 use borrow.Author.Tests.{not-false, eqb-true}
 use lib.Dec.{eqb}
 use lib.ListN.{length}
-use Rattle.kind.specs.declared.Named.TheVariants.{Is}
+use Rattle.std.specs.Prelude.{Some}
 use Rattle.kind.specs.Kinds.{kind_of, number_of}
 use Rattle.kind.proofs.KindNumber.{kind-number}
 use Rattle.roll.specs.Reading.{Roll}
@@ -15,7 +15,7 @@ use Rattle.laws.proofs.SameLaws.{same-numbers-is}
 pub kinds-unsaid : (l r : Roll) → kinds_differ l r ≡ false → l.kind ≡ r.kind
 kinds-unsaid l r e =
     let numbers : number_of l.kind ≡ number_of r.kind = eqb-true (number_of l.kind) (number_of r.kind) (not-false (eqb (number_of l.kind) (number_of r.kind)) e) in
-    let both : Is l.kind ≡ Is r.kind = sym (kind-number l.kind) ∙ ap kind_of numbers ∙ kind-number r.kind in
+    let both : Some l.kind ≡ Some r.kind = sym (kind-number l.kind) ∙ ap kind_of numbers ∙ kind-number r.kind in
     cc
 
 pub orders-unsaid : (l r : Roll) → orders_differ l r ≡ false → l.orders ≡ r.orders

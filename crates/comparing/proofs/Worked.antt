@@ -10,6 +10,7 @@ use Rattle.roll.specs.Reading.{Roll, got, refused}
 use Rattle.listing.specs.Text.{after_blanks}
 use Rattle.laws.specs.Same.{same_numbers}
 use Rattle.comparing.specs.Text.{differences, count_line, pair_line, orders_line, head_text, reading_text, numbered_text, one_line, line_text, lines_text, compare_text, refused_text, said_of}
+use Rattle.kind.specs.declared.refusals.Refusal.TheVariants.{BadRoll, CutRoll}
 
 abbrev term : List ℕ → Term
 term ps = record { scale = 1; boys = 0; prefactors = ps }
@@ -76,8 +77,8 @@ pub record Cases : Type 0 where
   pub of-turned : compare_text other one ≡ turned
   pub of-kinds : compare_text (plain Overlap) (plain Kinetic) ≡ kinds
   pub of-counts : compare_text (plain Overlap) moment ≡ counts
-  pub of_left : said_of (refused 7 12) (refused 14 0) ≡ lefts
-  pub of_right : said_of (got one 17) (refused 14 0) ≡ rights
+  pub of_left : said_of (refused BadRoll 12) (refused CutRoll 0) ≡ lefts
+  pub of_right : said_of (got one 17) (refused CutRoll 0) ≡ rights
 
 pub worked : Cases
 unfolding same_numbers same_term differences count_line pair_line orders_line head_text reading_text numbered_text one_line line_text lines_text compare_text refused_text after_blanks glyph decimal_of

@@ -1,57 +1,65 @@
 -- 02, Q-4: what a comparison answers, and the text of each of its pieces: the head, then one line after the other.
-use Rattle.std.specs.Prelude.{ℕ, false, List, [], ◌∷◌, ◌++◌, length, take, replicate}
+use Rattle.std.specs.Prelude.{ℕ, List, [], ◌∷◌, ◌++◌, length, take, Option, Some, None, Result, Ok, Err}
 use Rattle.kind.specs.Limits.{request_orders}
 use Rattle.kind.specs.Kinds.{kind_of, orders_of}
-use Rattle.kind.specs.declared.Named.{Named}
-use Rattle.kind.specs.declared.Named.TheVariants as named
+use Rattle.kind.specs.declared.Kind.{Kind}
+use Rattle.kind.specs.declared.refusals.Fault.{Fault}
+use Rattle.roll.specs.Field.{fault}
 use Rattle.roll.specs.Reading.{Reading, got, refused, Roll}
 use Rattle.roll.specs.inner.Held.{from_held}
+use Rattle.form2.specs.declared.header.Opened2.{Opened2}
 use Rattle.listing.specs.Text.{kind_word}
-use Rattle.comparing.specs.declared.differ.Outcome.{Outcome}
-use Rattle.comparing.specs.declared.differ.Outcome.TheVariants as outcome
 use Rattle.comparing.specs.declared.differ.Compared.{Compared}
 use Rattle.comparing.specs.declared.pair.Line.{Line}
 use Rattle.comparing.specs.declared.pair.Line.TheVariants as line
 use Rattle.comparing.specs.declared.pair.Pair.{Pair}
 use Rattle.comparing.specs.declared.pair.Met.{Met}
-use Rattle.comparing.specs.Sides.{side_at, open_side}
-use Rattle.comparing.specs.Pairs.{no_pair}
-use Rattle.comparing.specs.Text.{both, left, right, differences, kinds_differ, orders_differ, terms_differ, count_line, pair_line, orders_line, line_text, refused_text, terms_word, left_end, right_end}
+use Rattle.comparing.specs.declared.sides.Side.TheVariants as side
+use Rattle.comparing.specs.declared.sides.Sided.{Sided}
+use Rattle.comparing.specs.Sides.{side_at, open_side, refused_on}
+use Rattle.comparing.specs.Pairs.{lines_of}
+use Rattle.comparing.specs.Text.{Difference, both, left, right, differences, kinds_differ, orders_differ, terms_differ, count_line, pair_line, orders_line, line_text, refused_text, terms_word}
 
 -- ---- the comparison
 
-abbrev pub refused_compared : Outcome → Compared
-refused_compared found = record { found = found; differ = 0; kinds = false; orders = false; terms = false; left = replicate request_orders 0; right = replicate request_orders 0; cursor = no_pair }
-
 -- at the first terms, which have number 1
-abbrev pub first_pair : List ℕ → List ℕ → Pair
-first_pair s t = record { left = (open_side s).cursor; right = (open_side t).cursor; number = 1 }
+abbrev pub first_pair : Opened2 → Opened2 → Pair
+first_pair l r = record { left = l.cursor; right = r.cursor; number = 1 }
 
--- the left side's refusal comes first; then how many positions differ, and whether kind, orders and term count do
-abbrev pub compared_as : Reading Roll → Reading Roll → List ℕ → List ℕ → Compared
-compared_as (refused n place) other s t = refused_compared (outcome.RefusedLeft n place)
-compared_as (got l end) (refused n place) s t = refused_compared (outcome.RefusedRight n place)
-compared_as (got l end) (got r last) s t =
+-- how many positions differ, and whether kind, orders and term count do
+abbrev pub compared_with : Roll → Roll → Opened2 → Opened2 → Compared
+compared_with l r a b =
     record {
-      found = outcome.Rolls;
       differ = length (differences 1 l.terms r.terms);
       kinds = kinds_differ l r;
       orders = orders_differ l r;
       terms = terms_differ l r;
-      left = (open_side s).orders;
-      right = (open_side t).orders;
-      cursor = first_pair s t;
+      left = a.orders;
+      right = b.orders;
+      cursor = first_pair a b;
     }
 
-unfoldable pub compared_of : List ℕ → List ℕ → Compared
+-- of rolls that read, whose headers then read too
+abbrev pub opened_as : Roll → Roll → Result Opened2 Fault → Result Opened2 Fault → Result Compared Sided
+opened_as l r (Err e) other = Err (refused_on side.Left e)
+opened_as l r (Ok a) (Err e) = Err (refused_on side.Right e)
+opened_as l r (Ok a) (Ok b) = Ok (compared_with l r a b)
+
+-- the left side's refusal comes first
+abbrev pub compared_as : Reading Roll → Reading Roll → List ℕ → List ℕ → Result Compared Sided
+compared_as (refused r place) other s t = Err (refused_on side.Left (fault r place))
+compared_as (got l end) (refused r place) s t = Err (refused_on side.Right (fault r place))
+compared_as (got l end) (got r last) s t = opened_as l r (open_side s) (open_side t)
+
+unfoldable pub compared_of : List ℕ → List ℕ → Result Compared Sided
 compared_of s t = compared_as (side_at s) (side_at t) s t
 
 -- ---- the head
 
 -- how many orders a kind uses; all that are held, of a forged one
-abbrev pub used_as : Named → ℕ
-used_as (named.Is k) = orders_of k
-used_as named.Unknown = request_orders
+abbrev pub used_as : Option Kind → ℕ
+used_as (Some k) = orders_of k
+used_as None = request_orders
 
 unfoldable pub used_of : ℕ → ℕ
 used_of kind = used_as (kind_of kind)
@@ -64,33 +72,38 @@ head_of c =
     ++ (orders_line c.orders (take (used_of l.kind) c.left) (take (used_of r.kind) c.right)
     ++ pair_line c.terms terms_word l.left r.left)
 
-abbrev pub head_as : Outcome → Compared → List ℕ
-head_as outcome.Rolls c = head_of c
-head_as (outcome.RefusedLeft n place) c = refused_text n place left_end
-head_as (outcome.RefusedRight n place) c = refused_text n place right_end
+-- the line of a refusal
+unfoldable pub sided_text : Sided → List ℕ
+sided_text e = refused_text e.fault.refusal e.fault.place e.side
 
 -- the head lines, or the line of a refusal
-unfoldable pub compared_text : Compared → List ℕ
-compared_text c = head_as c.found c
+abbrev pub compared_text : Result Compared Sided → List ℕ
+compared_text (Ok c) = head_of c
+compared_text (Err e) = sided_text e
 
 -- ---- a line
 
-abbrev pub met_as : Line → Met → List ℕ
-met_as line.Both m = line_text (both m.number (from_held m.left) (from_held m.right))
-met_as line.Left m = line_text (left m.number (from_held m.left))
-met_as line.Right m = line_text (right m.number (from_held m.right))
-met_as line.End m = []
-met_as (line.RefusedLeft n place) m = refused_text n place left_end
-met_as (line.RefusedRight n place) m = refused_text n place right_end
+-- the position that it is of
+abbrev pub position_as : Line → ℕ → Difference
+position_as (line.Both l r) number = both number (from_held l) (from_held r)
+position_as (line.Left l) number = left number (from_held l)
+position_as (line.Right r) number = right number (from_held r)
 
--- a position's line; nothing at the end, and the line of a refusal
+abbrev pub position_of : Met → Difference
+position_of m = position_as m.line m.number
+
 unfoldable pub met_text : Met → List ℕ
-met_text m = met_as m.found m
+met_text m = line_text (position_of m)
 
 -- one line after the other
 unfoldable pub pieces_text : List Met → List ℕ
 pieces_text [] = []
 pieces_text (m ∷ ms) = met_text m ++ pieces_text ms
+
+-- the positions that the steps from the first pair on give; none beside a refusal
+abbrev pub compared_lines : Result Compared Sided → List ℕ → List ℕ → List Met
+compared_lines (Ok c) s t = lines_of c.cursor s t
+compared_lines (Err e) s t = []
 
 -- the bytes that a head or a line has at most
 abbrev pub piece_room : ℕ

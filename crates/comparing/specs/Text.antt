@@ -2,9 +2,13 @@
 use Rattle.std.specs.Prelude.{ℕ, ◌+◌, Bool, cond, not, List, [], ◌∷◌, ◌++◌, eqb, length}
 use Rattle.laws.specs.Same.{same_numbers}
 use Rattle.kind.specs.Kinds.{number_of}
+use Rattle.kind.specs.declared.refusals.Refusal.{Refusal}
+use Rattle.kind.specs.Refusals.{refusal_number}
 use Rattle.term.specs.Terms.{Term, same_term}
 use Rattle.text.specs.Digits.{decimal_of}
 use Rattle.roll.specs.Reading.{Reading, got, refused, Roll}
+use Rattle.comparing.specs.declared.sides.Side.{Side}
+use Rattle.comparing.specs.declared.sides.Side.TheVariants as side
 use Rattle.listing.specs.Text.{blank, colon, feed, kind_word, refused_word, at_word, after_blanks}
 
 -- ---- where two rolls differ
@@ -121,12 +125,17 @@ lines_text (d ∷ ds) = line_text d ++ lines_text ds
 unfoldable pub compare_text : Roll → Roll → List ℕ
 compare_text l r = head_text l r ++ lines_text (differences 1 l.terms r.terms)
 
+-- the side of a refusal
+abbrev pub side_end : Side → List ℕ
+side_end side.Left = left_end
+side_end side.Right = right_end
+
 -- refused 7 at 12 left
-unfoldable pub refused_text : ℕ → ℕ → List ℕ → List ℕ
-refused_text refusal place side = (refused_word ++ decimal_of refusal) ++ ((at_word ++ decimal_of place) ++ side)
+unfoldable pub refused_text : Refusal → ℕ → Side → List ℕ
+refused_text refusal place at = (refused_word ++ decimal_of (refusal_number refusal)) ++ ((at_word ++ decimal_of place) ++ side_end at)
 
 -- a roll that cannot be read is refused with its side and place, the left one first; nothing else is said
 abbrev pub said_of : Reading Roll → Reading Roll → List ℕ
-said_of (refused n place) other = refused_text n place left_end
-said_of (got l end) (refused n place) = refused_text n place right_end
+said_of (refused r place) other = refused_text r place side.Left
+said_of (got l end) (refused r place) = refused_text r place side.Right
 said_of (got l end) (got r last) = compare_text l r

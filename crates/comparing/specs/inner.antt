@@ -1,1 +1,2 @@
-pub mod Sided
+pub mod Judged
+pub mod Piece

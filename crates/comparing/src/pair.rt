@@ -1,12 +1,10 @@
 // Both rolls gone through beside each other: a step by value goes on to the next position that differs.
 ghost use Rattle.std.specs.Prelude.{◌≡◌};
-ghost use Rattle.comparing.specs.Pairs.{number_after, same_held, no_pair, last, met_by, staying, listed, turn_from, turn_of, next_of};
-ghost use Rattle.laws.specs.Same.{same_numbers};
+ghost use Rattle.comparing.specs.Pairs.{number_after, same_held, same_line, met_by, position, turn_of, next_of};
 
-use crate::sides::{alone, step_side};
+use crate::sides::{Side, Sided};
 use form2::{Cursor2, Step2};
 use kind::Kind;
-use roll::{Found, no_cursor};
 use term::Term;
 
 // Where both readers stand, and the number of the position.
@@ -17,65 +15,39 @@ pub struct Pair {
     pub number: u32,
 }
 
-// What a step finds: terms that differ, a term on one side only, the end, or a refusal with its number and place.
+// The term of each side, or of the one that has not ended.
 #[derive(Clone, Copy)]
 pub enum Line {
-    Both,
-    Left,
-    Right,
-    End,
-    RefusedLeft(u8, usize),
-    RefusedRight(u8, usize),
+    Both(Term, Term),
+    Left(Term),
+    Right(Term),
 }
 
-// A position that differs, its terms, and where to go on; zeros beside the end and beside a refusal.
+// A position, its terms, and where to go on.
 #[derive(Clone, Copy)]
 pub struct Met {
-    pub found: Line,
     pub number: u32,
-    pub left: Term,
-    pub right: Term,
+    pub line: Line,
     pub next: Pair,
-}
-
-// One position, and whether it has the same term on both sides.
-#[derive(Clone, Copy)]
-struct Turn {
-    same: bool,
-    met: Met,
-}
-
-pub(crate) fn same_numbers(left: &[u8], right: &[u8]) -> bool
-    ensures { result ≡ same_numbers left.now right.now }
-{
-    if left.len() != right.len() {
-        return false;
-    }
-    let mut i = 0;
-    while i < left.len() {
-        if left[i] != right[i] {
-            return false;
-        }
-        i += 1;
-    }
-    true
 }
 
 fn same_held(left: Term, right: Term) -> bool
     ensures { result ≡ same_held left right }
 {
-    let ls = left.prefactors;
-    let rs = right.prefactors;
-    if left.scale != right.scale {
-        return false;
+    left.scale == right.scale
+        && left.boys == right.boys
+        && left.count == right.count
+        && left.prefactors == right.prefactors
+}
+
+// Whether both sides have the same term.
+fn same_line(line: Line) -> bool
+    ensures { result ≡ same_line line }
+{
+    match line {
+        Line::Both(left, right) => same_held(left, right),
+        Line::Left(_) | Line::Right(_) => false,
     }
-    if left.boys != right.boys {
-        return false;
-    }
-    if left.count != right.count {
-        return false;
-    }
-    same_numbers(&ls, &rs)
 }
 
 fn number_after(number: u32) -> u32
@@ -87,119 +59,55 @@ fn number_after(number: u32) -> u32
     number + 1
 }
 
-// What stands beside a refusal and beside the end.
-pub(crate) fn no_pair() -> Pair
-    ensures { result ≡ no_pair }
+// A position, and the cursors behind its terms.
+fn met_by(number: u32, line: Line, left: Cursor2, right: Cursor2) -> Met
+    ensures { result ≡ met_by number line left right }
 {
-    let cursor = alone(no_cursor());
-    Pair {
-        left: cursor,
-        right: cursor,
-        number: 0,
-    }
-}
-
-fn last(found: Line) -> Turn
-    ensures { result ≡ last found }
-{
-    let term = Term::none();
-    let next = no_pair();
-    Turn {
-        same: false,
-        met: Met {
-            found,
-            number: 0,
-            left: term,
-            right: term,
-            next,
-        },
-    }
-}
-
-// A position that has a term, its terms and the cursors behind it.
-fn met_by(found: Line, number: u32, left: Step2, right: Step2) -> Met
-    ensures { result ≡ met_by found number left right }
-{
-    let l = left.term;
-    let r = right.term;
-    let from = left.next;
-    let to = right.next;
     Met {
-        found,
         number,
-        left: l,
-        right: r,
+        line,
         next: Pair {
-            left: from,
-            right: to,
+            left,
+            right,
             number: number_after(number),
         },
     }
 }
 
-// A side that has ended stays where it is.
-fn staying(cursor: Cursor2) -> Step2
-    ensures { result ≡ staying cursor }
-{
-    let term = Term::none();
-    Step2 {
-        found: Found::End,
-        term,
-        next: cursor,
-    }
-}
-
-fn listed(met: Met) -> Turn
-    ensures { result ≡ listed met }
-{
-    Turn { same: false, met }
-}
-
-// What a step of each side finds at a position; the left side's refusal comes first.
-fn turn_from(pair: Pair, left: Step2, right: Step2) -> Turn
-    ensures { result ≡ turn_from pair left right }
+// The position of what a step of each side gives, or none where both have ended; a side that has ended stays where it is.
+fn position(pair: Pair, left: Option<Step2>, right: Option<Step2>) -> Option<Met>
+    ensures { result ≡ position left right pair }
 {
     let number = pair.number;
-    let l = left.found;
-    let r = right.found;
-    match l {
-        Found::Term => match r {
-            Found::Term => {
-                let same = same_held(left.term, right.term);
-                let met = met_by(Line::Both, number, left, right);
-                Turn { same, met }
-            }
-            Found::End => listed(met_by(Line::Left, number, left, staying(pair.right))),
-            Found::Refused(refusal, place) => last(Line::RefusedRight(refusal, place)),
-        },
-        Found::End => match r {
-            Found::Term => listed(met_by(Line::Right, number, staying(pair.left), right)),
-            Found::End => last(Line::End),
-            Found::Refused(refusal, place) => last(Line::RefusedRight(refusal, place)),
-        },
-        Found::Refused(refusal, place) => last(Line::RefusedLeft(refusal, place)),
+    match (left, right) {
+        (Some(l), Some(r)) => Some(met_by(number, Line::Both(l.term, r.term), l.next, r.next)),
+        (Some(l), None) => Some(met_by(number, Line::Left(l.term), l.next, pair.right)),
+        (None, Some(r)) => Some(met_by(number, Line::Right(r.term), pair.left, r.next)),
+        (None, None) => None,
     }
 }
 
 impl Pair {
-    // The position where both readers stand.
-    fn turn(self, left: &[u8], right: &[u8]) -> Turn
+    // The position where both readers stand, or none at the end; the left side's refusal comes first.
+    fn turn(self, left: &[u8], right: &[u8]) -> Result<Option<Met>, Sided>
         ensures { result ≡ turn_of self left.now right.now }
     {
-        let l = step_side(left, self.left);
-        let r = step_side(right, self.right);
-        turn_from(self, l, r)
+        let l = Side::Left.step(left, self.left)?;
+        let r = Side::Right.step(right, self.right)?;
+        Ok(position(self, l, r))
     }
 
-    // The next position that differs.
-    pub fn next(self, left: &[u8], right: &[u8]) -> Met
+    // The next position that differs, or none at the end.
+    pub fn next(self, left: &[u8], right: &[u8]) -> Result<Option<Met>, Sided>
         ensures { result ≡ next_of self left.now right.now }
     {
-        let mut turn = self.turn(left, right);
-        while turn.same {
-            let at = turn.met.next;
-            turn = at.turn(left, right);
+        let mut at = self;
+        while let Some(met) = at.turn(left, right)? {
+            if !same_line(met.line) {
+                return Ok(Some(met));
+            }
+            at = met.next;
         }
-        turn.met
+        Ok(None)
     }
 }

@@ -1,23 +1,31 @@
-// The pieces of a comparison's text, each into a lent buffer: the head, then the line of one position after the other.
+// The pieces of a comparison's text, each into a lent buffer: the head, then the line of one position after the other, or the line of
+// a refusal.
+ghost use Rattle.std.specs.Prelude.{Some};
 ghost use Rattle.saying.specs.Said.{Said};
 ghost use Rattle.listing.specs.Answers.{TextTold};
-ghost use Rattle.comparing.specs.Answers.{head_of, compared_text, met_text};
+ghost use Rattle.comparing.specs.Answers.{head_of, met_text, sided_text};
+ghost use Rattle.comparing.specs.inner.Piece.{piece_text};
 
-use crate::differ::{Compared, Outcome};
+use crate::differ::Compared;
 use crate::pair::{Line, Met};
 use crate::says::{say_both, say_first, say_one, say_orders, say_pair, say_refused};
-use listing::Listed;
-use text::Written;
+use crate::sides::Sided;
+use kind::{Fault, Refusal};
+
+// One of them.
+#[derive(Clone, Copy)]
+enum Piece {
+    Head(Compared),
+    Position(Met),
+    Refusal(Sided),
+}
 
 // The head of two rolls that read.
-fn say_head(out: &mut [u8], room: usize, c: Compared) -> Written
-    ensures { Said room out.old (Written.To 0) (head_of c) result out.new }
+fn say_head(out: &mut [u8], room: usize, c: Compared) -> Option<usize>
+    ensures { Said room out.old (Some 0) (head_of c) result out.new }
 {
-    let pair = c.cursor;
-    let ours = pair.left;
-    let theirs = pair.right;
-    let l = ours.cursor;
-    let r = theirs.cursor;
+    let l = c.cursor.left.cursor;
+    let r = c.cursor.right.cursor;
     let a = c.left;
     let b = c.right;
     let first = say_first(out, room, c.differ, c.kinds, l.kind, r.kind);
@@ -33,71 +41,59 @@ fn say_head(out: &mut [u8], room: usize, c: Compared) -> Written
     )
 }
 
-// The head, or the line of a refusal.
-fn say_compared(out: &mut [u8], room: usize, c: Compared) -> Written
-    ensures { Said room out.old (Written.To 0) (compared_text c) result out.new }
+// The line of a position.
+fn say_met(out: &mut [u8], room: usize, m: Met) -> Option<usize>
+    ensures { Said room out.old (Some 0) (met_text m) result out.new }
 {
-    let found = c.found;
-    match found {
-        Outcome::Rolls => say_head(out, room, c),
-        Outcome::RefusedLeft(refusal, place) => say_refused(out, room, refusal, place, b" left\n"),
-        Outcome::RefusedRight(refusal, place) => say_refused(
-            out,
-            room,
-            refusal,
-            place,
-            b" right\n",
-        ),
+    match m.line {
+        Line::Both(left, right) => say_both(out, room, m.number, left, right),
+        Line::Left(term) => say_one(out, room, m.number, b": left ", term),
+        Line::Right(term) => say_one(out, room, m.number, b": right ", term),
     }
 }
 
-// A position's line, nothing at the end, or the line of a refusal.
-fn say_met(out: &mut [u8], room: usize, m: Met) -> Written
-    ensures { Said room out.old (Written.To 0) (met_text m) result out.new }
+fn say_piece(out: &mut [u8], room: usize, piece: Piece) -> Option<usize>
+    ensures { Said room out.old (Some 0) (piece_text piece) result out.new }
 {
-    let found = m.found;
-    match found {
-        Line::Both => say_both(out, room, m.number, m.left, m.right),
-        Line::Left => say_one(out, room, m.number, b": left ", m.left),
-        Line::Right => say_one(out, room, m.number, b": right ", m.right),
-        Line::End => Written::To(0),
-        Line::RefusedLeft(refusal, place) => say_refused(out, room, refusal, place, b" left\n"),
-        Line::RefusedRight(refusal, place) => say_refused(out, room, refusal, place, b" right\n"),
+    match piece {
+        Piece::Head(compared) => say_head(out, room, compared),
+        Piece::Position(met) => say_met(out, room, met),
+        Piece::Refusal(refused) => say_refused(out, room, refused),
     }
 }
 
-// The first lines of what a comparison says, or its refusal's line.
-pub fn head(compared: Compared, out: &mut [u8], start: usize) -> Listed
-    ensures { TextTold (compared_text compared) out.old start result out.new }
+// A piece from a start place on, where it has room.
+fn told(piece: Piece, out: &mut [u8], start: usize) -> Result<usize, Fault>
+    ensures { TextTold (piece_text piece) out.old start result out.new }
 {
     if out.len() < start {
-        return Listed::Refused(5, 0);
+        return Err(Fault::from(Refusal::StartBeyondEnd));
     }
     let room = out.len() - start;
-    let measured = say_compared(&mut out[0..0], room, compared);
-    match measured {
-        Written::To(length) => {
-            say_compared(&mut out[start..], room, compared);
-            Listed::Text(length)
-        }
-        Written::NoRoom => Listed::Refused(6, 0),
-    }
+    let Some(length) = say_piece(&mut out[0..0], room, piece) else {
+        return Err(Fault::from(Refusal::NoRoom));
+    };
+    say_piece(&mut out[start..], room, piece);
+    Ok(length)
 }
 
-// The line of what a step has met.
-pub fn line(met: Met, out: &mut [u8], start: usize) -> Listed
+// The first lines of what a comparison says.
+pub fn head(compared: Compared, out: &mut [u8], start: usize) -> Result<usize, Fault>
+    ensures { TextTold (head_of compared) out.old start result out.new }
+{
+    told(Piece::Head(compared), out, start)
+}
+
+// The line of a position that differs.
+pub fn line(met: Met, out: &mut [u8], start: usize) -> Result<usize, Fault>
     ensures { TextTold (met_text met) out.old start result out.new }
 {
-    if out.len() < start {
-        return Listed::Refused(5, 0);
-    }
-    let room = out.len() - start;
-    let measured = say_met(&mut out[0..0], room, met);
-    match measured {
-        Written::To(length) => {
-            say_met(&mut out[start..], room, met);
-            Listed::Text(length)
-        }
-        Written::NoRoom => Listed::Refused(6, 0),
-    }
+    told(Piece::Position(met), out, start)
+}
+
+// The line of a refusal, which stands alone.
+pub fn refusal_line(refused: Sided, out: &mut [u8], start: usize) -> Result<usize, Fault>
+    ensures { TextTold (sided_text refused) out.old start result out.new }
+{
+    told(Piece::Refusal(refused), out, start)
 }

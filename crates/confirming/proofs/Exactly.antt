@@ -16,96 +16,95 @@ use Rattle.kind.specs.declared.Kind.{Kind}
 use Rattle.kind.specs.declared.Kind.TheVariants.{Overlap, Kinetic, Nuclear, Moment, Coulomb}
 use Rattle.kind.specs.Limits.{most_terms}
 use Rattle.number.specs.Numbers.{Bytes}
-use Rattle.roll.specs.declared.header.Opening.TheVariants as opening
 use Rattle.roll.specs.declared.header.Opened.{Opened}
+use Rattle.std.specs.Prelude.{Ok}
 use Rattle.roll.specs.Reading.{Reading, got, refused, Roll}
 use Rattle.roll.specs.Header.{refused_opened}
-use Rattle.roll.proofs.Checked.{reads-checked}
+use Rattle.roll.proofs.Checked.{opened-of}
 use Rattle.roll.proofs.CutOrWrong.{begins-no-other}
 use Rattle.form2.specs.Bytes.{shared}
 use Rattle.form2.specs.Reading.{goes_on}
 use Rattle.form2.specs.Header.{is_form2}
-use Rattle.form2.proofs.Checked.{reads-checked2}
 use Rattle.form2.proofs.CutOrWrong.{begins-no-other2}
 use Rattle.form2.proofs.Sharing.{Parts, shares}
 use Rattle.expansion.specs.Expanding.{too_many, terms_of}
-use Rattle.expansion.specs.inner.Requests.{RequestWithin, form_of, head_of}
+use Rattle.expansion.specs.inner.Requests.{RequestWithin, form_of as added_in, head_of}
 use Rattle.expansion.specs.inner.Sinks.{in_form1, in_form2}
 use Rattle.expansion.proofs.HeaderLaws.{roll-bytes}
-use Rattle.salvaging.specs.Salvage.{request_of}
-use Rattle.confirming.specs.Confirm.{read_in, judged_in, fresh_in, header_of, fresh_of, confirmed_roll, confirmed_by, confirm_of}
+use Rattle.salvaging.specs.declared.forms.Form.{Form}
+use Rattle.salvaging.specs.declared.forms.Form.TheVariants.{One, Two}
+use Rattle.salvaging.specs.Salvage.{form_of, read_in, header_of, request_of, roll_in}
+use Rattle.confirming.specs.Confirm.{judged_in, fresh_of, confirmed_roll, confirmed_by, confirm_of}
 use Rattle.confirming.proofs.Forms.{headed, roll-within, the_roll, fresh-reads}
 use Rattle.confirming.proofs.ConfirmLaws.{Met, met-confirmed}
+use Rattle.kind.specs.declared.refusals.Refusal.TheVariants.{TooManyTerms, NotTheExpansion}
 
 -- ---- what the expansion writes is a roll
 
 -- the first byte of a request's roll tells its form
-pub fresh-form : (two : Bool) (k : Kind) (os : List ℕ) → RequestWithin k os → is_form2 (fresh_in two k os) ≡ two
-unfolding is_form2 head_of form_of
-fresh-form false k os within = ap is_form2 (roll-bytes k os within in_form1) ∙ by k
+pub fresh-form : (f : Form) (k : Kind) (os : List ℕ) → RequestWithin k os → form_of (roll_in f k os) ≡ f
+unfolding form_of is_form2 head_of added_in
+fresh-form One k os within = ap form_of (roll-bytes k os within in_form1) ∙ by k
   where
-    by : (k : Kind) → is_form2 (head_of (form_of in_form1) k os) ≡ false
+    by : (k : Kind) → form_of (head_of (added_in in_form1) k os) ≡ One
     by Overlap = refl
     by Kinetic = refl
     by Nuclear = refl
     by Moment = refl
     by Coulomb = refl
-fresh-form true k os within = ap is_form2 (roll-bytes k os within in_form2) ∙ by k
+fresh-form Two k os within = ap form_of (roll-bytes k os within in_form2) ∙ by k
   where
-    by : (k : Kind) → is_form2 (head_of (form_of in_form2) k os) ≡ true
+    by : (k : Kind) → form_of (head_of (added_in in_form2) k os) ≡ Two
     by Overlap = refl
     by Kinetic = refl
     by Nuclear = refl
     by Moment = refl
     by Coulomb = refl
-
-reads-found : (two : Bool) (s : List ℕ) (r : Roll) (end : ℕ) → read_in two s ≡ got r end → (judged_in two s).found ≡ opening.Roll
-reads-found false s r end e = (reads-checked s r end e).1
-reads-found true s r end e = (reads-checked2 s r end e).1
 
 -- for every request that the expansion takes, in either form
-pub fresh-confirmed : (two : Bool) (k : Kind) (os : List ℕ) → RequestWithin k os → length (terms_of k os) ≤ most_terms → (confirm_of (fresh_in two k os)).found ≡ opening.Roll
+pub fresh-confirmed : (f : Form) (k : Kind) (os : List ℕ) → RequestWithin k os → length (terms_of k os) ≤ most_terms → (o : Opened) × (confirm_of (roll_in f k os) ≡ Ok o)
 unfolding confirm_of
-fresh-confirmed two k os within few =
-    let s = fresh_in two k os in
-    let met : Met two k os s (length (terms_of k os)) =
+fresh-confirmed f k os within few =
+    let s = roll_in f k os in
+    let met : Met f k os s (length (terms_of k os)) =
     record { within = within; few = few; many = le-ltb most_terms (length (terms_of k os)) few; bytes-are = refl; same = same-numbers-refl s; count-is = refl } in
-    ap (λ (t : Bool). (confirmed_by t s (read_in t s)).found) (fresh-form two k os within)
-    ∙ ap (λ (o : Opened). o.found) (met-confirmed two k os s (length (terms_of k os)) met)
-    ∙ reads-found two s (the_roll k os) (length s) (fresh-reads k os within few two)
+    let d = headed f s (the_roll k os) (length s) (fresh-reads k os within few f) in (
+      opened-of (header_of (the_roll k os)) d.next,
+      ap (λ (g : Form). confirmed_by g s (read_in g s)) (fresh-form f k os within) ∙ met-confirmed f k os s (length (terms_of k os)) met ∙ d.opened,
+    )
 
 -- ---- and nothing else is
 
 -- a roll that was answered: what it says, and that it is its own request's roll
-pub record Confirmed (s : List ℕ) : Type 0 where
+pub record Confirmed (s : List ℕ) (o : Opened) : Type 0 where
   pub roll : Roll
   pub end : ℕ
-  pub reads : read_in (is_form2 s) s ≡ got roll end
+  pub reads : read_in (form_of s) s ≡ got roll end
   pub few : length (terms_of roll.kind (request_of (header_of roll))) ≤ most_terms
-  pub is : s ≡ fresh_in (is_form2 s) roll.kind (request_of (header_of roll))
-  pub header : confirm_of s ≡ judged_in (is_form2 s) s
+  pub is : s ≡ fresh_of (form_of s) roll
+  pub header : judged_in (form_of s) s ≡ Ok o
 
-pub confirmed : (s : List ℕ) → (confirm_of s).found ≡ opening.Roll → Confirmed s
+pub confirmed : (s : List ℕ) (o : Opened) → confirm_of s ≡ Ok o → Confirmed s o
 unfolding confirm_of confirmed_roll
-confirmed s found = by-reading (read_in (is_form2 s) s) refl found
+confirmed s o found = by-reading (read_in (form_of s) s) refl found
   where
-    by_tests : (r : Roll) (end : ℕ) → read_in (is_form2 s) s ≡ got r end → (many : Bool) → too_many r.kind (request_of (header_of r)) ≡ many → (same : Bool) → same_numbers s (fresh_of (is_form2 s) r) ≡ same
-        → (cond many (refused_opened 4 0) (cond same (judged_in (is_form2 s) s) (refused_opened 20 (shared s (fresh_of (is_form2 s) r))))).found ≡ opening.Roll → Confirmed s
-    by_tests r end e true a same b f = absurd (clash (cc))
-    by_tests r end e false a false b f = absurd (clash (cc))
-    by_tests r end e false a true b f =
+    by_tests : (r : Roll) (end : ℕ) → read_in (form_of s) s ≡ got r end → (many : Bool) → too_many r.kind (request_of (header_of r)) ≡ many → (same : Bool) → same_numbers s (fresh_of (form_of s) r) ≡ same
+        → cond many (refused_opened TooManyTerms 0) (cond same (judged_in (form_of s) s) (refused_opened NotTheExpansion (shared s (fresh_of (form_of s) r)))) ≡ Ok o → Confirmed s o
+    by_tests r end e true a same b g = absurd (clash (cc))
+    by_tests r end e false a false b g = absurd (clash (cc))
+    by_tests r end e false a true b g =
         record {
           roll = r;
           end = end;
           reads = e;
           few = ltb-false most_terms (length (terms_of r.kind (request_of (header_of r)))) a;
-          is = same-numbers-is s (fresh_of (is_form2 s) r) b;
-          header = ap (confirmed_by (is_form2 s) s) e ∙ rw (a, b) refl;
+          is = same-numbers-is s (fresh_of (form_of s) r) b;
+          header = g;
         }
 
-    by-reading : (x : Reading Roll) → read_in (is_form2 s) s ≡ x → (confirmed_by (is_form2 s) s x).found ≡ opening.Roll → Confirmed s
-    by-reading (refused n place) e f = absurd (clash (cc))
-    by-reading (got r end) e f = by_tests r end e (too_many r.kind (request_of (header_of r))) refl (same_numbers s (fresh_of (is_form2 s) r)) refl f
+    by-reading : (x : Reading Roll) → read_in (form_of s) s ≡ x → confirmed_by (form_of s) s x ≡ Ok o → Confirmed s o
+    by-reading (refused r place) e g = absurd (clash (cc))
+    by-reading (got r end) e g = by_tests r end e (too_many r.kind (request_of (header_of r))) refl (same_numbers s (fresh_of (form_of s) r)) refl g
 
 -- ---- the place of 20
 
@@ -117,11 +116,11 @@ pub record FirstDiffer (s fresh : List ℕ) (place : ℕ) : Type 0 where
   pub other : get_or s place 0 ≡ get_or fresh place 0 → ⊥
 
 -- a roll that reads is not the beginning of another one
-begins-none : (two : Bool) (s t : List ℕ) (r q : Roll) (end last : ℕ) → read_in two s ≡ got r end → read_in two (s ++ t) ≡ got q last → t ≡ []
-begins-none false s t r q end last a b = begins-no-other s t r q end last a b
-begins-none true s t r q end last a b = begins-no-other2 s t r q end last a b
+begins-none : (f : Form) (s t : List ℕ) (r q : Roll) (end last : ℕ) → read_in f s ≡ got r end → read_in f (s ++ t) ≡ got q last → t ≡ []
+begins-none One s t r q end last a b = begins-no-other s t r q end last a b
+begins-none Two s t r q end last a b = begins-no-other2 s t r q end last a b
 
-module _ (two : Bool) (s fresh : List ℕ) (r q : Roll) (end last : ℕ) (reads : read_in two s ≡ got r end) (reads-fresh : read_in two fresh ≡ got q last) (differ : s ≡ fresh → ⊥) where
+module _ (f : Form) (s fresh : List ℕ) (r q : Roll) (end last : ℕ) (reads : read_in f s ≡ got r end) (reads-fresh : read_in f fresh ≡ got q last) (differ : s ≡ fresh → ⊥) where
   abbrev n : ℕ
   n = shared s fresh
 
@@ -136,14 +135,14 @@ module _ (two : Bool) (s fresh : List ℕ) (r q : Roll) (end last : ℕ) (reads 
   not-all e =
       let whole : take n fresh ≡ s = sym same ∙ take_all n s (omega arith) in
       let split : fresh ≡ s ++ drop n fresh = sym (take-append-drop n fresh) ∙ ap (λ (l : List ℕ). l ++ drop n fresh) whole in
-      let none : drop n fresh ≡ [] = begins-none two s (drop n fresh) r q end last reads (ap (read_in two) (sym split) ∙ reads-fresh) in
+      let none : drop n fresh ≡ [] = begins-none f s (drop n fresh) r q end last reads (ap (read_in f) (sym split) ∙ reads-fresh) in
       differ (sym (append-nil s) ∙ ap (λ (l : List ℕ). s ++ l) (sym none) ∙ sym split)
 
   not-all-fresh : (n ≡ length fresh) → ⊥
   not-all-fresh e =
       let whole : take n s ≡ fresh = same ∙ take_all n fresh (omega arith) in
       let split : s ≡ fresh ++ drop n s = sym (take-append-drop n s) ∙ ap (λ (l : List ℕ). l ++ drop n s) whole in
-      let none : drop n s ≡ [] = begins-none two fresh (drop n s) q r last end reads-fresh (ap (read_in two) (sym split) ∙ reads) in
+      let none : drop n s ≡ [] = begins-none f fresh (drop n s) q r last end reads-fresh (ap (read_in f) (sym split) ∙ reads) in
       differ (split ∙ ap (λ (l : List ℕ). fresh ++ l) none ∙ append-nil fresh)
 
   pub first-differ : FirstDiffer s fresh n
@@ -162,17 +161,17 @@ module _ (two : Bool) (s fresh : List ℕ) (r q : Roll) (end last : ℕ) (reads 
           at-heads xs ys e f parts = rw (e, f) at parts
 
 -- of a roll that reads, whose request has no more histories than the cap, and whose bytes are not its request's: what `confirm` answers, and that place
-pub differs_at : (s : List ℕ) (r : Roll) (end : ℕ) → Bytes s → read_in (is_form2 s) s ≡ got r end → too_many r.kind (request_of (header_of r)) ≡ false → (s ≡ fresh_of (is_form2 s) r → ⊥)
-    → (confirm_of s ≡ refused_opened 20 (shared s (fresh_of (is_form2 s) r))) × FirstDiffer s (fresh_of (is_form2 s) r) (shared s (fresh_of (is_form2 s) r))
+pub differs_at : (s : List ℕ) (r : Roll) (end : ℕ) → Bytes s → read_in (form_of s) s ≡ got r end → too_many r.kind (request_of (header_of r)) ≡ false → (s ≡ fresh_of (form_of s) r → ⊥)
+    → (confirm_of s ≡ refused_opened NotTheExpansion (shared s (fresh_of (form_of s) r))) × FirstDiffer s (fresh_of (form_of s) r) (shared s (fresh_of (form_of s) r))
 unfolding confirm_of confirmed_roll
 differs_at s r end bytes e many other =
-    let two = is_form2 s in
+    let f = form_of s in
     let k = r.kind in
     let os = request_of (header_of r) in
-    let within = roll-within two s r bytes (headed two s r end e) in
+    let within = roll-within f s r bytes (headed f s r end e) in
     let few : length (terms_of k os) ≤ most_terms = ltb-false most_terms (length (terms_of k os)) many in
-    (ap (confirmed_by two s) e ∙ rw (many, not_same (same_numbers s (fresh_of two r)) refl) refl, first-differ two s (fresh_of two r) r (the_roll k os) end (length (fresh_of two r)) e (fresh-reads k os within few two) other)
+    (ap (confirmed_by f s) e ∙ rw (many, not_same (same_numbers s (fresh_of f r)) refl) refl, first-differ f s (fresh_of f r) r (the_roll k os) end (length (fresh_of f r)) e (fresh-reads k os within few f) other)
   where
-    not_same : (b : Bool) → same_numbers s (fresh_of (is_form2 s) r) ≡ b → same_numbers s (fresh_of (is_form2 s) r) ≡ false
-    not_same true f = absurd (other (same-numbers-is s (fresh_of (is_form2 s) r) f))
-    not_same false f = f
+    not_same : (b : Bool) → same_numbers s (fresh_of (form_of s) r) ≡ b → same_numbers s (fresh_of (form_of s) r) ≡ false
+    not_same true g = absurd (other (same-numbers-is s (fresh_of (form_of s) r) g))
+    not_same false g = g

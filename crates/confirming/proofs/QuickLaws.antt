@@ -1,46 +1,51 @@
 -- The functions of src/quick.rt and src/reading.rt: a law for each need and each way out.
 use Prim.Native.Nat.{ℕ, ◌+◌, ◌*◌, ◌%◌, ◌^◌, ◌≤◌, ◌<◌}
-use mathlib.Core.Path.{◌≡◌, refl, ap, ◌∙◌}
+use mathlib.Core.Path.{◌≡◌, refl, sym, ap, ◌∙◌}
 use mathlib.Core.Bool.{Bool, true, false}
 use mathlib.Core.List.{List, []}
 use native.Mathlib.Omega.{arith}
 use native.Mathlib.Numerals.{add-one}
-use borrow.Author.Tests.{eq-eqb, ne_eqb}
-use lib.ListN.{length, get_or, set, drop, drop_of_length-le, length-set}
+use lib.Dec.{eqb}
+use lib.ListN.{length, get_or, drop, drop_of_length-le}
 use Rattle.laws.specs.Total.{total}
 use Rattle.laws.proofs.Totals.{total-drop}
 use Rattle.kind.specs.declared.Kind.{Kind}
-use Rattle.kind.specs.declared.Named.{Named}
-use Rattle.kind.specs.declared.Named.TheVariants as named
 use Rattle.kind.specs.Kinds.{kind_of, number_of, orders_of}
 use Rattle.kind.specs.Limits.{request_orders}
 use Rattle.kind.proofs.Within.{orders-within}
 use Rattle.number.specs.Numbers.{length_of}
 use Rattle.number.proofs.Writing.{length-few}
 use Rattle.roll.specs.declared.header.Opened.{Opened}
-use Rattle.roll.specs.declared.header.Opening.TheVariants as opening
 use Rattle.roll.specs.Header.{check_of}
 use Rattle.form2.specs.declared.header.Opened2.{Opened2}
-use Rattle.form2.specs.Header.{check2_of}
+use Rattle.form2.specs.Header.{judged2, check2_of}
 use Rattle.expansion.specs.declared.matching.Against.{Against}
 use Rattle.expansion.specs.Expanding.{roll_of, roll_of2}
 use Rattle.expansion.specs.Against.{named_against}
 use Rattle.expansion.specs.inner.Requests.{RequestWithin}
 use Rattle.expansion.proofs.HeaderLaws.{all-sums}
-use Rattle.confirming.specs.Confirm.{judged_in, fresh_in}
-use Rattle.confirming.specs.inner.Quick.{plain, request_opened, first_named}
+use Rattle.salvaging.specs.declared.forms.Form.{Form}
+use Rattle.salvaging.specs.declared.forms.Form.TheVariants.{One, Two}
+use Rattle.salvaging.specs.Salvage.{roll_in}
+use Rattle.salvaging.proofs.FormsLaws.{plain, plain_refused}
+use Rattle.confirming.specs.Confirm.{judged_in}
+use Rattle.confirming.specs.inner.Quick.{request_opened, first_named}
+use Rattle.std.specs.Prelude.{Option, None, Result, Ok, Err}
+use Rattle.kind.specs.declared.refusals.Refusal.{Refusal}
+use Rattle.kind.specs.declared.refusals.Fault.{Fault}
 
 -- ---- the kind that the first byte names
 
-pub first-none : (two : Bool) (s : List ℕ) → length s ≡ 0 → named.Unknown ≡ first_named two s
-first-none two s none = rw (eq-eqb (length s) 0 none) refl
+module _ (f : Form) (s : List ℕ) (empty : Bool) (is : empty ≡ eqb (length s) 0) where
+  pub first-none : empty ≡ true → None ≡ first_named f s
+  first-none none = rw (← is, none) refl
 
-module _ (two : Bool) (s : List ℕ) (some : length s ≡ 0 → ⊥) (r : Named) where
-  pub first_two : two ≡ true → r ≡ kind_of (get_or s 0 0 % 16) → r ≡ first_named two s
-  first_two on is = rw (ne_eqb (length s) 0 some, on) is
+  module _ (some : empty ≡ false) (r : Option Kind) where
+    pub first_one : f ≡ One → r ≡ kind_of (get_or s 0 0) → r ≡ first_named f s
+    first_one on answer = rw (← is, some, on) answer
 
-  pub first_one : two ≡ false → r ≡ kind_of (get_or s 0 0) → r ≡ first_named two s
-  first_one off is = rw (ne_eqb (length s) 0 some, off) is
+    pub first_two : f ≡ Two → r ≡ kind_of (get_or s 0 0 % 16) → r ≡ first_named f s
+    first_two on answer = rw (← is, some, on) answer
 
 -- ---- the sum of the orders
 
@@ -78,7 +83,7 @@ module _ (k : Kind) (os : List ℕ) (within : RequestWithin k os) where
   sum-small v e = let h = (all-sums k os within).deep in omega arith
 
   pub opened-made : (n o l count v : ℕ) → o ≡ orders_of k → l ≡ length_of count → n ≡ number_of k → v ≡ total os
-      → ◌≡◌ {A = Opened} (record { found = opening.Roll; cursor = record { place = 1 + o + l; left = count; kind = n; l = v }; orders = os }) (request_opened k os count)
+      → ◌≡◌ {A = Opened} (record { cursor = record { place = 1 + o + l; left = count; kind = n; l = v }; orders = os }) (request_opened k os count)
   opened-made n o l count v a b c d = rw (a, b, c, d) refl
 
 pub place-fits : (k : Kind) (o : ℕ) → o ≡ orders_of k → 1 + o < 2 ^ 64
@@ -89,33 +94,31 @@ place-whole k o l count e f = let h = orders-within k in let g = length-few coun
 
 -- ---- in either form
 
-module _ (two : Bool) (s : List ℕ) where
-  pub judged-two : (o : Opened2) (y : Opened) → two ≡ true → o ≡ check2_of s → y ≡ plain o → y ≡ judged_in two s
+-- the cursor at the first term, without what form 2 holds beside it
+module _ (s : List ℕ) (y : Result Opened2 Fault) (is : y ≡ check2_of s) where
+  pub judged_plain : (o : Opened2) → y ≡ Ok o → ◌≡◌ {A = Result Opened Fault} (Ok (record { cursor = o.cursor.cursor; orders = o.orders })) (judged2 s)
   unfolding check2_of
-  judged-two o y on is answer = answer ∙ ap plain is ∙ rw on refl
+  judged_plain o e = plain (judged2 s) o (sym is ∙ e)
 
-  pub judged-one : (y : Opened) → two ≡ false → y ≡ check_of s → y ≡ judged_in two s
-  judged-one y off answer = rw off answer
+  pub judged_refused : (why : Fault) → y ≡ Err why → Err why ≡ judged2 s
+  unfolding check2_of
+  judged_refused why e = plain_refused (judged2 s) why (sym is ∙ e)
 
-  module _ (kind : ℕ) (os : List ℕ) (r : Against) where
-    pub held_two : two ≡ true → r ≡ named_against roll_of2 (kind_of kind) os s → r ≡ named_against (fresh_in two) (kind_of kind) os s
+module _ (f : Form) (s : List ℕ) where
+  pub judged-one : (y : Result Opened Fault) → f ≡ One → y ≡ check_of s → y ≡ judged_in f s
+  judged-one y on answer = rw on answer
+
+  pub judged-two : (y : Result Opened Fault) → f ≡ Two → y ≡ judged2 s → y ≡ judged_in f s
+  judged-two y on answer = rw on answer
+
+  module _ (kind : ℕ) (os : List ℕ) (r : Result Against Refusal) where
+    pub held_one : f ≡ One → r ≡ named_against roll_of (kind_of kind) os s → r ≡ named_against (roll_in f) (kind_of kind) os s
+    held_one on answer = rw on answer
+
+    pub held_two : f ≡ Two → r ≡ named_against roll_of2 (kind_of kind) os s → r ≡ named_against (roll_in f) (kind_of kind) os s
     held_two on answer = rw on answer
-
-    pub held_one : two ≡ false → r ≡ named_against roll_of (kind_of kind) os s → r ≡ named_against (fresh_in two) (kind_of kind) os s
-    held_one off answer = rw off answer
 
 -- ---- the orders behind the first byte
 
 pub orders-most : (k : Kind) (n : ℕ) → n ≡ orders_of k → n ≤ request_orders
 orders-most k n e = let h = orders-within k in omega arith
-
--- so many are copied
-pub record Copying (count : ℕ) (orders : List ℕ) (i : ℕ) : Type 0 where
-  pub long : length orders ≡ request_orders
-  pub within : i ≤ count
-
-pub copying-first : (count : ℕ) (orders : List ℕ) → length orders ≡ request_orders → Copying count orders 0
-copying-first count orders long = record { long = long; within = omega arith }
-
-pub copying-more : (count : ℕ) (orders : List ℕ) (i v : ℕ) → Copying count orders i → i < count → Copying count (set orders i v) (i + 1)
-copying-more count orders i v c less = record { long = length-set orders i v ∙ c.long; within = omega arith }

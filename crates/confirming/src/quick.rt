@@ -5,21 +5,21 @@ ghost use Rattle.laws.specs.Total.{total};
 ghost use Rattle.expansion.specs.inner.Requests.{RequestWithin};
 ghost use Rattle.confirming.specs.inner.Quick.{first_named, request_opened};
 
-use kind::{Kind, Named};
-use roll::{Cursor, Opened, Opening};
+use kind::Kind;
+use roll::{Cursor, Opened};
+use salvaging::Form;
 
 // The kind that the first byte names; form 2 adds 16 to its number.
-pub(crate) fn named_in(two: bool, roll: &[u8]) -> Named
-    ensures { result ≡ first_named two roll.now }
+pub(crate) fn named_in(form: Form, roll: &[u8]) -> Option<Kind>
+    ensures { result ≡ first_named form roll.now }
 {
-    if roll.len() == 0 {
-        return Named::Unknown;
+    if roll.is_empty() {
+        return None;
     }
-    let first = roll[0];
-    if two {
-        return Kind::of(first % 16);
+    match form {
+        Form::One => Kind::of(roll[0]),
+        Form::Two => Kind::of(roll[0] % 16),
     }
-    Kind::of(first)
 }
 
 // The orders behind the first byte, as many as a kind has, and zeros behind them.
@@ -28,11 +28,7 @@ pub(crate) fn orders_in(roll: &[u8], count: usize) -> [u8; Kind::ORDERS]
     ensures { length result ≡ request_orders }
 {
     let mut orders = [0; Kind::ORDERS];
-    let mut i = 0;
-    while i < count {
-        orders[i] = roll[1 + i];
-        i += 1;
-    }
+    orders[..count].copy_from_slice(&roll[1..1 + count]);
     orders
 }
 
@@ -48,10 +44,8 @@ fn sum(orders: [u8; Kind::ORDERS]) -> u32
     ensures { result ≡ total orders }
 {
     let mut sum = 0;
-    let mut i = 0;
-    while i < Kind::ORDERS {
-        sum += in_sum(orders[i]);
-        i += 1;
+    for order in orders.iter() {
+        sum += in_sum(*order);
     }
     sum
 }
@@ -61,14 +55,11 @@ pub(crate) fn opened_of(kind: Kind, orders: [u8; Kind::ORDERS], count: u32) -> O
     requires { RequestWithin kind orders }
     ensures { result ≡ request_opened kind orders count }
 {
-    Opened {
-        found: Opening::Roll,
-        cursor: Cursor {
-            place: 1 + kind.orders() + number::length(count),
-            left: count,
-            kind: kind.number(),
-            l: sum(orders) as u8,
-        },
-        orders,
-    }
+    let cursor = Cursor {
+        place: 1 + kind.orders() + number::length(count),
+        left: count,
+        kind: kind.number(),
+        l: sum(orders) as u8,
+    };
+    Opened { cursor, orders }
 }

@@ -1,46 +1,48 @@
 // Both forms: the judge's answer, and a request's roll held against bytes.
 ghost use Rattle.std.specs.Prelude.{◌≡◌};
 ghost use Rattle.kind.specs.Kinds.{kind_of};
+ghost use Rattle.form2.specs.Header.{judged2};
 ghost use Rattle.expansion.specs.Against.{named_against};
-ghost use Rattle.confirming.specs.Confirm.{judged_in, fresh_in};
-ghost use Rattle.confirming.specs.inner.Quick.{plain};
+ghost use Rattle.salvaging.specs.Salvage.{roll_in};
+ghost use Rattle.confirming.specs.Confirm.{judged_in};
 
 use expansion::{Against, against, against2};
-use form2::{Opened2, check2};
-use kind::Kind;
+use form2::check2;
+use kind::{Fault, Kind, Refusal};
 use roll::{Opened, check};
+use salvaging::Form;
 
-// A form 2 answer without the term before.
-fn plain(opened: Opened2) -> Opened
-    ensures { result ≡ plain opened }
+// A form 2 roll judged; the answer without the term before.
+fn judged2(roll: &[u8]) -> Result<Opened, Fault>
+    ensures { result ≡ judged2 roll.now }
 {
-    let found = opened.found;
-    let first = opened.cursor;
-    let cursor = first.cursor;
+    let opened = check2(roll)?;
+    let cursor = opened.cursor.cursor;
     let orders = opened.orders;
-    Opened {
-        found,
-        cursor,
-        orders,
-    }
+    Ok(Opened { cursor, orders })
 }
 
 // A whole roll judged in its form.
-pub(crate) fn judged(two: bool, roll: &[u8]) -> Opened
-    ensures { result ≡ judged_in two roll.now }
+pub(crate) fn judged(form: Form, roll: &[u8]) -> Result<Opened, Fault>
+    ensures { result ≡ judged_in form roll.now }
 {
-    if two {
-        return plain(check2(roll));
+    match form {
+        Form::One => check(roll),
+        Form::Two => judged2(roll),
     }
-    check(roll)
 }
 
 // A request's roll in a form, held against bytes.
-pub(crate) fn held(two: bool, kind: u8, orders: [u8; Kind::ORDERS], roll: &[u8]) -> Against
-    ensures { result ≡ named_against (fresh_in two) (kind_of kind) orders roll.now }
+pub(crate) fn held(
+    form: Form,
+    kind: u8,
+    orders: [u8; Kind::ORDERS],
+    roll: &[u8],
+) -> Result<Against, Refusal>
+    ensures { result ≡ named_against (roll_in form) (kind_of kind) orders roll.now }
 {
-    if two {
-        return against2(kind, orders, roll);
+    match form {
+        Form::One => against(kind, orders, roll),
+        Form::Two => against2(kind, orders, roll),
     }
-    against(kind, orders, roll)
 }

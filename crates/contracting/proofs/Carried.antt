@@ -11,13 +11,14 @@ use Rattle.laws.proofs.Cases.{tested, and-true-both}
 use Rattle.kind.specs.declared.Kind.{Kind}
 use Rattle.term.specs.Terms.{Term}
 use Rattle.geometry.specs.Floats.{◌⊕◌, ◌⊗◌, zero as 0·0}
-use Rattle.integrals.specs.declared.Value.{Value}
-use Rattle.integrals.specs.declared.Value.TheVariants.{Refused}
-use Rattle.integrals.specs.Values.{refused_unless, result_of}
-use Rattle.contracting.specs.Pairs.{Pair, Row, all_pairs, every}
+use Rattle.integrals.specs.Values.{Value, refused_unless, result_of}
+use Rattle.contracting.specs.Pairs.{Pair, Row, all_pairs}
 use Rattle.contracting.specs.Elements.{pair_geometry, pair_value, share_of, inner_from, inner_of, outer_from, element_of}
 use Rattle.contracting.specs.inner.Summed.{kept_value}
-use Rattle.contracting.proofs.EachPair.{every-both}
+use Rattle.std.proofs.lemmas.List.Folds.{list_all-append}
+use Rattle.std.specs.List.{list_all}
+use Rattle.std.specs.Prelude.{Err}
+use Rattle.kind.specs.declared.refusals.Refusal.TheVariants.{ResultNotFinite}
 
 -- ---- of one product or sum
 
@@ -52,22 +53,22 @@ module _ (v : Pair → Float) where
   unfolding share_of
   share-finite p e = (product-finite (p.left.norm ⊗ p.right.norm) (v p) (product-finite p.left.coefficient (p.left.norm ⊗ p.right.norm ⊗ v p) e).1).1
 
-  pub inner-finite : (ps : List Pair) (sum : Float) → finite (inner_from v ps sum) ≡ true → (finite sum ≡ true) × (every (λ (p : Pair). finite (v p)) ps ≡ true)
-  unfolding inner_from every
+  pub inner-finite : (ps : List Pair) (sum : Float) → finite (inner_from v ps sum) ≡ true → (finite sum ≡ true) × (list_all (λ (p : Pair). finite (v p)) ps ≡ true)
+  unfolding inner_from
   inner-finite [] sum e = (e, refl)
   inner-finite (p ∷ ps) sum e =
       let rest = inner-finite ps (sum ⊕ share_of v p) e in
       let both = sum-finite sum (share_of v p) rest.0 in
       (both.0, rw (share-finite p both.1) rest.1)
 
-  pub outer-finite : (rows : List Row) (sum : Float) → finite (outer_from v rows sum) ≡ true → (finite sum ≡ true) × (every (λ (p : Pair). finite (v p)) (all_pairs rows) ≡ true) × (every (λ (row : Row). finite (inner_of v row)) rows ≡ true)
-  unfolding outer_from inner_of all_pairs every
+  pub outer-finite : (rows : List Row) (sum : Float) → finite (outer_from v rows sum) ≡ true → (finite sum ≡ true) × (list_all (λ (p : Pair). finite (v p)) (all_pairs rows) ≡ true) × (list_all (λ (row : Row). finite (inner_of v row)) rows ≡ true)
+  unfolding outer_from inner_of all_pairs
   outer-finite [] sum e = (e, refl, refl)
   outer-finite (row ∷ rows) sum e =
       let rest = outer-finite rows (sum ⊕ row.right.coefficient ⊗ inner_of v row) e in
       let both = sum-finite sum (row.right.coefficient ⊗ inner_of v row) rest.0 in
       let inner : finite (inner_of v row) ≡ true = (product-finite row.right.coefficient (inner_of v row) both.1).1 in
-      (both.0, every-both (λ (p : Pair). finite (v p)) row.pairs (all_pairs rows) ∙ rw (inner-finite row.pairs 0·0 inner).1 rest.1, rw (inner) rest.2)
+      (both.0, list_all-append (λ (p : Pair). finite (v p)) row.pairs (all_pairs rows) ∙ rw (inner-finite row.pairs 0·0 inner).1 rest.1, rw (inner) rest.2)
 
 -- ---- the value of a pair whose geometry is finite
 
@@ -76,28 +77,27 @@ module _ (k : Kind) (l : ℕ) (ts : List Term) where
   unfolding kept_value of_bits
   kept_fine p e = tested (pair_geometry k p) (λ t. t) (λ f. absurd (false≢true (rw f at e)))
 
-  all-kept : (ps : List Pair) → every (λ (p : Pair). finite (kept_value k l ts p)) ps ≡ true → every (pair_geometry k) ps ≡ true
-  unfolding every
+  all-kept : (ps : List Pair) → list_all (λ (p : Pair). finite (kept_value k l ts p)) ps ≡ true → list_all (pair_geometry k) ps ≡ true
   all-kept [] e = refl
   all-kept (p ∷ ps) e =
-      let both = and-true-both (finite (kept_value k l ts p)) (every (λ (p : Pair). finite (kept_value k l ts p)) ps) e in
+      let both = and-true-both (finite (kept_value k l ts p)) (list_all (λ (p : Pair). finite (kept_value k l ts p)) ps) e in
       rw (kept_fine p both.0) (all-kept ps both.1)
 
-  same-inner : (ps : List Pair) (sum : Float) → every (pair_geometry k) ps ≡ true → inner_from (kept_value k l ts) ps sum ≡ inner_from (pair_value k l ts) ps sum
-  unfolding inner_from every share_of kept_value
+  same-inner : (ps : List Pair) (sum : Float) → list_all (pair_geometry k) ps ≡ true → inner_from (kept_value k l ts) ps sum ≡ inner_from (pair_value k l ts) ps sum
+  unfolding inner_from share_of kept_value
   same-inner [] sum e = refl
   same-inner (p ∷ ps) sum e =
-      let both = and-true-both (pair_geometry k p) (every (pair_geometry k) ps) e in
+      let both = and-true-both (pair_geometry k p) (list_all (pair_geometry k) ps) e in
       rw both.0 (same-inner ps (sum ⊕ share_of (pair_value k l ts) p) both.1)
 
-  same-outer : (rows : List Row) (sum : Float) → every (pair_geometry k) (all_pairs rows) ≡ true → outer_from (kept_value k l ts) rows sum ≡ outer_from (pair_value k l ts) rows sum
+  same-outer : (rows : List Row) (sum : Float) → list_all (pair_geometry k) (all_pairs rows) ≡ true → outer_from (kept_value k l ts) rows sum ≡ outer_from (pair_value k l ts) rows sum
   unfolding outer_from inner_of all_pairs
   same-outer [] sum e = refl
   same-outer (row ∷ rows) sum e =
-      let both = and-true-both (every (pair_geometry k) row.pairs) (every (pair_geometry k) (all_pairs rows)) (sym (every-both (pair_geometry k) row.pairs (all_pairs rows)) ∙ e) in
+      let both = and-true-both (list_all (pair_geometry k) row.pairs) (list_all (pair_geometry k) (all_pairs rows)) (sym (list_all-append (pair_geometry k) row.pairs (all_pairs rows)) ∙ e) in
       rw (same-inner row.pairs 0·0 both.0) (same-outer rows (sum ⊕ row.right.coefficient ⊗ inner_from (pair_value k l ts) row.pairs 0·0) both.1)
 
-  all-eleven : (p q : Bool) (x : Float) → finite x ≡ false → Refused 11 0 ≡ refused_unless p 11 (refused_unless q 11 (result_of x))
+  all-eleven : (p q : Bool) (x : Float) → finite x ≡ false → Err ResultNotFinite ≡ refused_unless p ResultNotFinite (refused_unless q ResultNotFinite (result_of x))
   unfolding refused_unless result_of
   all-eleven true true x e = rw e
   all-eleven true false x e = refl
@@ -105,13 +105,13 @@ module _ (k : Kind) (l : ℕ) (ts : List Term) where
 
   module _ (rows : List Row) where
     abbrev values : Bool
-    values = every (λ (p : Pair). finite (pair_value k l ts p)) (all_pairs rows)
+    values = list_all (λ (p : Pair). finite (pair_value k l ts p)) (all_pairs rows)
 
     abbrev inners : Bool
-    inners = every (λ (row : Row). finite (inner_of (pair_value k l ts) row)) rows
+    inners = list_all (λ (row : Row). finite (inner_of (pair_value k l ts) row)) rows
 
     abbrev eleven : Value
-    eleven = refused_unless (every (pair_geometry k) (all_pairs rows)) 11 (refused_unless values 11 (refused_unless inners 11 (result_of (element_of (pair_value k l ts) rows))))
+    eleven = refused_unless (list_all (pair_geometry k) (all_pairs rows)) ResultNotFinite (refused_unless values ResultNotFinite (refused_unless inners ResultNotFinite (result_of (element_of (pair_value k l ts) rows))))
 
     element-finite : finite (element_of (kept_value k l ts) rows) ≡ true → result_of (element_of (kept_value k l ts) rows) ≡ eleven
     unfolding element_of refused_unless
@@ -124,7 +124,7 @@ module _ (k : Kind) (l : ℕ) (ts : List Term) where
     element-not : finite (element_of (kept_value k l ts) rows) ≡ false → result_of (element_of (kept_value k l ts) rows) ≡ eleven
     unfolding element_of refused_unless result_of
     element-not e =
-        tested (every (pair_geometry k) (all_pairs rows))
+        tested (list_all (pair_geometry k) (all_pairs rows))
         (λ geometry. let same = same-outer rows 0·0 geometry in rw (geometry, e) (all-eleven values inners (element_of (pair_value k l ts) rows) (rw (same) at e)))
         (λ not. rw (not, e))
 

@@ -17,9 +17,10 @@ use Rattle.integrals.proofs.Charges.{factor-recharged}
 use Rattle.roll.specs.Reading.{Reading, got, refused, Roll, roll_at}
 use Rattle.contracting.specs.declared.Primitive.{Primitive}
 use Rattle.contracting.specs.declared.Contracted.{Contracted}
-use Rattle.contracting.specs.Pairs.{primitives_of, Pair, Row, pairs_with, rows_from, rows_of, all_pairs, every}
+use Rattle.contracting.specs.Pairs.{primitives_of, Pair, Row, pairs_with, rows_from, rows_of, all_pairs}
 use Rattle.contracting.specs.Elements.{pair_finite, pair_above_zero, pair_geometry, pair_value, share_of, inner_from, inner_of, outer_from, element_of, checked_of, of_roll, contracted_of}
-use Rattle.contracting.proofs.EachPair.{every-both}
+use Rattle.std.proofs.lemmas.List.Folds.{list_all-append}
+use Rattle.std.specs.List.{list_all}
 
 -- primitives with other charges, whichever they are
 abbrev pub recharged_primitive : Primitive → ℕ → Primitive
@@ -68,19 +69,19 @@ take_same q (suc n) (p ∷ ps) = rw (take_same (λ (i : ℕ). q (suc i)) n ps)
 
 module _ (host : List Float) where
   module _ (P : Pair → Bool) (same : (p : Pair) (x y : ℕ) → P (recharged_pair p x y) ≡ P p) where
-    row_same : (q : ℕ → ℕ) (y at : ℕ) (b : Primitive) (lefts : List Primitive) → every P (pairs_with host at (recharged_primitive b y) (recharged_all q lefts)) ≡ every P (pairs_with host at b lefts)
-    unfolding every pairs_with
+    row_same : (q : ℕ → ℕ) (y at : ℕ) (b : Primitive) (lefts : List Primitive) → list_all P (pairs_with host at (recharged_primitive b y) (recharged_all q lefts)) ≡ list_all P (pairs_with host at b lefts)
+    unfolding pairs_with
     row_same q y at b [] = refl
     row_same q y at b (a ∷ lefts) = rw (same (record { left = a; right = b; aux = get_or host at 0·0 }) (q 0) y, row_same (λ (i : ℕ). q (suc i)) y (suc at) b lefts)
 
-    rows_same : (q r : ℕ → ℕ) (lefts : List Primitive) (j : ℕ) (rights : List Primitive) → every P (all_pairs (rows_from host (recharged_all q lefts) j (recharged_all r rights))) ≡ every P (all_pairs (rows_from host lefts j rights))
+    rows_same : (q r : ℕ → ℕ) (lefts : List Primitive) (j : ℕ) (rights : List Primitive) → list_all P (all_pairs (rows_from host (recharged_all q lefts) j (recharged_all r rights))) ≡ list_all P (all_pairs (rows_from host lefts j rights))
     unfolding all_pairs rows_from
     rows_same q r lefts j [] = refl
     rows_same q r lefts j (b ∷ rights) =
         rw (length-same q lefts)
-        (every-both P (pairs_with host (j * length lefts) (recharged_primitive b (r 0)) (recharged_all q lefts)) (all_pairs (rows_from host (recharged_all q lefts) (suc j) (recharged_all (λ (i : ℕ). r (suc i)) rights)))
+        (list_all-append P (pairs_with host (j * length lefts) (recharged_primitive b (r 0)) (recharged_all q lefts)) (all_pairs (rows_from host (recharged_all q lefts) (suc j) (recharged_all (λ (i : ℕ). r (suc i)) rights)))
         ∙ rw (row_same q (r 0) (j * length lefts) b lefts, rows_same q (λ (i : ℕ). r (suc i)) lefts (suc j) rights)
-        (sym (every-both P (pairs_with host (j * length lefts) b lefts) (all_pairs (rows_from host lefts (suc j) rights)))))
+        (sym (list_all-append P (pairs_with host (j * length lefts) b lefts) (all_pairs (rows_from host lefts (suc j) rights)))))
 
   module _ (v : Pair → Float) (same : (p : Pair) (x y : ℕ) → v (recharged_pair p x y) ≡ v p) where
     share-same : (p : Pair) (x y : ℕ) → share_of v (recharged_pair p x y) ≡ share_of v p
@@ -94,8 +95,8 @@ module _ (host : List Float) where
         let p : Pair = record { left = a; right = b; aux = get_or host at 0·0 } in
         inner-same (λ (i : ℕ). q (suc i)) y (suc at) b lefts (sum ⊕ share_of v (recharged_pair p (q 0) y)) ∙ ap (λ (x : Float). inner_from v (pairs_with host (suc at) b lefts) (sum ⊕ x)) (share-same p (q 0) y)
 
-    inners-same : (q r : ℕ → ℕ) (lefts : List Primitive) (j : ℕ) (rights : List Primitive) → every (λ (row : Row). finite (inner_of v row)) (rows_from host (recharged_all q lefts) j (recharged_all r rights)) ≡ every (λ (row : Row). finite (inner_of v row)) (rows_from host lefts j rights)
-    unfolding every rows_from inner_of
+    inners-same : (q r : ℕ → ℕ) (lefts : List Primitive) (j : ℕ) (rights : List Primitive) → list_all (λ (row : Row). finite (inner_of v row)) (rows_from host (recharged_all q lefts) j (recharged_all r rights)) ≡ list_all (λ (row : Row). finite (inner_of v row)) (rows_from host lefts j rights)
+    unfolding rows_from inner_of
     inners-same q r lefts j [] = refl
     inners-same q r lefts j (b ∷ rights) = rw (length-same q lefts, inner-same q (r 0) (j * length lefts) b lefts 0·0, inners-same q (λ (i : ℕ). r (suc i)) lefts (suc j) rights)
 

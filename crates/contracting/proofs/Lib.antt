@@ -1,7 +1,6 @@
 pub mod Answers
 pub mod Carried
 pub mod Charges
-pub mod CheckLaws
 pub mod EachPair
 pub mod OnePrimitive
 pub mod OneTimes

@@ -1,16 +1,19 @@
 -- One primitive on each side, with norms and coefficients 1.0: the plain evaluation of its two centres, its value v under the two sums as 0.0 + (0.0 + v).
-use Prim.Native.Nat.{ℕ, suc}
+use Prim.Native.Nat.{ℕ}
 use mathlib.Core.Path.{◌≡◌, refl, sym, ap, ◌∙◌}
 use mathlib.Core.Bool.{Bool, true, false, and-true, false≢true}
 use mathlib.Core.List.{List, [], ◌∷◌}
-use native.Mathlib.Omega.{arith}
 use lib.Dec.{T}
 use lib.Ieee.{Float, binary64, fits, of_bits}
 use lib.Ieee.Bits.{of_bits-fits}
 use lib.Ieee.Fits.{add-fits}
 use lib.Ieee.Scale.{finite}
 use Rattle.laws.specs.Total.{total}
-use Rattle.laws.proofs.Cases.{tested}
+use Rattle.laws.specs.Unless.{unless}
+use Rattle.laws.proofs.Cases.{tested, clash}
+use Rattle.std.specs.Prelude.{Ok, Err}
+use Rattle.kind.specs.declared.refusals.Refusal.TheVariants.{WrongKind, InputNotFinite, Exponent, ResultNotFinite}
+use Rattle.kind.specs.Refusals.{unplaced, without_place}
 use Rattle.kind.specs.declared.Kind.{Kind}
 use Rattle.kind.specs.declared.Kind.TheVariants.{Overlap, Kinetic, Nuclear, Moment, Coulomb}
 use Rattle.term.specs.Terms.{Term}
@@ -18,18 +21,17 @@ use Rattle.roll.specs.Reading.{Reading, got, refused, Roll, roll_at}
 use Rattle.geometry.specs.declared.Centre.{Centre}
 use Rattle.geometry.specs.Floats.{◌⊕◌, ◌⊗◌, zero as 0·0, one, all_finite}
 use Rattle.geometry.specs.Checks.{exponents_above_zero, geometry_finite}
-use Rattle.integrals.specs.declared.Value.{Value}
-use Rattle.integrals.specs.declared.Value.TheVariants.{Is, Refused}
 use Rattle.integrals.specs.Sums.{sum_from, total_of, integral_of}
-use Rattle.integrals.specs.Values.{inputs_finite, refused_unless, result_of, value_of}
-use Rattle.integrals.specs.Evaluation.{of_roll as evaluated_of, evaluate_of, refusal_of, float_of}
+use Rattle.integrals.specs.Values.{Value, inputs_finite, refused_unless, result_of, value_of}
+use Rattle.integrals.specs.Evaluation.{Answer, of_roll as evaluated_of, evaluate_of}
 use Rattle.contracting.specs.declared.Primitive.{Primitive}
 use Rattle.contracting.specs.declared.Contracted.{Contracted}
-use Rattle.contracting.specs.Pairs.{counted, primitives_of, Pair, Row, pairs_with, rows_from, rows_of, all_pairs, every}
+use Rattle.contracting.specs.Pairs.{counted, primitives_of, Pair, Row, pairs_with, rows_from, rows_of, all_pairs}
 use Rattle.contracting.specs.Elements.{contracts, pair_finite, pair_above_zero, pair_geometry, pair_value, share_of, inner_from, inner_of, outer_from, element_of, checked_of, of_roll, contracted_of}
 use Rattle.contracting.proofs.Carried.{sum-finite}
 use Rattle.contracting.proofs.OneTimes.{one-times, minus_zero, zero-plus}
 use Rattle.contracting.proofs.PlainPairs.{finite-any, above-any, geometry-any, integral-any, evaluated}
+use Rattle.std.specs.List.{list_all}
 
 -- a function of one primitive; anything may lie beyond it
 abbrev pub plain : Centre → Primitive
@@ -39,14 +41,27 @@ abbrev pub lone : Centre → List Primitive → Contracted
 lone c rest = record { primitives = plain c ∷ rest; count = 1 }
 
 -- an evaluation's value under both sums
-abbrev pub summed_twice : Value → Value
-summed_twice (Is v) = result_of (0·0 ⊕ (0·0 ⊕ v))
-summed_twice (Refused number place) = Refused number place
+abbrev pub summed_twice : Answer → Answer
+summed_twice (Ok v) = without_place (result_of (0·0 ⊕ (0·0 ⊕ v)))
+summed_twice (Err why) = Err why
 
 -- 1 for a roll of another kind, once it has been read
-abbrev pub of_these_kinds : Reading Roll → Value → Value
-of_these_kinds (got roll end) v = refused_unless (contracts roll.kind) 1 v
-of_these_kinds (refused number place) v = v
+abbrev pub of_these_kinds : Reading Roll → Answer → Answer
+of_these_kinds (got roll end) v = unless (contracts roll.kind) (Err (unplaced WrongKind)) v
+of_these_kinds (refused r place) v = v
+
+-- the same of what has no place
+abbrev twice : Value → Value
+twice (Ok v) = result_of (0·0 ⊕ (0·0 ⊕ v))
+twice (Err r) = Err r
+
+twice-outside : (v : Value) → without_place (twice v) ≡ summed_twice (without_place v)
+twice-outside (Ok v) = refl
+twice-outside (Err r) = refl
+
+value-in : (v : Value) (x : Float) → without_place v ≡ Ok x → v ≡ Ok x
+value-in (Ok y) x e = cc
+value-in (Err r) x e = absurd (clash (cc))
 
 -- ---- sums
 
@@ -55,7 +70,7 @@ unfolding sum_from
 sum_fits adds [] sum t = t
 sum_fits adds (x ∷ xs) sum t = sum_fits adds xs (sum ⊕ adds x) (add-fits binary64 sum (adds x))
 
-both-results : (v : Float) → refused_unless (finite v) 11 (refused_unless (finite (0·0 ⊕ v)) 11 (result_of (0·0 ⊕ (0·0 ⊕ v)))) ≡ summed_twice (result_of v)
+both-results : (v : Float) → refused_unless (finite v) ResultNotFinite (refused_unless (finite (0·0 ⊕ v)) ResultNotFinite (result_of (0·0 ⊕ (0·0 ⊕ v)))) ≡ twice (result_of v)
 unfolding refused_unless result_of
 both-results v =
     tested (finite v)
@@ -65,7 +80,7 @@ both-results v =
     not_after : finite (0·0 ⊕ v) ≡ false → finite (0·0 ⊕ (0·0 ⊕ v)) ≡ false
     not_after f = tested (finite (0·0 ⊕ (0·0 ⊕ v))) (λ e. absurd (false≢true (sym f ∙ (sum-finite 0·0 (0·0 ⊕ v) e).1))) (λ e. e)
 
-in_order : (i e g : Bool) (v : Float) → refused_unless i 8 (refused_unless e 9 (refused_unless g 11 (refused_unless (finite v) 11 (refused_unless (finite (0·0 ⊕ v)) 11 (result_of (0·0 ⊕ (0·0 ⊕ v))))))) ≡ summed_twice (refused_unless i 8 (refused_unless e 9 (refused_unless g 11 (result_of v))))
+in_order : (i e g : Bool) (v : Float) → refused_unless i InputNotFinite (refused_unless e Exponent (refused_unless g ResultNotFinite (refused_unless (finite v) ResultNotFinite (refused_unless (finite (0·0 ⊕ v)) ResultNotFinite (result_of (0·0 ⊕ (0·0 ⊕ v))))))) ≡ twice (refused_unless i InputNotFinite (refused_unless e Exponent (refused_unless g ResultNotFinite (result_of v))))
 unfolding refused_unless
 in_order true true true v = both-results v
 in_order true true false v = refl
@@ -73,20 +88,20 @@ in_order true false g v = refl
 in_order false e g v = refl
 
 -- an evaluation's value that is not −0.0 comes back from both sums as it is
-not-nought : (n : ℕ) → suc n ≡ 0 → ⊥
-not-nought n e = omega (arith, e)
-
-given-value : (i e g : Bool) (v x : Float) → refused_unless i 8 (refused_unless e 9 (refused_unless g 11 (result_of v))) ≡ Is x → (x ≡ v) × (finite v ≡ true)
+given-value : (i e g : Bool) (v x : Float) → refused_unless i InputNotFinite (refused_unless e Exponent (refused_unless g ResultNotFinite (result_of v))) ≡ Ok x → (x ≡ v) × (finite v ≡ true)
 unfolding refused_unless result_of
-given-value false e g v x is = absurd (not-nought 7 (ap refusal_of is))
-given-value true false g v x is = absurd (not-nought 8 (ap refusal_of is))
-given-value true true false v x is = absurd (not-nought 10 (ap refusal_of is))
-given-value true true true v x is =
-    tested (finite v)
-    (λ f. (ap float_of (sym (rw (f) at is)), f))
-    (λ f. absurd (not-nought 10 (ap refusal_of (rw (f) at is))))
+given-value false e g v x is = absurd (clash (cc))
+given-value true false g v x is = absurd (clash (cc))
+given-value true true false v x is = absurd (clash (cc))
+given-value true true true v x is = tested (finite v) (λ f. (value-same v x (rw (f) at is), f)) (λ f. absurd (refused-not x (rw (f) at is)))
+  where
+    value-same : (v x : Float) → ◌≡◌ {A = Value} (Ok v) (Ok x) → x ≡ v
+    value-same v x e = cc
 
-same-result : (v : Float) → T (fits binary64 v) → minus_zero v ≡ false → finite v ≡ true → result_of (0·0 ⊕ (0·0 ⊕ v)) ≡ Is v
+    refused-not : (x : Float) → ◌≡◌ {A = Value} (Err ResultNotFinite) (Ok x) → ⊥
+    refused-not x e = clash (cc)
+
+same-result : (v : Float) → T (fits binary64 v) → minus_zero v ≡ false → finite v ≡ true → result_of (0·0 ⊕ (0·0 ⊕ v)) ≡ Ok v
 unfolding refused_unless result_of
 same-result v t e f = rw (zero-plus v t e, zero-plus v t e, f)
 
@@ -100,16 +115,16 @@ module _ (a b c d : Centre) (aux : Float) where
   rows = record { right = plain b; pairs = pair ∷ [] } ∷ []
 
   module _ (k : Kind) (kept : contracts k ≡ true) where
-    finite-plain : every (pair_finite k) (pair ∷ []) ≡ inputs_finite k a b c d aux []
-    unfolding every pair_finite all_finite of_bits
+    finite-plain : list_all (pair_finite k) (pair ∷ []) ≡ inputs_finite k a b c d aux []
+    unfolding pair_finite all_finite of_bits
     finite-plain = and-true _ ∙ and-true _ ∙ finite-any a b c d aux k kept
 
-    above-plain : every (pair_above_zero k) (pair ∷ []) ≡ exponents_above_zero k a b c d
-    unfolding every pair_above_zero
+    above-plain : list_all (pair_above_zero k) (pair ∷ []) ≡ exponents_above_zero k a b c d
+    unfolding pair_above_zero
     above-plain = and-true _ ∙ above-any a b c d k kept
 
-    geometry-plain : every (pair_geometry k) (pair ∷ []) ≡ geometry_finite k a b c d
-    unfolding every pair_geometry
+    geometry-plain : list_all (pair_geometry k) (pair ∷ []) ≡ geometry_finite k a b c d
+    unfolding pair_geometry
     geometry-plain = and-true _ ∙ geometry-any a b c d k kept
 
   module _ (l : ℕ) (ts : List Term) where
@@ -144,45 +159,45 @@ module _ (a b c d : Centre) (aux : Float) where
       unfolding outer_from inner_of
       outer-plain = rw (inner-plain) (ap (λ (x : Float). 0·0 ⊕ x) (one-times (0·0 ⊕ v) (add-fits binary64 0·0 v)))
 
-      values-plain : every (λ (p : Pair). finite (pair_value k l ts p)) (pair ∷ []) ≡ finite v
-      unfolding every
+      values-plain : list_all (λ (p : Pair). finite (pair_value k l ts p)) (pair ∷ []) ≡ finite v
       values-plain = rw (value-plain) (and-true (finite v))
 
-      inners-plain : every (λ (row : Row). finite (inner_of (pair_value k l ts) row)) rows ≡ finite (0·0 ⊕ v)
-      unfolding every inner_of
+      inners-plain : list_all (λ (row : Row). finite (inner_of (pair_value k l ts) row)) rows ≡ finite (0·0 ⊕ v)
+      unfolding inner_of
       inners-plain = rw (inner-plain) (and-true (finite (0·0 ⊕ v)))
 
       pairs-plain : all_pairs rows ≡ pair ∷ []
       unfolding all_pairs
       pairs-plain = refl
 
-      checked-plain : checked_of k l ts rows ≡ summed_twice (value_of k l a b c d aux [] ts)
+      checked-plain : checked_of k l ts rows ≡ twice (value_of k l a b c d aux [] ts)
       unfolding checked_of element_of
       checked-plain =
           rw (pairs-plain, finite-plain k kept, above-plain k kept, geometry-plain k kept, values-plain, inners-plain, outer-plain)
-          (in_order (inputs_finite k a b c d aux []) (exponents_above_zero k a b c d) (geometry_finite k a b c d) v ∙ ap summed_twice (sym (evaluated a b c d aux l ts k kept)))
+          (in_order (inputs_finite k a b c d aux []) (exponents_above_zero k a b c d) (geometry_finite k a b c d) v ∙ ap twice (sym (evaluated a b c d aux l ts k kept)))
 
-    value-back : (k : Kind) → contracts k ≡ true → (x : Float) → value_of k l a b c d aux [] ts ≡ Is x → minus_zero x ≡ false → summed_twice (value_of k l a b c d aux [] ts) ≡ Is x
+    value-back : (k : Kind) → contracts k ≡ true → (x : Float) → value_of k l a b c d aux [] ts ≡ Ok x → minus_zero x ≡ false → twice (value_of k l a b c d aux [] ts) ≡ Ok x
     value-back k kept x is not =
         let given = given-value (inputs_finite k a b c d aux []) (exponents_above_zero k a b c d) (geometry_finite k a b c d) (integral_of k l a b c d aux [] ts) x (sym (evaluated a b c d aux l ts k kept) ∙ is) in
         let fit : T (fits binary64 x) = rw given.0 (value-fits k kept) in
-        ap summed_twice is ∙ same-result x fit not (rw given.0 given.1)
+        ap twice is ∙ same-result x fit not (rw given.0 given.1)
 
   by-reading : (x : Reading Roll) → of_roll x rows ≡ of_these_kinds x (summed_twice (evaluated_of x a b c d aux []))
-  unfolding of_roll evaluated_of refused_unless
+  unfolding of_roll evaluated_of refused_unless unless
   by-reading (got r end) =
       tested (contracts r.kind)
-      (λ kept. rw (kept) (checked-plain (total r.orders) r.terms r.kind kept))
+      (λ kept. rw (kept) (ap without_place (checked-plain (total r.orders) r.terms r.kind kept) ∙ twice-outside (value_of r.kind (total r.orders) a b c d aux [] r.terms)))
       (λ not. rw (not))
   by-reading (refused n place) = refl
 
   -- every answer, for every roll, whatever C and D
   pub one-primitive : (s : List ℕ) (beyond beyond' : List Primitive) → contracted_of s (lone a beyond) (lone b beyond') (aux ∷ []) ≡ of_these_kinds (roll_at s) (summed_twice (evaluate_of s a b c d aux []))
-  unfolding contracted_of counted refused_unless rows_of primitives_of rows_from pairs_with evaluate_of
+  unfolding contracted_of counted unless rows_of primitives_of rows_from pairs_with evaluate_of
   one-primitive s beyond beyond' = by-reading (roll_at s)
 
   -- so a value that is not −0.0 is the plain evaluation's, bit for bit
-  pub one-primitive-value : (s : List ℕ) (beyond beyond' : List Primitive) (r : Roll) (end : ℕ) (x : Float) → roll_at s ≡ got r end → contracts r.kind ≡ true → evaluate_of s a b c d aux [] ≡ Is x → minus_zero x ≡ false → contracted_of s (lone a beyond) (lone b beyond') (aux ∷ []) ≡ Is x
-  unfolding evaluate_of evaluated_of refused_unless
+  pub one-primitive-value : (s : List ℕ) (beyond beyond' : List Primitive) (r : Roll) (end : ℕ) (x : Float) → roll_at s ≡ got r end → contracts r.kind ≡ true → evaluate_of s a b c d aux [] ≡ Ok x → minus_zero x ≡ false → contracted_of s (lone a beyond) (lone b beyond') (aux ∷ []) ≡ Ok x
+  unfolding evaluate_of evaluated_of unless
   one-primitive-value s beyond beyond' r end x reads kept is not =
-      one-primitive s beyond beyond' ∙ rw (reads, kept) (value-back (total r.orders) r.terms r.kind kept x (rw (reads) at is) not)
+      let value = value-in (value_of r.kind (total r.orders) a b c d aux [] r.terms) x (rw (reads) at is) in
+      one-primitive s beyond beyond' ∙ rw (reads, kept) (sym (twice-outside (value_of r.kind (total r.orders) a b c d aux [] r.terms)) ∙ ap without_place (value-back (total r.orders) r.terms r.kind kept x value not))

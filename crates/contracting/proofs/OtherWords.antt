@@ -9,7 +9,10 @@ use lib.Dec.{eqb}
 use lib.Ieee.{Float}
 use lib.ListN.{length, get_or}
 use Rattle.geometry.specs.Floats.{◌⊕◌, ◌⊗◌, zero as 0·0}
-use Rattle.integrals.specs.Values.{refused_unless}
+use Rattle.laws.specs.Unless.{unless}
+use Rattle.std.specs.Prelude.{Err}
+use Rattle.kind.specs.declared.refusals.Refusal.TheVariants.{PrimitiveCount, HostCount}
+use Rattle.kind.specs.Refusals.{unplaced}
 use Rattle.roll.specs.Reading.{roll_at}
 use Rattle.contracting.specs.declared.Primitive.{Primitive}
 use Rattle.contracting.specs.declared.Contracted.{Contracted}
@@ -21,7 +24,7 @@ pub beyond-the-count : (s : List ℕ) (f g f' g' : Contracted) (host : List Floa
 unfolding contracted_of rows_of
 beyond-the-count s f g f' g' host e p h q =
     let rows : rows_of f g host ≡ rows_of f' g' host = (λ i. rows_from host (p i) 0 (q i)) in
-    λ i. refused_unless (counted (e i) && counted (h i)) 15 (refused_unless (eqb (length host) (e i * h i)) 16 (of_roll (roll_at s) (rows i)))
+    λ i. unless (counted (e i) && counted (h i)) (Err (unplaced PrimitiveCount)) (unless (eqb (length host) (e i * h i)) (Err (unplaced HostCount)) (of_roll (roll_at s) (rows i)))
 
 -- the pair of left i and right j has the host number at j · (left count) + i
 module _ (host : List Float) where

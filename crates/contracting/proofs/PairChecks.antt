@@ -14,10 +14,11 @@ use Rattle.geometry.specs.Checks.{whole, used, used_finite, exponents, exponents
 use Rattle.geometry.proofs.FiniteFloats.{finite-both}
 use Rattle.integrals.specs.Values.{inputs_finite}
 use Rattle.contracting.specs.declared.Primitive.{Primitive}
-use Rattle.contracting.specs.Pairs.{Pair, rows_from, all_pairs, every}
+use Rattle.contracting.specs.Pairs.{Pair, rows_from, all_pairs}
 use Rattle.contracting.specs.Elements.{contracts, pair_finite, pair_above_zero}
 use Rattle.contracting.specs.inner.Summed.{finite_primitive, above_primitive, all_finite_of, all_above_of}
 use Rattle.contracting.proofs.EachPair.{over-all-pairs}
+use Rattle.std.specs.List.{list_all}
 
 -- ---- of one pair
 
@@ -90,13 +91,12 @@ module _ (k : Kind) (kept : contracts k ≡ true) where
 
   -- ---- of all pairs
 
-  every-finite : (xs : List Float) → every finite xs ≡ all_finite xs
-  unfolding every all_finite
+  every-finite : (xs : List Float) → list_all finite xs ≡ all_finite xs
+  unfolding all_finite
   every-finite [] = refl
   every-finite (x ∷ xs) = rw (every-finite xs)
 
-  no-check : (xs : List Float) → every (λ (x : Float). true) xs ≡ true
-  unfolding every
+  no-check : (xs : List Float) → list_all (λ (x : Float). true) xs ≡ true
   no-check [] = refl
   no-check (x ∷ xs) = no-check xs
 
@@ -105,10 +105,10 @@ module _ (k : Kind) (kept : contracts k ≡ true) where
   nought-finite = refl
 
   module _ (lefts rights : List Primitive) (host : List Float) (left : 0 < length lefts) (right : 0 < length rights) (room : length host ≤ length rights * length lefts) where
-    pub finite-over-pairs : every (pair_finite k) (all_pairs (rows_from host lefts 0 rights)) ≡ all_finite_of lefts rights host
+    pub finite-over-pairs : list_all (pair_finite k) (all_pairs (rows_from host lefts 0 rights)) ≡ all_finite_of lefts rights host
     unfolding all_finite_of
     finite-over-pairs = rw (over-all-pairs (pair_finite k) finite_primitive finite nought-finite finite-apart finite-joined host lefts rights left right room, every-finite host)
 
-    pub above-over-pairs : every (pair_above_zero k) (all_pairs (rows_from host lefts 0 rights)) ≡ all_above_of lefts rights
+    pub above-over-pairs : list_all (pair_above_zero k) (all_pairs (rows_from host lefts 0 rights)) ≡ all_above_of lefts rights
     unfolding all_above_of
-    above-over-pairs = rw (over-all-pairs (pair_above_zero k) above_primitive (λ (x : Float). true) refl above_apart above-joined host lefts rights left right room, no-check host, and-true (every above_primitive rights))
+    above-over-pairs = rw (over-all-pairs (pair_above_zero k) above_primitive (λ (x : Float). true) refl above_apart above-joined host lefts rights left right room, no-check host, and-true (list_all above_primitive rights))

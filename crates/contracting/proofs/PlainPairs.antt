@@ -6,10 +6,9 @@ use mathlib.Core.Bool.{Bool, true, false, ◌&&◌, false≢true}
 use mathlib.Core.List.Memᴰ
 use mathlib.Core.List.{List, [], ◌∷◌, Memᴰ}
 use mathlib.Core.Logic.{◌⊎◌, inl, inr}
-use native.Mathlib.Omega.{arith}
 use lib.Ieee.{Float}
 use lib.Ieee.Scale.{finite}
-use Rattle.laws.proofs.Cases.{tested, and-true-both}
+use Rattle.laws.proofs.Cases.{tested, and-true-both, clash}
 use Rattle.kind.specs.declared.Kind.{Kind}
 use Rattle.kind.specs.declared.Kind.TheVariants.{Overlap, Kinetic, Nuclear, Moment, Coulomb}
 use Rattle.term.specs.Terms.{Term}
@@ -19,13 +18,13 @@ use Rattle.geometry.specs.Geometry.{geometry_numbers}
 use Rattle.geometry.specs.Tables.{entries_of, prefac}
 use Rattle.geometry.specs.Charges.{charge_kept, charged}
 use Rattle.geometry.specs.Checks.{used, used_finite, exponents, exponents_above_zero, finite_with, geometry_finite}
-use Rattle.integrals.specs.declared.Value.{Value}
-use Rattle.integrals.specs.declared.Value.TheVariants.{Is, Refused}
 use Rattle.integrals.specs.Sums.{factor_of, integral_of}
-use Rattle.integrals.specs.Values.{inputs_finite, boys_counted, refused_unless, result_of, value_of}
-use Rattle.integrals.specs.Evaluation.{refusal_of}
-use Rattle.contracting.specs.Pairs.{Pair, Row, all_pairs, every}
+use Rattle.integrals.specs.Values.{Value, inputs_finite, boys_counted, refused_unless, result_of, value_of}
+use Rattle.contracting.specs.Pairs.{Pair, Row, all_pairs}
 use Rattle.contracting.specs.Elements.{contracts, pair_finite, pair_above_zero, pair_geometry, pair_value, inner_of, element_of, checked_of}
+use Rattle.std.specs.List.{list_all}
+use Rattle.std.specs.Prelude.{Ok, Err}
+use Rattle.kind.specs.declared.refusals.Refusal.TheVariants.{InputNotFinite, Exponent, ResultNotFinite}
 
 -- ---- nothing of C and D is looked at
 
@@ -64,7 +63,7 @@ module _ (a b c d : Centre) where
     integral-any Coulomb e = absurd (false≢true e)
 
     -- 17 and 10 never come
-    pub evaluated : (k : Kind) → contracts k ≡ true → value_of k l a b c d aux [] ts ≡ refused_unless (inputs_finite k a b c d aux []) 8 (refused_unless (exponents_above_zero k a b c d) 9 (refused_unless (geometry_finite k a b c d) 11 (result_of (integral_of k l a b c d aux [] ts))))
+    pub evaluated : (k : Kind) → contracts k ≡ true → value_of k l a b c d aux [] ts ≡ refused_unless (inputs_finite k a b c d aux []) InputNotFinite (refused_unless (exponents_above_zero k a b c d) Exponent (refused_unless (geometry_finite k a b c d) ResultNotFinite (result_of (integral_of k l a b c d aux [] ts))))
     unfolding contracts value_of charge_kept charged boys_counted refused_unless
     evaluated Overlap e = refl
     evaluated Kinetic e = refl
@@ -75,56 +74,52 @@ module _ (a b c d : Centre) where
 -- ---- what a refusal says of the checks
 
 abbrev chain : Bool → Bool → Bool → Bool → Value → Value
-chain i e g f v = refused_unless i 8 (refused_unless e 9 (refused_unless g 11 (refused_unless f 11 v)))
+chain i e g f v = refused_unless i InputNotFinite (refused_unless e Exponent (refused_unless g ResultNotFinite (refused_unless f ResultNotFinite v)))
 
-other : {P : Type 0} {m n : ℕ} → m ≡ n → (m ≡ n → ⊥) → P
-other e not = absurd (not e)
-
-says-eight : (i e g f : Bool) (v : Float) → refusal_of (chain i e g f (Is v)) ≡ 8 → i ≡ false
+says-eight : (i e g f : Bool) (v : Float) → chain i e g f (Ok v) ≡ Err InputNotFinite → i ≡ false
 unfolding refused_unless
 says-eight false e g f v is = refl
-says-eight true false g f v is = other is (λ is. omega arith)
-says-eight true true false f v is = other is (λ is. omega arith)
-says-eight true true true false v is = other is (λ is. omega arith)
-says-eight true true true true v is = other is (λ is. omega arith)
+says-eight true false g f v is = absurd (clash (cc))
+says-eight true true false f v is = absurd (clash (cc))
+says-eight true true true false v is = absurd (clash (cc))
+says-eight true true true true v is = absurd (clash (cc))
 
-says-nine : (i e g f : Bool) (v : Float) → refusal_of (chain i e g f (Is v)) ≡ 9 → e ≡ false
+says-nine : (i e g f : Bool) (v : Float) → chain i e g f (Ok v) ≡ Err Exponent → e ≡ false
 unfolding refused_unless
-says-nine false e g f v is = other is (λ is. omega arith)
+says-nine false e g f v is = absurd (clash (cc))
 says-nine true false g f v is = refl
-says-nine true true false f v is = other is (λ is. omega arith)
-says-nine true true true false v is = other is (λ is. omega arith)
-says-nine true true true true v is = other is (λ is. omega arith)
+says-nine true true false f v is = absurd (clash (cc))
+says-nine true true true false v is = absurd (clash (cc))
+says-nine true true true true v is = absurd (clash (cc))
 
-says-eleven : (i e g f : Bool) (v : Float) → refusal_of (chain i e g f (Is v)) ≡ 11 → (g && f) ≡ false
+says-eleven : (i e g f : Bool) (v : Float) → chain i e g f (Ok v) ≡ Err ResultNotFinite → (g && f) ≡ false
 unfolding refused_unless
-says-eleven false e g f v is = other is (λ is. omega arith)
-says-eleven true false g f v is = other is (λ is. omega arith)
+says-eleven false e g f v is = absurd (clash (cc))
+says-eleven true false g f v is = absurd (clash (cc))
 says-eleven true true false f v is = refl
 says-eleven true true true false v is = refl
-says-eleven true true true true v is = other is (λ is. omega arith)
+says-eleven true true true true v is = absurd (clash (cc))
 
-says_none : (i e g f : Bool) (v : Value) → refusal_of (chain i e g f v) ≡ 0 → (i ≡ true) × (e ≡ true) × (g ≡ true) × (f ≡ true)
+says_none : (i e g f : Bool) (v : Value) (x : Float) → chain i e g f v ≡ Ok x → (i ≡ true) × (e ≡ true) × (g ≡ true) × (f ≡ true)
 unfolding refused_unless
-says_none false e g f v is = other is (λ is. omega arith)
-says_none true false g f v is = other is (λ is. omega arith)
-says_none true true false f v is = other is (λ is. omega arith)
-says_none true true true false v is = other is (λ is. omega arith)
-says_none true true true true v is = (refl, refl, refl, refl)
+says_none false e g f v x is = absurd (clash (cc))
+says_none true false g f v x is = absurd (clash (cc))
+says_none true true false f v x is = absurd (clash (cc))
+says_none true true true false v x is = absurd (clash (cc))
+says_none true true true true v x is = (refl, refl, refl, refl)
 
 -- ---- a check of all is a check of each
 
-of-each : {A : Type 0} (P : A → Bool) (xs : List A) (x : A) → Memᴰ x xs → every P xs ≡ true → P x ≡ true
-unfolding every
+of-each : {A : Type 0} (P : A → Bool) (xs : List A) (x : A) → Memᴰ x xs → list_all P xs ≡ true → P x ≡ true
 of-each P [] x m e = absurd (Memᴰ.not-nil m)
-of-each {A = A} P (y ∷ ys) x m e = by (Memᴰ.cases_cons m) (and-true-both (P y) (every P ys) e) (of-each P ys x)
+of-each {A = A} P (y ∷ ys) x m e = by (Memᴰ.cases_cons m) (and-true-both (P y) (list_all P ys) e) (of-each P ys x)
   where
-    by : (x ≡ y) ⊎ Memᴰ x ys → (P y ≡ true) × (every P ys ≡ true) → (Memᴰ x ys → every P ys ≡ true → P x ≡ true) → P x ≡ true
+    by : (x ≡ y) ⊎ Memᴰ x ys → (P y ≡ true) × (list_all P ys ≡ true) → (Memᴰ x ys → list_all P ys ≡ true → P x ≡ true) → P x ≡ true
     by (inl same) both rest = ap P same ∙ both.0
     by (inr later) both rest = rest later both.1
 
-not-all : {A : Type 0} (P : A → Bool) (xs : List A) (x : A) → Memᴰ x xs → P x ≡ false → every P xs ≡ false
-not-all P xs x m f = tested (every P xs) (λ e. absurd (false≢true (sym f ∙ of-each P xs x m e))) (λ e. e)
+not-all : {A : Type 0} (P : A → Bool) (xs : List A) (x : A) → Memᴰ x xs → P x ≡ false → list_all P xs ≡ false
+not-all P xs x m f = tested (list_all P xs) (λ e. absurd (false≢true (sym f ∙ of-each P xs x m e))) (λ e. e)
 
 -- ---- a pair of an element, and its plain evaluation
 
@@ -141,7 +136,7 @@ module _ (k : Kind) (l : ℕ) (ts : List Term) (rows : List Row) (kept : contrac
   abbrev value : Float
   value = pair_value k l ts p
 
-  plain-is : plainly ≡ chain inputs (pair_above_zero k p) (pair_geometry k p) (finite value) (Is value)
+  plain-is : plainly ≡ chain inputs (pair_above_zero k p) (pair_geometry k p) (finite value) (Ok value)
   unfolding pair_above_zero pair_geometry pair_value result_of
   plain-is =
       let a = p.left.centre in
@@ -149,32 +144,32 @@ module _ (k : Kind) (l : ℕ) (ts : List Term) (rows : List Row) (kept : contrac
       evaluated a b c d p.aux l ts k kept ∙ rw (← finite-any a b c d p.aux k kept, ← above-any a b c d k kept, ← geometry-any a b c d k kept, ← integral-any a b c d p.aux l ts k kept)
 
   -- an element is given only where each pair's evaluation gives its value
-  pub each-evaluates : (x : Float) → checked_of k l ts rows ≡ Is x → plainly ≡ Is (pair_value k l ts p)
+  pub each-evaluates : (x : Float) → checked_of k l ts rows ≡ Ok x → plainly ≡ Ok (pair_value k l ts p)
   unfolding checked_of pair_finite refused_unless
   each-evaluates x is =
-      let all = says_none (every (pair_finite k) (all_pairs rows)) (every (pair_above_zero k) (all_pairs rows)) (every (pair_geometry k) (all_pairs rows)) (every (λ (p : Pair). finite (pair_value k l ts p)) (all_pairs rows)) (refused_unless (every (λ (row : Row). finite (inner_of (pair_value k l ts) row)) rows) 11 (result_of (element_of (pair_value k l ts) rows))) (ap refusal_of is) in
+      let all = says_none (list_all (pair_finite k) (all_pairs rows)) (list_all (pair_above_zero k) (all_pairs rows)) (list_all (pair_geometry k) (all_pairs rows)) (list_all (λ (p : Pair). finite (pair_value k l ts p)) (all_pairs rows)) (refused_unless (list_all (λ (row : Row). finite (inner_of (pair_value k l ts) row)) rows) ResultNotFinite (result_of (element_of (pair_value k l ts) rows))) x is in
       let fine = (and-true-both inputs factors (of-each (pair_finite k) (all_pairs rows) p one all.0)).0 in
       plain-is ∙ rw (fine, of-each (pair_above_zero k) (all_pairs rows) p one all.1, of-each (pair_geometry k) (all_pairs rows) p one all.2, of-each (λ (p : Pair). finite (pair_value k l ts p)) (all_pairs rows) p one all.3)
 
   -- 8 of one pair is 8, whatever the others give; then 9, then 11
-  pub eight-first : refusal_of plainly ≡ 8 → checked_of k l ts rows ≡ Refused 8 0
+  pub eight-first : plainly ≡ Err InputNotFinite → checked_of k l ts rows ≡ Err InputNotFinite
   unfolding checked_of pair_finite refused_unless
   eight-first is =
-      let not = says-eight inputs (pair_above_zero k p) (pair_geometry k p) (finite value) value (ap refusal_of (sym plain-is) ∙ is) in
+      let not = says-eight inputs (pair_above_zero k p) (pair_geometry k p) (finite value) value (sym plain-is ∙ is) in
       rw (not-all (pair_finite k) (all_pairs rows) p one (ap (λ (b : Bool). b && factors) not))
 
-  module _ (finites : every (pair_finite k) (all_pairs rows) ≡ true) where
-    pub then-nine : refusal_of plainly ≡ 9 → checked_of k l ts rows ≡ Refused 9 0
+  module _ (finites : list_all (pair_finite k) (all_pairs rows) ≡ true) where
+    pub then-nine : plainly ≡ Err Exponent → checked_of k l ts rows ≡ Err Exponent
     unfolding checked_of refused_unless
     then-nine is =
-        let above = says-nine inputs (pair_above_zero k p) (pair_geometry k p) (finite value) value (ap refusal_of (sym plain-is) ∙ is) in
+        let above = says-nine inputs (pair_above_zero k p) (pair_geometry k p) (finite value) value (sym plain-is ∙ is) in
         rw (finites, not-all (pair_above_zero k) (all_pairs rows) p one above)
 
-    pub then-eleven : every (pair_above_zero k) (all_pairs rows) ≡ true → refusal_of plainly ≡ 11 → checked_of k l ts rows ≡ Refused 11 0
+    pub then-eleven : list_all (pair_above_zero k) (all_pairs rows) ≡ true → plainly ≡ Err ResultNotFinite → checked_of k l ts rows ≡ Err ResultNotFinite
     unfolding checked_of refused_unless
     then-eleven aboves is =
-        let either = says-eleven inputs (pair_above_zero k p) (pair_geometry k p) (finite value) value (ap refusal_of (sym plain-is) ∙ is) in
-        tested (every (pair_geometry k) (all_pairs rows))
+        let either = says-eleven inputs (pair_above_zero k p) (pair_geometry k p) (finite value) value (sym plain-is ∙ is) in
+        tested (list_all (pair_geometry k) (all_pairs rows))
         (λ geometry.
         let not : finite value ≡ false = rw (of-each (pair_geometry k) (all_pairs rows) p one geometry) at either in
         rw (finites, aboves, geometry, not-all (λ (p : Pair). finite (pair_value k l ts p)) (all_pairs rows) p one not))

@@ -1,19 +1,23 @@
 -- 02, Q-1: the element of two contracted functions over a roll of overlap or kinetic: 15, 16, 7 or 14 of the roll, 1, 8, 9, 11, or the sum.
-use Rattle.std.specs.Prelude.{ℕ, ◌*◌, Bool, true, false, ◌&&◌, List, [], ◌∷◌, eqb, Float, length}
+use Rattle.std.specs.Prelude.{ℕ, ◌*◌, Bool, true, false, ◌&&◌, List, [], ◌∷◌, eqb, Float, length, Err}
+use Rattle.std.specs.List.{list_all}
 use Rattle.std.specs.Float.Ieee.Scale.{finite}
 use Rattle.laws.specs.Total.{total}
+use Rattle.laws.specs.Unless.{unless}
 use Rattle.kind.specs.declared.Kind.{Kind}
 use Rattle.kind.specs.declared.Kind.TheVariants.{Overlap, Kinetic, Nuclear, Moment, Coulomb}
+use Rattle.kind.specs.declared.refusals.Refusal.TheVariants.{WrongKind, InputNotFinite, Exponent, ResultNotFinite, PrimitiveCount, HostCount}
+use Rattle.kind.specs.Refusals.{unplaced, without_place}
 use Rattle.term.specs.Terms.{Term}
 use Rattle.roll.specs.Reading.{Reading, got, refused, Roll, roll_at}
 use Rattle.geometry.specs.Floats.{◌⊕◌, ◌⊗◌, zero as 0·0, all_finite}
 use Rattle.geometry.specs.Checks.{exponents_above_zero, geometry_finite}
-use Rattle.integrals.specs.declared.Value.{Value}
-use Rattle.integrals.specs.declared.Value.TheVariants.{Refused}
+use Rattle.roll.specs.Field.{fault}
 use Rattle.integrals.specs.Sums.{integral_of}
-use Rattle.integrals.specs.Values.{inputs_finite, refused_unless, result_of}
+use Rattle.integrals.specs.Values.{Value, inputs_finite, refused_unless, result_of}
+use Rattle.integrals.specs.Evaluation.{Answer}
 use Rattle.contracting.specs.declared.Contracted.{Contracted}
-use Rattle.contracting.specs.Pairs.{counted, Pair, Row, rows_of, all_pairs, every}
+use Rattle.contracting.specs.Pairs.{counted, Pair, Row, rows_of, all_pairs}
 
 -- 1 unless the roll is of overlap or kinetic
 unfoldable pub contracts : Kind → Bool
@@ -65,21 +69,21 @@ element_of v rows = outer_from v rows 0·0
 unfoldable pub checked_of : Kind → ℕ → List Term → List Row → Value
 checked_of k l ts rows =
     let v = pair_value k l ts in
-    refused_unless (every (pair_finite k) (all_pairs rows)) 8
-    (refused_unless (every (pair_above_zero k) (all_pairs rows)) 9
-    (refused_unless (every (pair_geometry k) (all_pairs rows)) 11
-    (refused_unless (every (λ (p : Pair). finite (v p)) (all_pairs rows)) 11
-    (refused_unless (every (λ (row : Row). finite (inner_of v row)) rows) 11
+    refused_unless (list_all (pair_finite k) (all_pairs rows)) InputNotFinite
+    (refused_unless (list_all (pair_above_zero k) (all_pairs rows)) Exponent
+    (refused_unless (list_all (pair_geometry k) (all_pairs rows)) ResultNotFinite
+    (refused_unless (list_all (λ (p : Pair). finite (v p)) (all_pairs rows)) ResultNotFinite
+    (refused_unless (list_all (λ (row : Row). finite (inner_of v row)) rows) ResultNotFinite
     (result_of (element_of v rows))))))
 
 -- 1 right after 7 or 14, which have their place
-unfoldable pub of_roll : Reading Roll → List Row → Value
-of_roll (got roll end) rows = refused_unless (contracts roll.kind) 1 (checked_of roll.kind (total roll.orders) roll.terms rows)
-of_roll (refused number place) rows = Refused number place
+unfoldable pub of_roll : Reading Roll → List Row → Answer
+of_roll (got roll end) rows = without_place (refused_unless (contracts roll.kind) WrongKind (checked_of roll.kind (total roll.orders) roll.terms rows))
+of_roll (refused r place) rows = Err (fault r place)
 
 -- 15, then 16, both before 7
-unfoldable pub contracted_of : List ℕ → Contracted → Contracted → List Float → Value
+unfoldable pub contracted_of : List ℕ → Contracted → Contracted → List Float → Answer
 contracted_of s left right host =
-    refused_unless (counted left.count && counted right.count) 15
-    (refused_unless (eqb (length host) (left.count * right.count)) 16
+    unless (counted left.count && counted right.count) (Err (unplaced PrimitiveCount))
+    (unless (eqb (length host) (left.count * right.count)) (Err (unplaced HostCount))
     (of_roll (roll_at s) (rows_of left right host)))

@@ -1,7 +1,6 @@
 -- 02, Q-1: two contracted functions of one to ten primitives each, their pairs, and the host's number of each pair.
 use Rattle.std.specs.Prelude.{ℕ, suc, ◌*◌, Bool, ◌&&◌, List, [], ◌∷◌, ◌++◌, leb, Float, length, get_or, take}
 use Rattle.geometry.specs.Floats.{zero as 0·0}
-unfoldable pub use Rattle.integrals.specs.Values.{every}
 use Rattle.contracting.specs.declared.Primitive.{Primitive}
 use Rattle.contracting.specs.declared.Contracted.{Contracted}
 

@@ -1,18 +1,19 @@
 // Contracted overlap and kinetic elements: two functions of one to ten primitives each, over one roll.
 #![tactic(auto)]
 
-ghost use Rattle.std.specs.Prelude.{◌≤◌, ◌≡◌, true, ◌&&◌, take};
+ghost use Rattle.std.specs.Prelude.{◌≡◌, true};
+ghost use Rattle.std.specs.List.{list_all};
 ghost use Rattle.kind.specs.Kinds.{kind_of};
-ghost use Rattle.contracting.specs.Pairs.{most_primitives, counted, rows_from, every};
+ghost use Rattle.contracting.specs.Pairs.{counted, rows_from};
 ghost use Rattle.contracting.specs.Elements.{contracts, checked_of, of_roll, contracted_of};
-ghost use Rattle.contracting.specs.inner.Summed.{finite_primitive, above_primitive, all_finite_of, all_above_of, PairsMay, of_kind, of_cursor};
+ghost use Rattle.contracting.specs.inner.Summed.{finite_primitive, above_primitive, all_finite_of, all_above_of, PairsMay, of_cursor};
 ghost use Rattle.integrals.specs.inner.Stored.{again_from};
 ghost use Rattle.roll.specs.Reading.{roll_at};
 
 use geometry::Centre;
-use integrals::{Terms, Value};
-use kind::{Kind, Named};
-use roll::{Cursor, Opening};
+use integrals::Terms;
+use kind::{Fault, Kind, Refusal};
+use roll::Cursor;
 use sums::outer;
 
 mod sums;
@@ -37,216 +38,131 @@ pub struct Contracted {
     pub count: u32,
 }
 
+impl Primitive {
+    fn is_finite(self) -> bool
+        ensures { result ≡ finite_primitive self }
+    {
+        let c = self.centre;
+        geometry::all_finite(&[c.x, c.y, c.z, c.exponent, self.norm, self.coefficient])
+    }
+
+    // −0.0 is not above zero.
+    fn is_above_zero(self) -> bool
+        ensures { result ≡ above_primitive self }
+    {
+        0.0 < self.centre.exponent
+    }
+}
+
 // One to ten primitives.
 fn counted(count: usize) -> bool
     ensures { result ≡ counted count }
 {
-    if 1 <= count {
-        return count <= MOST_PRIMITIVES;
+    if count < 1 {
+        return false;
     }
-    false
+    count <= MOST_PRIMITIVES
 }
 
-// Check 15, of m left and n right primitives.
-fn both_counted(m: usize, n: usize) -> bool
-    ensures { result ≡ counted m && counted n }
+fn primitives_finite(primitives: &[Primitive]) -> bool
+    ensures { result ≡ list_all finite_primitive primitives.now }
 {
-    if counted(m) {
-        return counted(n);
-    }
-    false
+    primitives.iter().all(|&p| p.is_finite())
 }
 
-fn primitive_finite(p: Primitive) -> bool
-    ensures { result ≡ finite_primitive p }
+fn primitives_above_zero(primitives: &[Primitive]) -> bool
+    ensures { result ≡ list_all above_primitive primitives.now }
 {
-    let c = p.centre;
-    let floats = [c.x, c.y, c.z, c.exponent, p.norm, p.coefficient];
-    geometry::all_finite(&floats)
-}
-
-fn primitives_finite(primitives: [Primitive; MOST_PRIMITIVES], count: usize) -> bool
-    requires { count ≤ most_primitives }
-    ensures { result ≡ every finite_primitive (take count primitives) }
-{
-    let mut i = 0;
-    while i < count {
-        if primitive_finite(primitives[i]) {
-            i += 1;
-        } else {
-            return false;
-        }
-    }
-    true
-}
-
-// −0.0 is not above zero.
-fn primitive_above_zero(p: Primitive) -> bool
-    ensures { result ≡ above_primitive p }
-{
-    let c = p.centre;
-    0.0 < c.exponent
-}
-
-fn primitives_above_zero(primitives: [Primitive; MOST_PRIMITIVES], count: usize) -> bool
-    requires { count ≤ most_primitives }
-    ensures { result ≡ every above_primitive (take count primitives) }
-{
-    let mut i = 0;
-    while i < count {
-        if primitive_above_zero(primitives[i]) {
-            i += 1;
-        } else {
-            return false;
-        }
-    }
-    true
+    primitives.iter().all(|&p| p.is_above_zero())
 }
 
 // Check 8 over all pairs: each primitive and each host number stands in one.
-fn all_finite(
-    lefts: [Primitive; MOST_PRIMITIVES],
-    m: usize,
-    rights: [Primitive; MOST_PRIMITIVES],
-    n: usize,
-    host: &[f64],
-) -> bool
-    requires { (m ≤ most_primitives) × (n ≤ most_primitives) }
-    ensures { result ≡ all_finite_of (take m lefts) (take n rights) host.now }
+fn all_finite(lefts: &[Primitive], rights: &[Primitive], host: &[f64]) -> bool
+    ensures { result ≡ all_finite_of lefts.now rights.now host.now }
 {
-    if primitives_finite(lefts, m) {
-        if primitives_finite(rights, n) {
-            return geometry::all_finite(host);
-        }
-    }
-    false
+    primitives_finite(lefts) && primitives_finite(rights) && geometry::all_finite(host)
 }
 
 // Check 9 over all pairs.
-fn all_above_zero(
-    lefts: [Primitive; MOST_PRIMITIVES],
-    m: usize,
-    rights: [Primitive; MOST_PRIMITIVES],
-    n: usize,
-) -> bool
-    requires { (m ≤ most_primitives) × (n ≤ most_primitives) }
-    ensures { result ≡ all_above_of (take m lefts) (take n rights) }
+fn all_above_zero(lefts: &[Primitive], rights: &[Primitive]) -> bool
+    ensures { result ≡ all_above_of lefts.now rights.now }
 {
-    if primitives_above_zero(lefts, m) {
-        return primitives_above_zero(rights, n);
-    }
-    false
+    primitives_above_zero(lefts) && primitives_above_zero(rights)
 }
 
 // Checks 8, 9 and 11 over all pairs, and the element. What is not finite stays so in every sum, so one look at the element serves for all of 11.
 fn checked(
     terms: Terms,
-    lefts: [Primitive; MOST_PRIMITIVES],
-    m: usize,
-    rights: [Primitive; MOST_PRIMITIVES],
-    n: usize,
+    lefts: &[Primitive],
+    rights: &[Primitive],
     host: &[f64],
     roll: &[u8],
-) -> Value
-    requires { PairsMay m n host.now × (contracts terms.kind ≡ true) }
-    ensures { result ≡ checked_of terms.kind terms.cursor.l (again_from roll.now terms.cursor) (rows_from host.now (take m lefts) 0 (take n rights)) }
+) -> Result<f64, Refusal>
+    requires { PairsMay lefts.now rights.now host.now × (contracts terms.kind ≡ true) }
+    ensures { result ≡ checked_of terms.kind terms.cursor.l (again_from roll.now terms.cursor) (rows_from host.now lefts.now 0 rights.now) }
 {
-    if !all_finite(lefts, m, rights, n, host) {
-        return Value::Refused(8, 0);
+    if !all_finite(lefts, rights, host) {
+        return Err(Refusal::InputNotFinite);
     }
-    if !all_above_zero(lefts, m, rights, n) {
-        return Value::Refused(9, 0);
+    if !all_above_zero(lefts, rights) {
+        return Err(Refusal::Exponent);
     }
-    integrals::result(outer(terms, lefts, m, rights, n, host, roll))
+    integrals::result(outer(terms, lefts, rights, host, roll))
 }
 
 // Whether elements are made over rolls of this kind.
 fn contracts(kind: Kind) -> bool
     ensures { result ≡ contracts kind }
 {
-    match kind {
-        Kind::Overlap => true,
-        Kind::Kinetic => true,
-        Kind::Nuclear => false,
-        Kind::Moment => false,
-        Kind::Coulomb => false,
-    }
+    matches!(kind, Kind::Overlap | Kind::Kinetic)
 }
 
-// Check 1, right after 7.
-fn of_kind(
-    terms: Terms,
-    lefts: [Primitive; MOST_PRIMITIVES],
-    m: usize,
-    rights: [Primitive; MOST_PRIMITIVES],
-    n: usize,
-    host: &[f64],
-    roll: &[u8],
-) -> Value
-    requires { PairsMay m n host.now }
-    ensures { result ≡ of_kind terms.kind terms.cursor roll.now (rows_from host.now (take m lefts) 0 (take n rights)) }
-{
-    let kind = terms.kind;
-    if contracts(kind) {
-        return checked(terms, lefts, m, rights, n, host, roll);
-    }
-    Value::Refused(1, 0)
-}
-
-// The element over a judged roll, from its cursor on.
+// The element over a judged roll, from its cursor on. Check 1, right after 7.
 fn from_cursor(
     cursor: Cursor,
-    lefts: [Primitive; MOST_PRIMITIVES],
-    m: usize,
-    rights: [Primitive; MOST_PRIMITIVES],
-    n: usize,
+    lefts: &[Primitive],
+    rights: &[Primitive],
     host: &[f64],
     roll: &[u8],
-) -> Value
-    requires { PairsMay m n host.now }
-    ensures { result ≡ of_cursor (kind_of cursor.kind) cursor roll.now (rows_from host.now (take m lefts) 0 (take n rights)) }
+) -> Result<f64, Refusal>
+    requires { PairsMay lefts.now rights.now host.now }
+    ensures { result ≡ of_cursor (kind_of cursor.kind) cursor roll.now (rows_from host.now lefts.now 0 rights.now) }
 {
-    match Kind::of(cursor.kind) {
-        Named::Is(kind) => of_kind(Terms { kind, cursor }, lefts, m, rights, n, host, roll),
-        Named::Unknown => Value::Refused(7, 0),
+    let Some(kind) = Kind::of(cursor.kind) else {
+        return Err(Refusal::BadRoll);
+    };
+    if !contracts(kind) {
+        return Err(Refusal::WrongKind);
     }
+    checked(Terms { kind, cursor }, lefts, rights, host, roll)
 }
 
 // The roll is judged once.
 fn over_roll(
     roll: &[u8],
-    lefts: [Primitive; MOST_PRIMITIVES],
-    m: usize,
-    rights: [Primitive; MOST_PRIMITIVES],
-    n: usize,
+    lefts: &[Primitive],
+    rights: &[Primitive],
     host: &[f64],
-) -> Value
-    requires { PairsMay m n host.now }
-    ensures { result ≡ of_roll (roll_at roll.now) (rows_from host.now (take m lefts) 0 (take n rights)) }
+) -> Result<f64, Fault>
+    requires { PairsMay lefts.now rights.now host.now }
+    ensures { result ≡ of_roll (roll_at roll.now) (rows_from host.now lefts.now 0 rights.now) }
 {
-    let opened = roll::check(roll);
-    let found = opened.found;
-    let cursor = opened.cursor;
-    match found {
-        Opening::Roll => from_cursor(cursor, lefts, m, rights, n, host, roll),
-        Opening::Refused(number, place) => Value::Refused(number, place),
-    }
+    let opened = roll::check(roll)?;
+    Ok(from_cursor(opened.cursor, lefts, rights, host, roll)?)
 }
 
 // The element of two contracted functions over a roll of overlap or kinetic, with a host number for each pair, right function outer;
 // or 15, 16, 7 or 14 with its place, 1, 8, 9 or 11.
-pub fn element(roll: &[u8], left: Contracted, right: Contracted, host: &[f64]) -> Value
+pub fn element(roll: &[u8], left: Contracted, right: Contracted, host: &[f64]) -> Result<f64, Fault>
     ensures { result ≡ contracted_of roll.now left right host.now }
 {
     let m = left.count as usize;
     let n = right.count as usize;
-    if !both_counted(m, n) {
-        return Value::Refused(15, 0);
+    if !counted(m) || !counted(n) {
+        return Err(Fault::from(Refusal::PrimitiveCount));
     }
     if host.len() != m * n {
-        return Value::Refused(16, 0);
+        return Err(Fault::from(Refusal::HostCount));
     }
-    let lefts = left.primitives;
-    let rights = right.primitives;
-    over_roll(roll, lefts, m, rights, n, host)
+    over_roll(roll, &left.primitives[..m], &right.primitives[..n], host)
 }

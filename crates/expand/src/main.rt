@@ -4,15 +4,14 @@
 // standard error. Wrong arguments are answered there too, by how to call the program.
 #![tactic(auto)]
 
-ghost use Rattle.std.specs.Prelude.{◌≡◌, length};
+ghost use Rattle.std.specs.Prelude.{◌≤◌, IfSome};
 ghost use Rattle.kind.specs.Limits.{request_orders};
 
 use expansion::Expanded;
-use kind::{Kind, Named};
+use kind::{Kind, Refusal};
 use std::env::Env;
 use std::io;
 use streams::argument_count;
-use text::Parsed;
 
 // The bytes of the buffer that a roll usually goes through.
 const ROOM: usize = 1048576;
@@ -25,12 +24,6 @@ const DIGITS: usize = 3;
 // The letters of the word that asks for form 2.
 const WORD: usize = 5;
 
-#[derive(Clone, Copy)]
-enum Byte {
-    Is(u8),
-    Not,
-}
-
 fn usage(rt: &impl Eprint) -> io::Result<()> {
     eprintln!(rt; "expand KIND ORDERS.. > ROLL, or expand form2 KIND ORDERS.. > ROLL")?;
     eprintln!(rt; "KIND: 0 overlap, 1 kinetic, 2 nuclear, 3 moment, 4 Coulomb.")?;
@@ -42,43 +35,36 @@ fn usage(rt: &impl Eprint) -> io::Result<()> {
     )
 }
 
-// A refusal's line, with the words of document 01 and of the requests; 0 is none.
-fn say_refused(rt: &impl Eprint, refusal: u8) -> io::Result<()> {
-    if refusal == 0 {
-        return Ok(());
-    }
+// A refusal's line, with the words of document 01 and of the requests.
+fn say_refused(rt: &impl Eprint, refusal: Refusal) -> io::Result<()> {
+    let number = u8::from(refusal);
     let why = why(refusal);
-    eprintln!(rt; "refused {refusal}{why}")
+    eprintln!(rt; "refused {number}{why}")
 }
 
-fn why(refusal: u8) -> &'static str {
+fn why(refusal: Refusal) -> &'static str {
     match refusal {
-        1 => ": kind above 4",
-        2 => ": an order sum the kind uses, or a shell's order, above 6",
-        3 => ": one of the twelve orders unused by the kind is not 0",
-        4 => ": more than 1,048,575 complete histories",
-        6 =>
+        Refusal::WrongKind => ": kind above 4",
+        Refusal::OrderSum => ": an order sum the kind uses, or a shell's order, above 6",
+        Refusal::UnusedOrder => ": one of the twelve orders unused by the kind is not 0",
+        Refusal::TooManyTerms => ": more than 1,048,575 complete histories",
+        Refusal::NoRoom =>
             ": the whole output doesn't fit from the start place, or the listing's input is over 65,536 bytes",
         _ => "",
     }
 }
 
 // A whole word as a number below 256.
-fn byte_of(word: &[u8]) -> Byte {
-    let Parsed::Is(n, end) = text::read_decimal(word, 0) else {
-        return Byte::Not;
-    };
-    if end != word.len() {
-        return Byte::Not;
+fn byte_of(word: &[u8]) -> Option<u8> {
+    let (n, end) = text::read_decimal(word, 0)?;
+    if end != word.len() || 255 < n {
+        return None;
     }
-    if 255 < n {
-        return Byte::Not;
-    }
-    Byte::Is(n as u8)
+    Some(n as u8)
 }
 
 // An argument as a number below 256. One that is missing or longer has no bytes here, and so is none.
-fn argument(rt: &impl Env, i: usize) -> Byte {
+fn argument(rt: &impl Env, i: usize) -> Option<u8> {
     let mut word = [0u8; DIGITS];
     let n = streams::argument(rt, i, &mut word);
     byte_of(&word[..n])
@@ -86,40 +72,25 @@ fn argument(rt: &impl Env, i: usize) -> Byte {
 
 // Whether the first argument asks for form 2.
 fn is_form2(rt: &impl Env) -> bool {
-    let mut w = [0u8; WORD];
-    let n = streams::argument(rt, 1, &mut w);
-    if n != WORD {
-        return false;
-    }
-    let off = (w[0] ^ b'f') | (w[1] ^ b'o') | (w[2] ^ b'r') | (w[3] ^ b'm') | (w[4] ^ b'2');
-    off == 0
+    let mut word = [0u8; WORD];
+    let n = streams::argument(rt, 1, &mut word);
+    &word[..n] == b"form2".as_slice()
 }
 
-// Reads so many orders from argument `first` on, and answers whether each is a number.
-fn read_orders(rt: &impl Env, first: u8, n: usize, orders: &mut [u8]) -> bool
-    requires { length orders.old ≡ request_orders }
+// The orders from argument `first` on, zeros after them; none where one is no number.
+fn read_orders(rt: &impl Env, first: u8, n: usize) -> Option<[u8; Kind::ORDERS]>
+    requires { n ≤ request_orders }
 {
-    if Kind::ORDERS < n {
-        return false;
-    }
+    let mut orders = [0u8; Kind::ORDERS];
     for i in 0..n {
-        match argument(rt, first as usize + i) {
-            Byte::Is(order) => orders[i] = order,
-            Byte::Not => return false,
-        }
+        orders[i] = argument(rt, first as usize + i)?;
     }
-    true
+    Some(orders)
 }
 
 // Whether a request of this kind may have so many orders.
 fn fits(kind: u8, n: usize) -> bool {
-    if n == Kind::ORDERS {
-        return true;
-    }
-    match Kind::of(kind) {
-        Named::Is(known) => n == known.orders(),
-        Named::Unknown => false,
-    }
+    n == Kind::ORDERS || Kind::of(kind).is_some_and(|known| n == known.orders())
 }
 
 fn write_roll(rt: &impl Print, roll: &[u8], n: usize) -> io::Result<()> {
@@ -130,50 +101,35 @@ fn write_roll(rt: &impl Print, roll: &[u8], n: usize) -> io::Result<()> {
 }
 
 // The request's roll in the form that is asked for, at the front of the buffer.
-fn expanded(second: bool, kind: u8, orders: [u8; Kind::ORDERS], out: &mut [u8]) -> Expanded {
-    if second {
-        return expansion::expand2(kind, orders, out, 0);
-    }
-    expansion::expand(kind, orders, out, 0)
-}
-
-// The refusal of the request's roll by way of the buffer; none where the roll is written out.
-fn answer(
-    rt: &impl Print,
+fn expanded(
     second: bool,
     kind: u8,
     orders: [u8; Kind::ORDERS],
     out: &mut [u8],
-) -> io::Result<u8> {
-    match expanded(second, kind, orders, out) {
-        Expanded::Roll(n, _) => {
-            write_roll(rt, out, n)?;
-            Ok(0)
-        }
-        Expanded::Refused(refusal) => Ok(refusal),
+) -> Result<Expanded, Refusal> {
+    if second {
+        expansion::expand2(kind, orders, out, 0)
+    } else {
+        expansion::expand(kind, orders, out, 0)
     }
 }
 
-fn in_usual(
+// The refusal of the request's roll by way of a buffer of so many bytes; none where the roll is written out.
+fn answer(
     rt: &(impl Print + Alloc),
     second: bool,
     kind: u8,
     orders: [u8; Kind::ORDERS],
-) -> io::Result<u8> {
-    let mut out = vec![in rt.alloc(); 0u8; ROOM]?;
-    answer(rt, second, kind, orders, &mut out)
-}
-
-// The answer by way of the larger buffer.
-fn in_large(
-    rt: &(impl Print + Eprint + Alloc),
-    second: bool,
-    kind: u8,
-    orders: [u8; Kind::ORDERS],
-) -> io::Result<()> {
-    let mut out = vec![in rt.alloc(); 0u8; LARGE]?;
-    let refusal = answer(rt, second, kind, orders, &mut out)?;
-    say_refused(rt, refusal)
+    room: usize,
+) -> io::Result<Option<Refusal>> {
+    let mut out = vec![in rt.alloc(); 0u8; room]?;
+    match expanded(second, kind, orders, &mut out) {
+        Ok(roll) => {
+            write_roll(rt, &out, roll.length)?;
+            Ok(None)
+        }
+        Err(refusal) => Ok(Some(refusal)),
+    }
 }
 
 // The roll goes through the larger buffer where it has no room in the usual one.
@@ -183,48 +139,43 @@ fn expand(
     kind: u8,
     orders: [u8; Kind::ORDERS],
 ) -> io::Result<()> {
-    match expansion::roll_size(kind, orders) {
-        Expanded::Roll(_, _) => {
-            if in_usual(rt, second, kind, orders)? != 0 {
-                return in_large(rt, second, kind, orders);
-            }
-            Ok(())
-        }
-        Expanded::Refused(refusal) => say_refused(rt, refusal),
+    if let Err(refusal) = expansion::roll_size(kind, orders) {
+        return say_refused(rt, refusal);
+    }
+    if answer(rt, second, kind, orders, ROOM)?.is_none() {
+        return Ok(());
+    }
+    match answer(rt, second, kind, orders, LARGE)? {
+        Some(refusal) => say_refused(rt, refusal),
+        None => Ok(()),
     }
 }
 
-fn with_kind(
-    rt: &(impl Env + Print + Eprint + Alloc),
-    second: bool,
-    first: u8,
-    kind: u8,
-    n: usize,
-) -> io::Result<()> {
-    let mut orders = [0u8; Kind::ORDERS];
-    if fits(kind, n) {
-        if read_orders(rt, first, n, &mut orders) {
-            return expand(rt, second, kind, orders);
-        }
+// The kind of the request whose kind is argument `at`, and how many orders follow from argument `first` on.
+fn request(rt: &impl Env, at: u8, first: u8) -> Option<(u8, usize)>
+    ensures { IfSome result (λ r. r.1 ≤ request_orders) }
+{
+    let n = argument_count(rt, ARGUMENTS + 1).checked_sub(first as usize)?;
+    let kind = argument(rt, at as usize)?;
+    if n == 0 || Kind::ORDERS < n || !fits(kind, n) {
+        return None;
     }
-    usage(rt)
+    Some((kind, n))
 }
 
-// The request whose kind is argument `at`, and whose first order argument `first`.
 fn called(
     rt: &(impl Env + Print + Eprint + Alloc),
     second: bool,
     at: u8,
     first: u8,
 ) -> io::Result<()> {
-    let count = argument_count(rt, ARGUMENTS + 1);
-    let before = first as usize;
-    if before < count {
-        if let Byte::Is(kind) = argument(rt, at as usize) {
-            return with_kind(rt, second, first, kind, count - before);
-        }
-    }
-    usage(rt)
+    let Some((kind, n)) = request(rt, at, first) else {
+        return usage(rt);
+    };
+    let Some(orders) = read_orders(rt, first, n) else {
+        return usage(rt);
+    };
+    expand(rt, second, kind, orders)
 }
 
 fn main(rt: HostRuntime) -> io::Result<()> {

@@ -10,8 +10,6 @@ use Rattle.laws.specs.Same.{same_numbers}
 use Rattle.laws.proofs.SameLaws.{same-numbers-is, same-numbers-refl}
 use Rattle.laws.proofs.Cases.{clash}
 use Rattle.kind.specs.declared.Kind.{Kind}
-use Rattle.kind.specs.declared.Named.{Named}
-use Rattle.kind.specs.declared.Named.TheVariants.{Is, Unknown}
 use Rattle.kind.specs.Kinds.{kind_of}
 use Rattle.kind.specs.Limits.{most_terms, request_orders}
 use Rattle.kind.proofs.Within.{orders-within}
@@ -21,9 +19,10 @@ use Rattle.form2.proofs.Sharing.{shares}
 use Rattle.form2.proofs.BesideLaws.{shared-within, shared-whole, shared-itself, shared-all}
 use Rattle.expansion.specs.declared.Path.{Path}
 use Rattle.expansion.specs.declared.Expanded.{Expanded}
-use Rattle.expansion.specs.declared.Expanded.TheVariants as size
+use Rattle.expansion.specs.Answer.{Answer}
+use Rattle.expansion.specs.Answer as size
 use Rattle.expansion.specs.declared.matching.Against.{Against}
-use Rattle.expansion.specs.declared.matching.Against.TheVariants.{Same, Differs, Refused}
+use Rattle.expansion.specs.declared.matching.Against.TheVariants.{Same, Differs}
 use Rattle.expansion.specs.Expanding.{Form, too_high, unused_set, too_many, terms_of, roll_of, kind_measured}
 use Rattle.expansion.specs.Against.{held_against, kind_against, named_against}
 use Rattle.expansion.specs.inner.View.{five_bits, path_prefactors, path_term, Emitted}
@@ -35,6 +34,9 @@ use Rattle.expansion.proofs.Sizes.{SizeIs, measured-size}
 use Rattle.expansion.proofs.HeaderLaws.{first_good, first-terms, roll-bytes, head-length, form-most}
 use Rattle.expansion.proofs.MatchLaws.{Besides, besides, differing-less}
 use Rattle.expansion.proofs.MatchTerms.{front, all-inside, as_many}
+use Rattle.std.specs.Prelude.{Option, Some, None, Result, Ok, Err}
+use Rattle.kind.specs.declared.refusals.Refusal.{Refusal}
+use Rattle.kind.specs.declared.refusals.Refusal.TheVariants.{WrongKind, OrderSum, UnusedOrder, TooManyTerms}
 
 -- ---- the bytes are the roll's, or they are not
 
@@ -191,51 +193,51 @@ module _ (form : ℕ) (k : Kind) (os : List ℕ) (left count : ℕ) (may : Count
 -- ---- the refusals
 
 pub counted : (k : Kind) (os : List ℕ) (a b : Bool) → a ≡ too_high k os → a ≡ false → b ≡ unused_set k os → b ≡ false → length os ≡ request_orders → (left : ℕ) → Packed os 0 left
-    → (r : Expanded) → r ≡ kind_measured k os → (long count : ℕ) → r ≡ size.Roll long count → CountMay k os left count
-counted k os a b high low unused none in-full left word r is long count e =
-    let size_is = measured-size k os long count (sym e ∙ is) in
+    → (r : Answer) → r ≡ kind_measured k os → (e : Expanded) → r ≡ Ok e → CountMay k os left e.terms
+counted k os a b high low unused none in-full left word r is e h =
+    let size_is = measured-size k os e.length e.terms (sym h ∙ is) in
     record { within = record { low_sums = sym high ∙ low; none-unused = sym unused ∙ none; in-full = in-full }; word = word; count-is = size_is.count-is; few = size_is.few }
 
 module _ (roll : Form) (k : Kind) (os s : List ℕ) where
-  pub against-high : (b : Bool) → b ≡ too_high k os → b ≡ true → Refused 2 ≡ kind_against roll k os s
+  pub against-high : (b : Bool) → b ≡ too_high k os → b ≡ true → Err OrderSum ≡ kind_against roll k os s
   unfolding kind_against
   against-high b e t = sym (simp (sym e ∙ t))
 
   module _ (a b : Bool) (high : a ≡ too_high k os) (low : a ≡ false) (unused : b ≡ unused_set k os) where
-    pub against-unused : b ≡ true → Refused 3 ≡ kind_against roll k os s
+    pub against-unused : b ≡ true → Err UnusedOrder ≡ kind_against roll k os s
     unfolding kind_against
     against-unused t = sym (simp (sym high ∙ low, sym unused ∙ t))
 
-    module _ (none : b ≡ false) (r : Expanded) (is : r ≡ kind_measured k os) where
-      many : (v : Bool) → too_many k os ≡ v → kind_measured k os ≡ cond v (size.Refused 4) (size.Roll (length (roll_of k os)) (length (terms_of k os)))
+    module _ (none : b ≡ false) (r : Answer) (is : r ≡ kind_measured k os) where
+      many : (v : Bool) → too_many k os ≡ v → kind_measured k os ≡ cond v (size.Refused TooManyTerms) (size.Roll (length (roll_of k os)) (length (terms_of k os)))
       unfolding kind_measured
       many v e = simp (sym high ∙ low, sym unused ∙ none, e)
 
-      pub against-many : (n : ℕ) → r ≡ size.Refused n → Refused n ≡ kind_against roll k os s
+      pub against-many : (n : Refusal) → r ≡ Err n → Err n ≡ kind_against roll k os s
       unfolding kind_against
       against-many n e = by (too_many k os) refl
         where
-          by : (v : Bool) → too_many k os ≡ v → Refused n ≡ kind_against roll k os s
+          by : (v : Bool) → too_many k os ≡ v → Err n ≡ kind_against roll k os s
           by true f =
-              let four : size.Refused n ≡ size.Refused 4 = sym e ∙ is ∙ many true f in
-              let same : n ≡ 4 = cc in
-              ap Refused same ∙ sym (simp (sym high ∙ low, sym unused ∙ none, f))
+              let four : size.Refused n ≡ size.Refused TooManyTerms = sym e ∙ is ∙ many true f in
+              let same : n ≡ TooManyTerms = cc in
+              ap (λ (m : Refusal). Err m) same ∙ sym (simp (sym high ∙ low, sym unused ∙ none, f))
           by false f =
               let no : size.Refused n ≡ size.Roll (length (roll_of k os)) (length (terms_of k os)) = sym e ∙ is ∙ many false f in
               absurd (clash (cc))
 
-      module _ (long count : ℕ) (e : r ≡ size.Roll long count) where
-        size_is : SizeIs k os long count
-        size_is = measured-size k os long count (sym e ∙ is)
+      module _ (e : Expanded) (h : r ≡ Ok e) where
+        size_is : SizeIs k os e.length e.terms
+        size_is = measured-size k os e.length e.terms (sym h ∙ is)
 
-        pub against-held : (x : Against) → x ≡ held_against s (roll k os) (length (terms_of k os)) → x ≡ kind_against roll k os s
+        pub against-held : (x : Against) → x ≡ held_against s (roll k os) (length (terms_of k os)) → Ok x ≡ kind_against roll k os s
         unfolding kind_against
-        against-held x told = told ∙ sym (simp (sym high ∙ low, sym unused ∙ none, le-ltb most_terms (length (terms_of k os)) size_is.few))
+        against-held x told = ap (λ (y : Against). Ok y) told ∙ sym (simp (sym high ∙ low, sym unused ∙ none, le-ltb most_terms (length (terms_of k os)) size_is.few))
 
 -- a kind above 4, and a known one
-module _ (roll : Form) (kind : ℕ) (os s : List ℕ) (named : Named) (is : named ≡ kind_of kind) where
-  pub against-unknown : named ≡ Unknown → Refused 1 ≡ named_against roll (kind_of kind) os s
-  against-unknown e = ap (λ (n : Named). named_against roll n os s) (sym e ∙ is)
+module _ (roll : Form) (kind : ℕ) (os s : List ℕ) (named : Option Kind) (is : named ≡ kind_of kind) where
+  pub against-unknown : named ≡ None → Err WrongKind ≡ named_against roll (kind_of kind) os s
+  against-unknown e = ap (λ (n : Option Kind). named_against roll n os s) (sym e ∙ is)
 
-  pub against-known : (k : Kind) (r : Against) → named ≡ Is k → r ≡ kind_against roll k os s → r ≡ named_against roll (kind_of kind) os s
-  against-known k r e a = a ∙ ap (λ (n : Named). named_against roll n os s) (sym e ∙ is)
+  pub against-known : (k : Kind) (r : Result Against Refusal) → named ≡ Some k → r ≡ kind_against roll k os s → r ≡ named_against roll (kind_of kind) os s
+  against-known k r e a = a ∙ ap (λ (n : Option Kind). named_against roll n os s) (sym e ∙ is)

@@ -7,7 +7,6 @@ use borrow.Author.Tests.{ltb-false}
 use lib.ListN.{length, take}
 use Rattle.laws.specs.Placed.{placed}
 use Rattle.kind.specs.declared.Kind.{Kind}
-use Rattle.kind.specs.declared.Named.TheVariants.{Is}
 use Rattle.kind.specs.Limits.{most_terms, request_orders}
 use Rattle.kind.specs.Kinds.{orders_of}
 use Rattle.roll.specs.Reading.{got, roll_at}
@@ -15,20 +14,21 @@ use Rattle.form2.specs.Bytes.{roll_bytes2}
 use Rattle.form2.specs.Reading.{roll_at2}
 use Rattle.form2.proofs.Written.{roll-only2}
 use Rattle.form2.proofs.Checked.{reads-checked2}
-use Rattle.expansion.specs.declared.Expanded.{Expanded}
-use Rattle.expansion.specs.declared.Expanded.TheVariants as answer
+use Rattle.expansion.specs.Answer.{Answer}
+use Rattle.expansion.specs.Answer as answer
 use Rattle.expansion.specs.Expanding.{terms_of, roll_of, roll_of2, ExpandTold, Expand2Told}
 use Rattle.expansion.specs.Demands.{roll_with, Demand3Form2, written_at, ReadsBack2, Demand2Form2, SameTerms}
 use Rattle.expansion.specs.inner.Requests.{RequestWithin}
 use Rattle.expansion.proofs.ReadsBack.{reads-back, reads-back2}
 use Rattle.expansion.proofs.Demanded.{answered, Known, known, cut, demand-3-in}
+use Rattle.std.specs.Prelude.{Some}
 
 roll-is2 : (k : Kind) (orders : List ℕ) → roll_of2 k orders ≡ roll_with roll_bytes2 k orders (terms_of k orders)
 unfolding roll_of2
 roll-is2 k orders = refl
 
 module _ (kind : ℕ) (orders : List ℕ) (in-full : length orders ≡ request_orders) (before : List ℕ) (begin : ℕ) where
-  pub demand-3-form2 : (r : Expanded) (after : List ℕ) → Expand2Told kind orders before begin r after → Demand3Form2 kind orders before begin r after
+  pub demand-3-form2 : (r : Answer) (after : List ℕ) → Expand2Told kind orders before begin r after → Demand3Form2 kind orders before begin r after
   demand-3-form2 r after told = demand-3-in roll_of2 roll_bytes2 roll-is2 kind orders before begin in-full r after told
 
   -- what was written reads as the roll of the request's terms
@@ -53,6 +53,7 @@ module _ (kind : ℕ) (orders : List ℕ) (in-full : length orders ≡ request_o
   again2 : (long count : ℕ) (after : List ℕ) → Known roll_of2 kind orders before begin (answer.Roll long count) after → ReadsBack2 kind orders before begin long count after
   again2 long count after of =
       let r = read2 long count after of in
+      let o = reads-checked2 (written_at after begin long) (record { kind = of.k; orders = take (orders_of of.k) orders; terms = terms_of of.k orders }) long r.reads in
       record {
         k = of.k;
         named = of.named;
@@ -61,14 +62,15 @@ module _ (kind : ℕ) (orders : List ℕ) (in-full : length orders ≡ request_o
         long-is = r.long-is ∙ ap length (roll-is2 of.k orders);
         count-is = r.count-is;
         reads = r.reads;
-        judged = (reads-checked2 (written_at after begin long) (record { kind = of.k; orders = take (orders_of of.k) orders; terms = terms_of of.k orders }) long r.reads).1;
+        opened = o.opened;
+        judged = o.checks;
       }
 
-  pub demand-2-form2 : (r : Expanded) (after : List ℕ) → Expand2Told kind orders before begin r after → Demand2Form2 kind orders before begin r after
+  pub demand-2-form2 : (r : Answer) (after : List ℕ) → Expand2Told kind orders before begin r after → Demand2Form2 kind orders before begin r after
   demand-2-form2 r after told =
       record {
         reads-back = λ (long count : ℕ) (e : r ≡ answer.Roll long count).
-            again2 long count after (known roll_of2 kind orders before begin (answer.Roll long count) after (subst (λ (y : Expanded). Expand2Told kind orders before begin y after) e told) (λ f. omega arith));
+            again2 long count after (known roll_of2 kind orders before begin (answer.Roll long count) after (subst (λ (y : Answer). Expand2Told kind orders before begin y after) e told) (λ f. omega arith));
         only-writing = roll-only2;
       }
 
@@ -86,7 +88,7 @@ module _ (kind : ℕ) (orders : List ℕ) (in-full : length orders ≡ request_o
       let few : length (terms_of k orders) ≤ most_terms = ltb-false most_terms (length (terms_of k orders)) a.four in
       let is : written_at after begin long ≡ roll_of k orders = cut before begin long after (roll_of k orders) (ltb-false (length before) begin a.five) a.long-is of.out in
       let r = read2 kind orders in-full before2 begin2 long2 count2 after2 of2 in
-      let both : Is k ≡ Is of2.k = sym of.named ∙ of2.named in
+      let both : Some k ≡ Some of2.k = sym of.named ∙ of2.named in
       let same : of2.k ≡ k = cc in
       record {
         roll = record { kind = k; orders = take (orders_of k) orders; terms = terms_of k orders };

@@ -12,8 +12,6 @@ use Rattle.laws.specs.Placed.{placed}
 use Rattle.laws.specs.Total.{total}
 use Rattle.laws.proofs.Cases.{clash}
 use Rattle.kind.specs.declared.Kind.{Kind}
-use Rattle.kind.specs.declared.Named.{Named}
-use Rattle.kind.specs.declared.Named.TheVariants.{Is, Unknown}
 use Rattle.kind.specs.Limits.{most_terms, request_orders}
 use Rattle.kind.specs.Kinds.{kind_of, orders_of}
 use Rattle.kind.proofs.KindNumber.{number-kind}
@@ -28,17 +26,17 @@ use Rattle.histories.proofs.Bounds.{Kept, terms-kept}
 use Rattle.roll.specs.Reading as Read
 use Rattle.roll.specs.Reading.{got, roll_at}
 use Rattle.roll.specs.Bytes.{roll_bytes}
-use Rattle.roll.specs.Header.{check_of}
 use Rattle.roll.specs.inner.Judged.{Judged}
 use Rattle.roll.proofs.Written.{roll-only}
-use Rattle.roll.proofs.Checked.{reads-checked, judged-kind, judged-orders, judged-l, judged-left}
-use Rattle.expansion.specs.declared.Expanded.{Expanded}
-use Rattle.expansion.specs.declared.Expanded.TheVariants.{Roll, Refused}
-use Rattle.expansion.specs.Expanding.{Form, ◌exceeds◌, too_high, unused_set, terms_of, roll_of, kind_in, named_in, out_in, FormTold, ExpandTold, refusal_of}
+use Rattle.roll.proofs.Checked.{Opens, reads-checked, judged-kind, judged-orders, judged-l, judged-left}
+use Rattle.expansion.specs.Answer.{Answer, Roll, Refused}
+use Rattle.expansion.specs.Expanding.{Form, ◌exceeds◌, too_high, unused_set, terms_of, roll_of, kind_in, named_in, out_in, FormTold, ExpandTold, refusal_of, length_in, count_in}
 use Rattle.expansion.specs.Demands.{HistoriesOf, replayed, Writing, roll_with, WholeList, Passed, TooMany, Demand3In, Demand3, written_at, ReadsBack, Demand2}
 use Rattle.expansion.specs.inner.Requests.{RequestWithin}
 use Rattle.expansion.proofs.HeaderLaws.{all_small, orders-long}
 use Rattle.expansion.proofs.ReadsBack.{rest-zero, used-total, reads-back}
+use Rattle.std.specs.Prelude.{Option, Some, None}
+use Rattle.kind.specs.declared.refusals.Refusal.TheVariants.{OrderSum, UnusedOrder, TooManyTerms, StartBeyondEnd, NoRoom}
 
 -- ---- the list of histories
 
@@ -74,8 +72,8 @@ pub record Answered (roll : Form) (k : Kind) (orders before : List ℕ) (begin l
   pub long-is : long ≡ length (roll k orders)
   pub count-is : count ≡ length (terms_of k orders)
 
-abbrev in_turn : Bool → Bool → Bool → Bool → Bool → Expanded → Expanded
-in_turn two three five four six roll = cond two (Refused 2) (cond three (Refused 3) (cond five (Refused 5) (cond four (Refused 4) (cond six (Refused 6) roll))))
+abbrev in_turn : Bool → Bool → Bool → Bool → Bool → Answer → Answer
+in_turn two three five four six roll = cond two (Refused OrderSum) (cond three (Refused UnusedOrder) (cond five (Refused StartBeyondEnd) (cond four (Refused TooManyTerms) (cond six (Refused NoRoom) roll))))
 
 -- the five checks in turn end in a roll where none is met
 none-met : (a b c d e : Bool) (l n long count : ℕ) → in_turn a b c d e (Roll l n) ≡ Roll long count
@@ -85,10 +83,10 @@ none-met false true c d e l n long count is = absurd (clash (cc))
 none-met false false true d e l n long count is = absurd (clash (cc))
 none-met false false false true e l n long count is = absurd (clash (cc))
 none-met false false false false true l n long count is = absurd (clash (cc))
-none-met false false false false false l n long count is = (refl, refl, refl, refl, refl, cc, cc)
+none-met false false false false false l n long count is = (refl, refl, refl, refl, refl, sym (ap length_in is), sym (ap count_in is))
 
 -- and in 4 where those before it are not met
-four-met : (a b c d e : Bool) (l n : ℕ) → in_turn a b c d e (Roll l n) ≡ Refused 4 → (a ≡ false) × (b ≡ false) × (c ≡ false) × (d ≡ true)
+four-met : (a b c d e : Bool) (l n : ℕ) → in_turn a b c d e (Roll l n) ≡ Refused TooManyTerms → (a ≡ false) × (b ≡ false) × (c ≡ false) × (d ≡ true)
 four-met true b c d e l n is = let h : ◌≡◌ {A = ℕ} 2 4 = ap refusal_of is in absurd (omega arith)
 four-met false true c d e l n is = let h : ◌≡◌ {A = ℕ} 3 4 = ap refusal_of is in absurd (omega arith)
 four-met false false true d e l n is = let h : ◌≡◌ {A = ℕ} 5 4 = ap refusal_of is in absurd (omega arith)
@@ -104,7 +102,7 @@ answered roll k orders before begin long count e =
     (begin + length (roll k orders) exceeds length before) (length (roll k orders)) (length (terms_of k orders)) long count e in
     record { two = m.0; three = m.1; five = m.2; four = m.3; six = m.4; long-is = m.5; count-is = m.6 }
 
-answered-four : (roll : Form) (k : Kind) (orders before : List ℕ) (begin : ℕ) → kind_in roll k orders before begin ≡ Refused 4
+answered-four : (roll : Form) (k : Kind) (orders before : List ℕ) (begin : ℕ) → kind_in roll k orders before begin ≡ Refused TooManyTerms
     → (too_high k orders ≡ false) × (unused_set k orders ≡ false) × ((begin exceeds length before) ≡ false) × ((length (terms_of k orders) exceeds most_terms) ≡ true)
 unfolding kind_in
 answered-four roll k orders before begin e =
@@ -112,7 +110,7 @@ answered-four roll k orders before begin e =
     (begin + length (roll k orders) exceeds length before) (length (roll k orders)) (length (terms_of k orders)) e
 
 told-four : (roll : Form) (k : Kind) (orders before : List ℕ) (begin : ℕ) → too_high k orders ≡ false → unused_set k orders ≡ false → (begin exceeds length before) ≡ false
-    → (length (terms_of k orders) exceeds most_terms) ≡ true → kind_in roll k orders before begin ≡ Refused 4
+    → (length (terms_of k orders) exceeds most_terms) ≡ true → kind_in roll k orders before begin ≡ Refused TooManyTerms
 unfolding kind_in
 told-four roll k orders before begin a b c d = simp (a, b, c, d)
 
@@ -123,19 +121,19 @@ told-roll roll k orders before begin a b c few room =
     simp (a, b, c, le-ltb most_terms (length (terms_of k orders)) few, le-ltb (length before) (begin + length (roll k orders)) room)
 
 -- the kind is known where the answer is not refusal 1
-pub record Known (roll : Form) (kind : ℕ) (orders before : List ℕ) (begin : ℕ) (r : Expanded) (after : List ℕ) : Type 0 where
+pub record Known (roll : Form) (kind : ℕ) (orders before : List ℕ) (begin : ℕ) (r : Answer) (after : List ℕ) : Type 0 where
   pub k : Kind
-  pub named : kind_of kind ≡ Is k
+  pub named : kind_of kind ≡ Some k
   pub answer : kind_in roll k orders before begin ≡ r
-  pub out : after ≡ out_in roll r (Is k) orders before begin
+  pub out : after ≡ out_in roll r (Some k) orders before begin
 
-pub known : (roll : Form) (kind : ℕ) (orders before : List ℕ) (begin : ℕ) (r : Expanded) (after : List ℕ)
+pub known : (roll : Form) (kind : ℕ) (orders before : List ℕ) (begin : ℕ) (r : Answer) (after : List ℕ)
     → FormTold roll kind orders before begin r after → (refusal_of r ≡ 1 → ⊥) → Known roll kind orders before begin r after
 known roll kind orders before begin r after told other = at (kind_of kind) refl told.answer told.out
   where
-    at : (m : Named) → kind_of kind ≡ m → r ≡ named_in roll m orders before begin → after ≡ out_in roll (named_in roll m orders before begin) m orders before begin → Known roll kind orders before begin r after
-    at Unknown e a o = absurd (other (ap refusal_of a))
-    at (Is k) e a o = record { k = k; named = e; answer = sym a; out = o ∙ ap (λ (x : Expanded). out_in roll x (Is k) orders before begin) (sym a) }
+    at : (m : Option Kind) → kind_of kind ≡ m → r ≡ named_in roll m orders before begin → after ≡ out_in roll (named_in roll m orders before begin) m orders before begin → Known roll kind orders before begin r after
+    at None e a o = absurd (other (ap refusal_of a))
+    at (Some k) e a o = record { k = k; named = e; answer = sym a; out = o ∙ ap (λ (x : Answer). out_in roll x (Some k) orders before begin) (sym a) }
 
 -- ---- demand 3
 
@@ -171,7 +169,7 @@ module _ (roll : Form) (bytes : Writing) (writes : (k : Kind) (os : List ℕ) �
         boys = λ (h : List ℕ) (m : Memᴰ h (histories (start k orders))). (replay-kept k orders within h m).boys;
       }
 
-  too_many_lem : (after : List ℕ) → Known roll kind orders before begin (Refused 4) after → TooMany kind orders before begin
+  too_many_lem : (after : List ℕ) → Known roll kind orders before begin (Refused TooManyTerms) after → TooMany kind orders before begin
   too_many_lem after of =
       let k = of.k in
       let a = answered-four roll k orders before begin of.answer in
@@ -184,15 +182,15 @@ module _ (roll : Form) (bytes : Writing) (writes : (k : Kind) (os : List ℕ) �
         more = omega (arith, as_many (start k orders));
       }
 
-  refused-four : (r : Expanded) (after : List ℕ) → FormTold roll kind orders before begin r after → TooMany kind orders before begin → r ≡ Refused 4
+  refused-four : (r : Answer) (after : List ℕ) → FormTold roll kind orders before begin r after → TooMany kind orders before begin → r ≡ Refused TooManyTerms
   refused-four r after told many =
       let k = many.k in
       let same = ap length (only-histories k orders many.hs many.holds) in
       let more : most_terms < length (terms_of k orders) = omega (arith, as_many (start k orders), many.more) in
-      told.answer ∙ ap (λ (m : Named). named_in roll m orders before begin) many.passed.one
+      told.answer ∙ ap (λ (m : Option Kind). named_in roll m orders before begin) many.passed.one
       ∙ told-four roll k orders before begin many.passed.two many.passed.three many.passed.five (lt-ltb most_terms (length (terms_of k orders)) more)
 
-  roll-comes : (r : Expanded) (after : List ℕ) → FormTold roll kind orders before begin r after
+  roll-comes : (r : Answer) (after : List ℕ) → FormTold roll kind orders before begin r after
       → (k : Kind) (hs : List (List ℕ)) → Passed kind orders before begin k → HistoriesOf k orders hs → length hs ≤ most_terms
       → begin + length (roll_with bytes k orders (replayed k orders hs)) ≤ length before → r ≡ Roll (length (roll_with bytes k orders (replayed k orders hs))) (length hs)
   roll-comes r after told k hs passed holds few room =
@@ -200,27 +198,27 @@ module _ (roll : Form) (bytes : Writing) (writes : (k : Kind) (os : List ℕ) �
       let long : length (roll k orders) ≡ length (roll_with bytes k orders (replayed k orders hs)) = ap length (rolls k orders roll bytes (writes k orders))
       ∙ ap (λ (gs : List (List ℕ)). length (roll_with bytes k orders (replayed k orders gs))) (sym same) in
       let count : length (terms_of k orders) ≡ length hs = as_many (start k orders) ∙ ap length (sym same) in
-      told.answer ∙ ap (λ (m : Named). named_in roll m orders before begin) passed.one
+      told.answer ∙ ap (λ (m : Option Kind). named_in roll m orders before begin) passed.one
       ∙ told-roll roll k orders before begin passed.two passed.three passed.five (omega arith) (omega arith) ∙ ap₂ Roll long count
 
-  pub demand-3-in : (r : Expanded) (after : List ℕ) → FormTold roll kind orders before begin r after → Demand3In bytes kind orders before begin r after
+  pub demand-3-in : (r : Answer) (after : List ℕ) → FormTold roll kind orders before begin r after → Demand3In bytes kind orders before begin r after
   demand-3-in r after told =
       record {
         unless-refused = λ (long count : ℕ) (e : r ≡ Roll long count). whole-list long count after (having (Roll long count) e (λ f. omega arith));
-        four-then-more = λ (e : r ≡ Refused 4). too_many_lem after (having (Refused 4) e (λ f. omega arith));
+        four-then-more = λ (e : r ≡ Refused TooManyTerms). too_many_lem after (having (Refused TooManyTerms) e (λ f. omega arith));
         more-then-four = refused-four r after told;
         else-a-roll = roll-comes r after told;
       }
     where
-      having : (x : Expanded) → r ≡ x → (refusal_of x ≡ 1 → ⊥) → Known roll kind orders before begin x after
-      having x e other = known roll kind orders before begin x after (subst (λ (y : Expanded). FormTold roll kind orders before begin y after) e told) other
+      having : (x : Answer) → r ≡ x → (refusal_of x ≡ 1 → ⊥) → Known roll kind orders before begin x after
+      having x e other = known roll kind orders before begin x after (subst (λ (y : Answer). FormTold roll kind orders before begin y after) e told) other
 
 -- each form is the writing of a request's terms
 roll-is : (k : Kind) (orders : List ℕ) → roll_of k orders ≡ roll_with roll_bytes k orders (terms_of k orders)
 unfolding roll_of
 roll-is k orders = refl
 
-pub demand-3 : (kind : ℕ) (orders before : List ℕ) (begin : ℕ) → length orders ≡ request_orders → (r : Expanded) (after : List ℕ) → ExpandTold kind orders before begin r after → Demand3 kind orders before begin r after
+pub demand-3 : (kind : ℕ) (orders before : List ℕ) (begin : ℕ) → length orders ≡ request_orders → (r : Answer) (after : List ℕ) → ExpandTold kind orders before begin r after → Demand3 kind orders before begin r after
 demand-3 kind orders before begin in-full r after told = demand-3-in roll_of roll_bytes roll-is kind orders before begin in-full r after told
 
 -- ---- demand 2
@@ -246,8 +244,11 @@ module _ (k : Kind) (orders : List ℕ) (within : RequestWithin k orders) (few :
   reads_as : roll_at s ≡ got the_roll (length (roll_of k orders))
   reads_as = ap roll_at is ∙ reads-back k orders within few
 
-  abbrev the-judged : Judged (check_of s) s
-  the-judged = record { roll = the_roll; end = length (roll_of k orders); reads = reads_as; header = (reads-checked s the_roll (length (roll_of k orders)) reads_as).0 }
+  opens : Opens s
+  opens = reads-checked s the_roll (length (roll_of k orders)) reads_as
+
+  abbrev the-judged : Judged opens.opened s
+  the-judged = record { roll = the_roll; end = length (roll_of k orders); reads = reads_as; header = sym opens.opens }
 
 -- the bytes that were placed
 pub cut : (out : List ℕ) (at long : ℕ) (after bytes : List ℕ) → at ≤ length out → long ≡ length bytes → after ≡ placed out at bytes → written_at after at long ≡ bytes
@@ -271,6 +272,7 @@ module _ (kind : ℕ) (orders before : List ℕ) (begin : ℕ) (in-full : length
       let few : length (terms_of k orders) ≤ most_terms = ltb-false most_terms (length (terms_of k orders)) a.four in
       let s = written_at after begin long in
       let is = written_is kind orders before begin long count after of in
+      let o = opens k orders within few s is in
       let j = the-judged k orders within few s is in
       record {
         k = k;
@@ -280,17 +282,18 @@ module _ (kind : ℕ) (orders before : List ℕ) (begin : ℕ) (in-full : length
         long-is = a.long-is ∙ ap length (roll-is k orders);
         count-is = a.count-is;
         reads = reads_as k orders within few s is ∙ ap (got (the_roll k orders within few s is)) (sym a.long-is);
-        judged = (reads-checked s (the_roll k orders within few s is) (length (roll_of k orders)) (reads_as k orders within few s is)).1;
-        judged-kind = judged-kind (check_of s) s j ∙ sym (number-kind kind k of.named);
-        judged-orders = (judged-orders (check_of s) s j).0 ∙ all-orders k orders within;
-        judged-l = judged-l (check_of s) s j ∙ used-total k orders within;
-        judged-left = judged-left (check_of s) s j ∙ sym a.count-is;
+        opened = o.opened;
+        judged = o.checks;
+        judged-kind = judged-kind o.opened s j ∙ sym (number-kind kind k of.named);
+        judged-orders = (judged-orders o.opened s j).0 ∙ all-orders k orders within;
+        judged-l = judged-l o.opened s j ∙ used-total k orders within;
+        judged-left = judged-left o.opened s j ∙ sym a.count-is;
       }
 
-  pub demand-2 : (r : Expanded) (after : List ℕ) → ExpandTold kind orders before begin r after → Demand2 kind orders before begin r after
+  pub demand-2 : (r : Answer) (after : List ℕ) → ExpandTold kind orders before begin r after → Demand2 kind orders before begin r after
   demand-2 r after told =
       record {
         reads-back = λ (long count : ℕ) (e : r ≡ Roll long count).
-            read_again long count after (known roll_of kind orders before begin (Roll long count) after (subst (λ (y : Expanded). ExpandTold kind orders before begin y after) e told) (λ f. omega arith));
+            read_again long count after (known roll_of kind orders before begin (Roll long count) after (subst (λ (y : Answer). ExpandTold kind orders before begin y after) e told) (λ f. omega arith));
         only-writing = roll-only;
       }

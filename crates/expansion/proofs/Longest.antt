@@ -19,7 +19,7 @@ use Rattle.roll.specs.Reading.{Roll}
 use Rattle.roll.specs.Fits.{CentresFit, Below, TermFits, TermsFit, RollFits}
 use Rattle.roll.proofs.Back.{most-boys}
 use Rattle.form2.proofs.AtMost.{length_most, length-bytes}
-use Rattle.expansion.specs.declared.Expanded.TheVariants as answer
+use Rattle.expansion.specs.Answer as answer
 use Rattle.expansion.specs.Expanding.{terms_of, roll_of, ExpandTold, most_term, most_roll_of, most_roll}
 use Rattle.expansion.specs.inner.Requests.{RequestWithin}
 use Rattle.expansion.proofs.ReadsBack.{roll-fits}

@@ -12,14 +12,14 @@ use Rattle.steps.specs.Steps.{branches}
 use Rattle.steps.specs.inner.Packed.{orders, multiplier_word}
 use Rattle.expansion.specs.declared.Path.{Path}
 use Rattle.expansion.specs.declared.Child.{Child}
-use Rattle.expansion.specs.declared.Lowering.{Lowering}
-use Rattle.expansion.specs.declared.Lowering.TheVariants.{At, Nothing}
+use Rattle.expansion.specs.declared.Lowered.{Lowered}
 use Rattle.expansion.specs.inner.View.{path_term}
 use Rattle.expansion.specs.inner.Walking.{ChildOf, lowering, terms_below, terms_from}
 use Rattle.expansion.specs.inner.Matching.{Match, match_of, Matched, TermApt, NodeApt, BranchApt}
 use Rattle.expansion.proofs.WalkTurns.{from-none, from-skip, from-legal, turn-next, below-eight}
 use Rattle.expansion.proofs.WalkCycle.{node_fuel, below_fuel, branch_fuel, good-words, below-done, below_none, below-first, first-turn}
 use Rattle.expansion.proofs.MatchLaws.{matched-none, matched-ended, matched-both}
+use Rattle.std.specs.Prelude.{Option, Some, None}
 
 module _ (s : List ℕ) (k : Kind) (left : ℕ) (p : Path) (c : CentreName) (x : Axis) (times number : ℕ) (m : Match) (may : BranchApt s k left p c x times number m) where
   pub match_none : times ≡ 0 → Matched s m (terms_from k left p c x number) m
@@ -78,11 +78,11 @@ module _ (s : List ℕ) (k : Kind) (left : ℕ) (p : Path) (m : Match) (may : No
   unfolding node_fuel branch_fuel
   match-first-falls t e = omega arith
 
-  module _ (some : left ≡ 0 → ⊥) (r : Lowering) (is : r ≡ lowering k (orders left)) where
-    pub match-nothing : r ≡ Nothing → Matched s m (terms_below k left p) m
+  module _ (some : left ≡ 0 → ⊥) (r : Option Lowered) (is : r ≡ lowering k (orders left)) where
+    pub match-nothing : r ≡ None → Matched s m (terms_below k left p) m
     match-nothing e = matched-none s m (terms_below k left p) may.apt (below_none k left p may.good.word some r is e)
 
-    module _ (c : CentreName) (x : Axis) (at-them : r ≡ At (record { centre = c; axis = x })) where
+    module _ (c : CentreName) (x : Axis) (at-them : r ≡ Some (record { centre = c; axis = x })) where
       pub match-first : (times : ℕ) → times ≡ multiplier_word c x (orders left) (branches k c x) → BranchApt s k left p c x times 0 m
       match-first times e = record { good = may.good; turn = first-turn k left p may.good.word some r is c x at-them times e; apt = may.apt }
 

@@ -20,10 +20,9 @@ use Rattle.steps.specs.inner.Packed.{orders, move_in, multiplier_word}
 use Rattle.histories.specs.History.{stage, depth}
 use Rattle.roll.specs.Bytes.{term_bytes, terms_bytes}
 use Rattle.expansion.specs.declared.Path.{Path}
-use Rattle.expansion.specs.declared.Measured.{Measured}
-use Rattle.expansion.specs.declared.Measured.TheVariants.{Fits, Over}
-use Rattle.expansion.specs.declared.Lowering.{Lowering}
-use Rattle.expansion.specs.declared.Lowering.TheVariants.{At, Nothing}
+use Rattle.expansion.specs.inner.Measuring.{Measured}
+use Rattle.expansion.specs.inner.Measuring.{Fits}
+use Rattle.expansion.specs.declared.Lowered.{Lowered}
 use Rattle.expansion.specs.inner.View.{path_term}
 use Rattle.expansion.specs.inner.Walking.{Good, TurnMay, lowering, terms_below, terms_from}
 use Rattle.expansion.specs.inner.Measuring.{measured, plus, width_of, group_of, skip_of, SmallMeasure, MeasureMay, Measures, MeasuresFrom, MeasuresGroup, one_term, over_word, word_of, WordOf, Unpacked}
@@ -34,6 +33,7 @@ use Rattle.expansion.proofs.WalkCycle.{Words, good-words, below-done, below_none
 use Rattle.expansion.proofs.MeasureSizes.{measured-few, small-fits, small-none, small-over, none-plus, plus_none, plus-again}
 use Rattle.expansion.proofs.MeasureWords.{word-most, group-small, group-words, group-over}
 use Rattle.expansion.proofs.MeasureGroups.{next_path, next-scale, next-count, next_of, width_one, group-turn, group-none, group-split}
+use Rattle.std.specs.Prelude.{Option, Some, None}
 
 unfoldable pub inner_count : Kind → ℕ → ℕ
 inner_count k left = 3 * (stage k + total (orders left)) + 2
@@ -85,8 +85,8 @@ module _ (k : Kind) (left scale count : ℕ) (may : MeasureMay k left scale coun
   pub node-told : (word : ℕ) (r : Measured) → WordOf (Measures k left scale count) word → Unpacked word r → Measures k left scale count r
   node-told word r w u = subst (Measures k left scale count) (sym (u.only w.size w.told.small-enough w.word)) w.told
 
-  module _ (some : left ≡ 0 → ⊥) (l : Lowering) (is : l ≡ lowering k (orders left)) where
-    pub none_told : l ≡ Nothing → WordOf (Measures k left scale count) 0
+  module _ (some : left ≡ 0 → ⊥) (l : Option Lowered) (is : l ≡ lowering k (orders left)) where
+    pub none_told : l ≡ None → WordOf (Measures k left scale count) 0
     none_told e =
         record {
           size = Fits 0 0;
@@ -98,7 +98,7 @@ module _ (k : Kind) (left scale count : ℕ) (may : MeasureMay k left scale coun
               };
         }
 
-    module _ (c : CentreName) (x : Axis) (at-them : l ≡ At (record { centre = c; axis = x })) where
+    module _ (c : CentreName) (x : Axis) (at-them : l ≡ Some (record { centre = c; axis = x })) where
       pub turn-first : (times : ℕ) → times ≡ multiplier_word c x (orders left) (branches k c x) → TurnMay k left c x times 0
       turn-first times e = first-turn k left may.path may.good.word some l is c x at-them times e
 
@@ -265,7 +265,7 @@ module _ (k : Kind) (left scale count : ℕ) (c : CentreName) (x : Axis) (rest n
       added-over above =
           let over = group-over a.size o.size a.small-enough o.told.small-enough w wide (let e = words-sum in omega arith) in
           record {
-            size = Over;
+            size = None;
             word = refl;
             told =
                 record {

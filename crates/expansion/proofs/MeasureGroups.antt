@@ -20,7 +20,7 @@ use Rattle.steps.specs.Steps.{Falls, Branch, branches, times}
 use Rattle.steps.specs.inner.Packed.{orders, move_in, fall_word, no_branch, multiplier_word}
 use Rattle.expansion.specs.declared.Path.{Path}
 use Rattle.expansion.specs.declared.Child.{Child}
-use Rattle.expansion.specs.declared.Measured.{Measured}
+use Rattle.expansion.specs.inner.Measuring.{Measured}
 use Rattle.expansion.specs.inner.View.{path_term, moved_on, MoveMay}
 use Rattle.expansion.specs.inner.Walking.{Good, TurnMay, ChildOf, terms_below, terms_from}
 use Rattle.expansion.specs.inner.Measuring.{measured, plus, in_pairs, width_of, group_of, skip_of, Measures}

@@ -10,18 +10,19 @@ use lib.ListN.{length, length-append}
 use Rattle.kind.specs.Limits.{most_terms}
 use Rattle.term.specs.Terms.{Term}
 use Rattle.roll.specs.Bytes.{terms_bytes}
-use Rattle.expansion.specs.declared.Measured.{Measured}
-use Rattle.expansion.specs.declared.Measured.TheVariants.{Fits, Over}
+use Rattle.expansion.specs.inner.Measuring.{Measured}
+use Rattle.expansion.specs.inner.Measuring.{Fits}
 use Rattle.expansion.specs.inner.Measuring.{measured, plus, in_pairs, skip_of, terms_in, bytes_in, SmallMeasure}
 use Rattle.expansion.proofs.WalkTurns.{terms-append}
+use Rattle.std.specs.Prelude.{None}
 
 pub measured-few : (ts : List Term) → length ts ≤ most_terms → measured ts ≡ Fits (length ts) (length (terms_bytes ts))
 unfolding measured
-measured-few ts h = ap (λ (v : Bool). cond v (Fits (length ts) (length (terms_bytes ts))) Over) (le-leb (length ts) most_terms h)
+measured-few ts h = ap (λ (v : Bool). cond v (Fits (length ts) (length (terms_bytes ts))) None) (le-leb (length ts) most_terms h)
 
-pub measured-many : (ts : List Term) → most_terms < length ts → measured ts ≡ Over
+pub measured-many : (ts : List Term) → most_terms < length ts → measured ts ≡ None
 unfolding measured
-measured-many ts h = ap (λ (v : Bool). cond v (Fits (length ts) (length (terms_bytes ts))) Over) (lt-leb (length ts) most_terms h)
+measured-many ts h = ap (λ (v : Bool). cond v (Fits (length ts) (length (terms_bytes ts))) None) (lt-leb (length ts) most_terms h)
 
 -- two lists one after the other
 pub measured-append : (xs ys : List Term) → measured (xs ++ ys) ≡ plus (measured xs) (measured ys)
@@ -34,7 +35,7 @@ measured-append xs ys = first (leb (length xs) most_terms) refl
     bytes : length (terms_bytes (xs ++ ys)) ≡ length (terms_bytes xs) + length (terms_bytes ys)
     bytes = ap length (terms-append xs ys) ∙ length-append (terms_bytes xs) (terms_bytes ys)
 
-    both : (v : Bool) → leb (length xs + length ys) most_terms ≡ v → measured (xs ++ ys) ≡ cond v (Fits (length xs + length ys) (length (terms_bytes xs) + length (terms_bytes ys))) Over
+    both : (v : Bool) → leb (length xs + length ys) most_terms ≡ v → measured (xs ++ ys) ≡ cond v (Fits (length xs + length ys) (length (terms_bytes xs) + length (terms_bytes ys))) None
     both true e = measured-few (xs ++ ys) (let h = leb-true (length xs + length ys) most_terms e in let l = long in omega arith) ∙ ap₂ Fits long bytes
     both false e = measured-many (xs ++ ys) (let h = leb-false (length xs + length ys) most_terms e in let l = long in omega arith)
 
@@ -62,7 +63,7 @@ module _ (m : Measured) (s : SmallMeasure m) (a b : ℕ) (is : m ≡ Fits a b) w
 pub small-fits : (a b : ℕ) → a ≤ most_terms → b ≤ 32 * a → SmallMeasure (Fits a b)
 small-fits a b h k = record { few = h; short = k }
 
-pub small-over : SmallMeasure Over
+pub small-over : SmallMeasure None
 small-over = record { few = omega arith; short = omega arith }
 
 pub small-none : SmallMeasure (Fits 0 0)
@@ -79,20 +80,20 @@ plus_none (Fits a b) s =
     let few : a + 0 ≤ most_terms = omega (arith, small-terms (Fits a b) s a b refl) in
     let same : a + 0 ≡ a = omega arith in
     let long : b + 0 ≡ b = omega arith in
-    sym (ap (λ (v : Bool). cond v (Fits (a + 0) (b + 0)) Over) (le-leb (a + 0) most_terms few) ∙ ap₂ Fits same long)
-plus_none Over s = refl
+    sym (ap (λ (v : Bool). cond v (Fits (a + 0) (b + 0)) None) (le-leb (a + 0) most_terms few) ∙ ap₂ Fits same long)
+plus_none None s = refl
 
-pub plus-over : (m : Measured) → plus m Over ≡ Over
+pub plus-over : (m : Measured) → plus m None ≡ None
 unfolding plus
 plus-over (Fits a b) = refl
-plus-over Over = refl
+plus-over None = refl
 
 -- sums of three, in either order
 pub plus-again : (l m n : Measured) → plus l (plus m n) ≡ plus (plus l m) n
 unfolding plus
-plus-again Over m n = refl
-plus-again (Fits a b) Over n = refl
-plus-again (Fits a b) (Fits c d) Over = sym (plus-over (plus (Fits a b) (Fits c d)))
+plus-again None m n = refl
+plus-again (Fits a b) None n = refl
+plus-again (Fits a b) (Fits c d) None = sym (plus-over (plus (Fits a b) (Fits c d)))
 plus-again (Fits a b) (Fits c d) (Fits e f) = at (leb (c + e) most_terms) refl (leb (a + c) most_terms) refl
   where
     grouped : a + (c + e) ≡ a + c + e
@@ -101,16 +102,16 @@ plus-again (Fits a b) (Fits c d) (Fits e f) = at (leb (c + e) most_terms) refl (
     all : plus (Fits a b) (Fits (c + e) (d + f)) ≡ plus (Fits (a + c) (b + d)) (Fits e f)
     all =
         let bytes : b + (d + f) ≡ b + d + f = omega arith in
-        ap₂ (λ (x y : ℕ). cond (leb x most_terms) (Fits x y) Over) grouped bytes
+        ap₂ (λ (x y : ℕ). cond (leb x most_terms) (Fits x y) None) grouped bytes
 
-    many : most_terms < a + c + e → plus (Fits (a + c) (b + d)) (Fits e f) ≡ Over
-    many h = ap (λ (v : Bool). cond v (Fits (a + c + e) (b + d + f)) Over) (lt-leb (a + c + e) most_terms h)
+    many : most_terms < a + c + e → plus (Fits (a + c) (b + d)) (Fits e f) ≡ None
+    many h = ap (λ (v : Bool). cond v (Fits (a + c + e) (b + d + f)) None) (lt-leb (a + c + e) most_terms h)
 
-    first-many : most_terms < a + (c + e) → plus (Fits a b) (Fits (c + e) (d + f)) ≡ Over
-    first-many h = ap (λ (v : Bool). cond v (Fits (a + (c + e)) (b + (d + f))) Over) (lt-leb (a + (c + e)) most_terms h)
+    first-many : most_terms < a + (c + e) → plus (Fits a b) (Fits (c + e) (d + f)) ≡ None
+    first-many h = ap (λ (v : Bool). cond v (Fits (a + (c + e)) (b + (d + f))) None) (lt-leb (a + (c + e)) most_terms h)
 
     at : (u : Bool) → leb (c + e) most_terms ≡ u → (v : Bool) → leb (a + c) most_terms ≡ v
-        → plus (Fits a b) (cond u (Fits (c + e) (d + f)) Over) ≡ plus (cond v (Fits (a + c) (b + d)) Over) (Fits e f)
+        → plus (Fits a b) (cond u (Fits (c + e) (d + f)) None) ≡ plus (cond v (Fits (a + c) (b + d)) None) (Fits e f)
     at true h true g = all
     at true h false g = let l = leb-false (a + c) most_terms g in first-many (omega arith)
     at false h true g = let l = leb-false (c + e) most_terms h in sym (many (omega arith))

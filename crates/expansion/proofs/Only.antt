@@ -4,7 +4,7 @@ use mathlib.Core.List.{List}
 use contract.Lifetimes.{Lfts}
 use Rattle.kind.specs.Kinds.{kind_of}
 use Rattle.laws.proofs.Contract.{Alone, alone, Lent, Shown, ◌then◌, ◌▸◌, end}
-use Rattle.expansion.specs.declared.Expanded.{Expanded}
+use Rattle.expansion.specs.Answer.{Answer}
 use Rattle.kind.specs.declared.Kind.{Kind}
 use Rattle.steps.specs.declared.CentreName.{CentreName}
 use Rattle.steps.specs.Choice.{sum_of}
@@ -21,13 +21,13 @@ use Rattle.expansion.proofs.size.roll_size.Reads.{Post as RollSize}
 
 pub expand-only : (κs : Lfts 1) (kind : ℕ) (orders : List ℕ) (out : Lent ℕ) (start : ℕ) →
     let told = named_told (kind_of kind) orders out.now start in
-    Alone {A = Expanded × List ℕ} (λ x. Expand κs (kind ▸ orders ▸ out ▸ start ▸ end) x.0 (kind ▸ orders ▸ out then x.1 ▸ start ▸ end))
+    Alone {A = Answer × List ℕ} (λ x. Expand κs (kind ▸ orders ▸ out ▸ start ▸ end) x.0 (kind ▸ orders ▸ out then x.1 ▸ start ▸ end))
     (told, named_out told (kind_of kind) orders out.now start)
 expand-only κs kind orders out start = alone (λ x p i. (p.answer i, p.out i))
 
 pub expand2-only : (κs : Lfts 1) (kind : ℕ) (orders : List ℕ) (out : Lent ℕ) (start : ℕ) →
     let told = named_told2 (kind_of kind) orders out.now start in
-    Alone {A = Expanded × List ℕ} (λ x. Expand2 κs (kind ▸ orders ▸ out ▸ start ▸ end) x.0 (kind ▸ orders ▸ out then x.1 ▸ start ▸ end))
+    Alone {A = Answer × List ℕ} (λ x. Expand2 κs (kind ▸ orders ▸ out ▸ start ▸ end) x.0 (kind ▸ orders ▸ out then x.1 ▸ start ▸ end))
     (told, named_out2 told (kind_of kind) orders out.now start)
 expand2-only κs kind orders out start = alone (λ x p i. (p.answer i, p.out i))
 

@@ -1,6 +1,7 @@
 -- A request's orders: their sums, those unused, and the word that holds them.
 use Prim.Native.Nat.{ℕ, suc, ◌+◌, ◌*◌, ◌-◌, ◌/◌, ◌%◌, ◌^◌, ◌≤◌, ◌<◌}
 use mathlib.Core.Path.{◌≡◌, sym, ap, ap₂, subst, ◌∙◌}
+use mathlib.Core.Logic.{◌⊎◌, inl, inr}
 use mathlib.Core.Bool.{Bool}
 use mathlib.Core.List.{List, ◌∷◌}
 use native.Mathlib.Omega.{arith}
@@ -41,14 +42,11 @@ module _ (orders : List ℕ) (in-full : length orders ≡ request_orders) where
   last-six u v e f = let g = total-three orders 6 in let h = total-three orders 9 in let n = none_after in omega arith
 
   module _ (k : Kind) where
-    pub unused-overlap : (u v : ℕ) → k ≡ Overlap → u ≡ get_or orders 6 0 + get_or orders (6 + 1) 0 + get_or orders (6 + 2) 0 → v ≡ get_or orders 9 0 + get_or orders (9 + 1) 0 + get_or orders (9 + 2) 0 → u + v ≡ total (drop (orders_of k) orders)
-    unused-overlap u v i e f = rw i (last-six u v e f)
-
-    pub unused-kinetic : (u v : ℕ) → k ≡ Kinetic → u ≡ get_or orders 6 0 + get_or orders (6 + 1) 0 + get_or orders (6 + 2) 0 → v ≡ get_or orders 9 0 + get_or orders (9 + 1) 0 + get_or orders (9 + 2) 0 → u + v ≡ total (drop (orders_of k) orders)
-    unused-kinetic u v i e f = rw i (last-six u v e f)
-
-    pub unused-nuclear : (u v : ℕ) → k ≡ Nuclear → u ≡ get_or orders 6 0 + get_or orders (6 + 1) 0 + get_or orders (6 + 2) 0 → v ≡ get_or orders 9 0 + get_or orders (9 + 1) 0 + get_or orders (9 + 2) 0 → u + v ≡ total (drop (orders_of k) orders)
-    unused-nuclear u v i e f = rw i (last-six u v e f)
+    pub unused-of-two : (u v : ℕ) → (k ≡ Overlap) ⊎ ((k ≡ Kinetic) ⊎ (k ≡ Nuclear))
+        → u ≡ get_or orders 6 0 + get_or orders (6 + 1) 0 + get_or orders (6 + 2) 0 → v ≡ get_or orders 9 0 + get_or orders (9 + 1) 0 + get_or orders (9 + 2) 0 → u + v ≡ total (drop (orders_of k) orders)
+    unused-of-two u v (inl i) e f = rw i (last-six u v e f)
+    unused-of-two u v (inr (inl i)) e f = rw i (last-six u v e f)
+    unused-of-two u v (inr (inr i)) e f = rw i (last-six u v e f)
 
     pub unused-moment : (v : ℕ) → k ≡ Moment → v ≡ get_or orders 9 0 + get_or orders (9 + 1) 0 + get_or orders (9 + 2) 0 → v ≡ total (drop (orders_of k) orders)
     unused-moment v i e = rw i (last-three v e)

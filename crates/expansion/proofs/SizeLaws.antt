@@ -14,6 +14,7 @@ use Rattle.number.specs.Numbers.{length_of}
 use Rattle.form2.specs.Bytes.{terms_bytes2}
 use Rattle.form2.proofs.AtMost.{terms-longer}
 use Rattle.expansion.specs.declared.Path.{Path}
+use Rattle.expansion.specs.declared.Expanded.{Expanded}
 use Rattle.expansion.specs.Expanding.{terms_of, roll_of, roll_of2}
 use Rattle.expansion.specs.inner.View.{path_term}
 use Rattle.expansion.specs.inner.Sinks.{in_form1, size2, Sink, sink_of, forms_bytes, with_terms, end_of, Took}
@@ -26,12 +27,12 @@ use Rattle.expansion.proofs.Sizes.{SizeIs, measured-size}
 
 -- ---- a request that was measured in form 1
 
-module _ (k : Kind) (os : List ℕ) (left long count : ℕ) (may : LongMay k os left long count) where
-  is : SizeIs k os long count
-  is = measured-size k os long count may.size
+module _ (k : Kind) (os : List ℕ) (left : ℕ) (size : Expanded) (may : LongMay k os left size) where
+  is : SizeIs k os size.length size.terms
+  is = measured-size k os size.length size.terms may.size-is
 
   -- a roll and its count are far below what a word holds
-  few_bytes : long + count < 2 ^ 32
+  few_bytes : size.length + size.terms < 2 ^ 32
   unfolding roll_of
   few_bytes =
       let most = within-most (record { kind = k; orders = take (orders_of k) os; terms = terms_of k os }) (roll-fits k os may.within is.few) in
@@ -42,10 +43,10 @@ module _ (k : Kind) (os : List ℕ) (left long count : ℕ) (may : LongMay k os 
       let e = is.few in
       omega arith
 
-  pub sum_fits : long + count < 2 ^ 64
+  pub sum_fits : size.length + size.terms < 2 ^ 64
   sum_fits = let h = few_bytes in omega arith
 
-  longer : length (roll_of2 k os) ≤ long + count
+  longer : length (roll_of2 k os) ≤ size.length + size.terms
   longer =
       let a = roll-length k os may.within in
       let b = roll-length2 k os may.within in
@@ -88,7 +89,7 @@ module _ (k : Kind) (os : List ℕ) (left long count : ℕ) (may : LongMay k os 
 
   -- ---- whether there is room
 
-  module _ (head terms : ℕ) (head-is : head ≡ 1 + orders_of k + length_of count) (terms-is : terms ≡ length (terms_bytes2 [] (terms_of k os))) where
+  module _ (head terms : ℕ) (head-is : head ≡ 1 + orders_of k + length_of size.terms) (terms-is : terms ≡ length (terms_bytes2 [] (terms_of k os))) where
     whole : head + terms ≡ length (roll_of2 k os)
     whole = let a = roll-length2 k os may.within in let b = ap length_of is.count-is in omega arith
 
@@ -96,15 +97,15 @@ module _ (k : Kind) (os : List ℕ) (left long count : ℕ) (may : LongMay k os 
     whole-fits = let w = whole in let l = longer in let f = few_bytes in omega arith
 
   module _ (doing room : ℕ) where
-    pub fits_one : doing ≡ in_form1 → leb long room ≡ leb (length (roll_in doing k os)) room
+    pub fits_one : doing ≡ in_form1 → leb size.length room ≡ leb (length (roll_in doing k os)) room
     fits_one e = ap (λ (n : ℕ). leb n room) is.long-is ∙ sym (ap (λ (b : Bool). leb (length (cond b roll_of roll_of2 k os)) room) (eq-eqb doing in_form1 e))
 
     module _ (two : doing ≡ in_form1 → ⊥) where
       in_two : leb (length (roll_in doing k os)) room ≡ leb (length (roll_of2 k os)) room
       in_two = ap (λ (b : Bool). leb (length (cond b roll_of roll_of2 k os)) room) (ne_eqb doing in_form1 two)
 
-      pub fits-sure : long + count ≤ room → true ≡ leb (length (roll_in doing k os)) room
+      pub fits-sure : size.length + size.terms ≤ room → true ≡ leb (length (roll_in doing k os)) room
       fits-sure h = sym (in_two ∙ le-leb (length (roll_of2 k os)) room (let l = longer in omega arith))
 
-      pub fits-walked : (head terms : ℕ) → head ≡ 1 + orders_of k + length_of count → terms ≡ length (terms_bytes2 [] (terms_of k os)) → leb (head + terms) room ≡ leb (length (roll_in doing k os)) room
+      pub fits-walked : (head terms : ℕ) → head ≡ 1 + orders_of k + length_of size.terms → terms ≡ length (terms_bytes2 [] (terms_of k os)) → leb (head + terms) room ≡ leb (length (roll_in doing k os)) room
       fits-walked head terms e f = ap (λ (n : ℕ). leb n room) (whole head terms e f) ∙ sym in_two

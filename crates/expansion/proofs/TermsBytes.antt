@@ -7,12 +7,10 @@ use native.Mathlib.Omega.{arith}
 use native.Mathlib.Numerals.{add-one}
 use lib.ListN.{length, set, length-append, length-set}
 use lib.Seq.{sets, length-sets}
-use Rattle.laws.proofs.Cases.{clash}
 use Rattle.laws.proofs.Lists.{sets-append}
 use Rattle.laws.proofs.Parts.{room-placed}
 use Rattle.number.specs.Numbers.{bytes_of, length_of, WriteTold, written_at}
-use Rattle.number.specs.declared.Written.{Written}
-use Rattle.number.specs.declared.Written.TheVariants.{Next, NoRoom}
+use Rattle.std.specs.Prelude.{Option, Some, unwrap_or}
 use Rattle.number.proofs.Writing.{bytes-last, store-last}
 use Rattle.roll.specs.Bytes.{term_bytes, numbers_bytes}
 use Rattle.form2.proofs.AtMost.{numbers-append}
@@ -62,19 +60,16 @@ module _ (out : List ℕ) (at n : ℕ) (fits : NumberMay n at out) where
   room-test : lib.Dec.leb (at + length (bytes_of n)) (length out) ≡ true
   room-test = borrow.Author.Tests.le-leb (at + length (bytes_of n)) (length out) fits.room
 
-  module _ (r : Written) (after : List ℕ) (wrote : WriteTold out at (bytes_of n) r after) where
-    there : r ≡ Next (at + length (bytes_of n))
+  module _ (r : Option ℕ) (after : List ℕ) (wrote : WriteTold out at (bytes_of n) r after) where
+    there : r ≡ Some (at + length (bytes_of n))
     unfolding written_at
     there = wrote.answer ∙ rw room-test
 
     stored : after ≡ sets out at (bytes_of n)
     stored = wrote.out ∙ sym (room-placed (bytes_of n) out at room-test)
 
-    pub number-next : (next : ℕ) → r ≡ Next next → Emitted (bytes_of n) at out next after
-    number-next next e = record { next = let h = there in cc; out = stored }
-
-    pub number-never : r ≡ NoRoom → Emitted (bytes_of n) at out at after
-    number-never e = absurd (let h = there in clash (cc))
+    pub number-next : (next : ℕ) → next ≡ unwrap_or r at → Emitted (bytes_of n) at out next after
+    number-next next is = record { next = is ∙ ap (λ (v : Option ℕ). unwrap_or v at) there; out = stored }
 
 pub kept-two : (out after : List ℕ) (i j v w : ℕ) → length after ≡ length (set (set out i v) j w) → length after ≡ length out
 kept-two out after i j v w e = e ∙ simp length-set

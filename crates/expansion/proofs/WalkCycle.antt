@@ -9,10 +9,6 @@ use Rattle.kind.specs.Limits.{request_orders}
 use Rattle.term.specs.Terms.{Term}
 use Rattle.steps.specs.declared.CentreName.{CentreName}
 use Rattle.steps.specs.declared.Axis.{Axis}
-use Rattle.steps.specs.declared.Fun.{Fun}
-use Rattle.steps.specs.declared.Fun.TheVariants.{Lower, Nothing as none}
-use Rattle.steps.specs.declared.AxisChoice.{AxisChoice}
-use Rattle.steps.specs.declared.AxisChoice.TheVariants.{Along, Nowhere}
 use Rattle.steps.specs.Choice.{chosen, first_axis}
 use Rattle.steps.specs.Steps.{branches}
 use Rattle.laws.specs.Total.{total}
@@ -27,14 +23,13 @@ use Rattle.histories.proofs.Bounds.{scale-on-the-way}
 use Rattle.expansion.specs.declared.Path.{Path}
 use Rattle.expansion.specs.declared.Child.{Child}
 use Rattle.expansion.specs.declared.Lowered.{Lowered}
-use Rattle.expansion.specs.declared.Lowering.{Lowering}
-use Rattle.expansion.specs.declared.Lowering.TheVariants.{At, Nothing}
 use Rattle.expansion.specs.inner.View.{path_term}
 use Rattle.expansion.specs.inner.Sinks.{Sink, Room, Took, EmitMay}
 use Rattle.expansion.specs.inner.Walking.{view_of, Good, TurnMay, ChildOf, lowering, lowering_of, lowering_along, terms_below, terms_from, NodeMay, BranchMay}
 use Rattle.expansion.proofs.TermsWords.{length-prefactors}
 use Rattle.expansion.proofs.WalkTurns.{from-none, from-skip, from-legal, turn-next, below-eight}
 use Rattle.expansion.proofs.SinkLaws.{took-none, room-first, room-then, took-both}
+use Rattle.std.specs.Prelude.{Option, Some, None}
 
 unfoldable pub node_fuel : Kind → ℕ → Path → ℕ
 node_fuel k left p = 10 * depth (view_of k left p) + 9
@@ -49,19 +44,19 @@ pub below-falls : (child : Child) (t : ℕ) → below_fuel child ≡ t → node_
 unfolding below_fuel node_fuel
 below-falls child t e = omega arith
 
-module _ (k : Kind) (left : List ℕ) (f : Fun) (is : f ≡ chosen k left) where
-  pub choose-none : f ≡ none → Nothing ≡ lowering k left
+module _ (k : Kind) (left : List ℕ) (f : Option CentreName) (is : f ≡ chosen k left) where
+  pub choose-none : f ≡ None → None ≡ lowering k left
   unfolding lowering
-  choose-none e = ap (λ (v : Fun). lowering_of v left) (sym e ∙ is)
+  choose-none e = ap (λ (v : Option CentreName). lowering_of v left) (sym e ∙ is)
 
-  module _ (c : CentreName) (found : f ≡ Lower c) (v : AxisChoice) (axis : v ≡ first_axis left c) where
-    pub choose-nowhere : v ≡ Nowhere → Nothing ≡ lowering k left
+  module _ (c : CentreName) (found : f ≡ Some c) (v : Option Axis) (axis : v ≡ first_axis left c) where
+    pub choose-nowhere : v ≡ None → None ≡ lowering k left
     unfolding lowering
-    choose-nowhere e = ap (lowering_along c) (sym e ∙ axis) ∙ ap (λ (w : Fun). lowering_of w left) (sym found ∙ is)
+    choose-nowhere e = ap (lowering_along c) (sym e ∙ axis) ∙ ap (λ (w : Option CentreName). lowering_of w left) (sym found ∙ is)
 
-    pub choose-at : (x : Axis) → v ≡ Along x → At (record { centre = c; axis = x }) ≡ lowering k left
+    pub choose-at : (x : Axis) → v ≡ Some x → Some (record { centre = c; axis = x }) ≡ lowering k left
     unfolding lowering
-    choose-at x e = ap (lowering_along c) (sym e ∙ axis) ∙ ap (λ (w : Fun). lowering_of w left) (sym found ∙ is)
+    choose-at x e = ap (lowering_along c) (sym e ∙ axis) ∙ ap (λ (w : Option CentreName). lowering_of w left) (sym found ∙ is)
 
 pub branch-none : (k : Kind) (left : ℕ) (p : Path) (c : CentreName) (x : Axis) (times number : ℕ) (s : Sink) → BranchMay k left p c x times number s → times ≡ 0 → Took s (terms_from k left p c x number) s
 branch-none k left p c x times number s may e = took-none s (terms_from k left p c x number) (terms_from k left p c x number) may.room (from-none k left c x times number may.turn p e)
@@ -138,51 +133,51 @@ module _ (k : Kind) (left : ℕ) (p : Path) where
   unfolding terms_below
   below-done e = expand-done (view_of k left p) (ap (λ (w : ℕ). total (orders w)) e ∙ none_left)
 
-  module _ (word : left < 16 ^ request_orders) (some : left ≡ 0 → ⊥) (r : Lowering) (is : r ≡ lowering k (orders left)) where
+  module _ (word : left < 16 ^ request_orders) (some : left ≡ 0 → ⊥) (r : Option Lowered) (is : r ≡ lowering k (orders left)) where
     more : terms_below k left p ≡ in_turn (λ (n : Next). expand n.state) (nexts (view_of k left p))
     unfolding terms_below
     more = expand-more (view_of k left p) (some_left left word some)
 
-    pub below_none : r ≡ Nothing → terms_below k left p ≡ []
+    pub below_none : r ≡ None → terms_below k left p ≡ []
     unfolding lowering nexts in_turn
     below_none e = more ∙ ap (in_turn (λ (n : Next). expand n.state)) (by-fun (chosen k (orders left)) refl (sym is ∙ e))
       where
-        by-axis : (c : CentreName) (v : AxisChoice) → lowering_along c v ≡ Nothing → on_axis c v (view_of k left p) ≡ []
-        by-axis c Nowhere f = refl
-        by-axis c (Along x) f = absurd (clash (cc))
+        by-axis : (c : CentreName) (v : Option Axis) → lowering_along c v ≡ None → on_axis c v (view_of k left p) ≡ []
+        by-axis c None f = refl
+        by-axis c (Some x) f = absurd (clash (cc))
 
-        by-fun : (v : Fun) → chosen k (orders left) ≡ v → lowering_of v (orders left) ≡ Nothing → on_fun v (view_of k left p) ≡ []
-        by-fun none f g = refl
-        by-fun (Lower c) f g = by-axis c (first_axis (orders left) c) g
+        by-fun : (v : Option CentreName) → chosen k (orders left) ≡ v → lowering_of v (orders left) ≡ None → on_fun v (view_of k left p) ≡ []
+        by-fun None f g = refl
+        by-fun (Some c) f g = by-axis c (first_axis (orders left) c) g
 
-    module _ (c : CentreName) (x : Axis) (at-them : r ≡ At (record { centre = c; axis = x })) where
+    module _ (c : CentreName) (x : Axis) (at-them : r ≡ Some (record { centre = c; axis = x })) where
       -- what a choice of both says
       record Both : Type 0 where
-        picked : chosen k (orders left) ≡ Lower c
-        along : first_axis (orders left) c ≡ Along x
+        picked : chosen k (orders left) ≡ Some c
+        along : first_axis (orders left) c ≡ Some x
 
       both : Both
       unfolding lowering
       both = by-fun (chosen k (orders left)) refl (sym is ∙ at-them)
         where
-          by-axis : (d : CentreName) (v : AxisChoice) → chosen k (orders left) ≡ Lower d → first_axis (orders left) d ≡ v → lowering_along d v ≡ At (record { centre = c; axis = x }) → Both
-          by-axis d Nowhere p f g = absurd (clash (cc))
-          by-axis d (Along y) p f g =
+          by-axis : (d : CentreName) (v : Option Axis) → chosen k (orders left) ≡ Some d → first_axis (orders left) d ≡ v → lowering_along d v ≡ Some (record { centre = c; axis = x }) → Both
+          by-axis d None p f g = absurd (clash (cc))
+          by-axis d (Some y) p f g =
               let lowered : ◌≡◌ {A = Lowered} (record { centre = d; axis = y }) (record { centre = c; axis = x }) = cc in
               let same : d ≡ c = ap (λ (l : Lowered). l.centre) lowered in
               let axis : y ≡ x = ap (λ (l : Lowered). l.axis) lowered in
-              record { picked = p ∙ ap Lower same; along = subst (λ (e : CentreName). first_axis (orders left) e ≡ Along x) same (f ∙ ap Along axis) }
+              record { picked = p ∙ ap Some same; along = subst (λ (e : CentreName). first_axis (orders left) e ≡ Some x) same (f ∙ ap Some axis) }
 
-          by-fun : (v : Fun) → chosen k (orders left) ≡ v → lowering_of v (orders left) ≡ At (record { centre = c; axis = x }) → Both
-          by-fun none f g = absurd (clash (cc))
-          by-fun (Lower d) f g = by-axis d (first_axis (orders left) d) f refl g
+          by-fun : (v : Option CentreName) → chosen k (orders left) ≡ v → lowering_of v (orders left) ≡ Some (record { centre = c; axis = x }) → Both
+          by-fun None f g = absurd (clash (cc))
+          by-fun (Some d) f g = by-axis d (first_axis (orders left) d) f refl g
 
       pub below-first : terms_below k left p ≡ terms_from k left p c x 0
       unfolding terms_from nexts
       below-first =
           more
           ∙ ap (in_turn (λ (n : Next). expand n.state))
-          (ap (λ (f : Fun). on_fun f (view_of k left p)) both.picked ∙ ap (λ (v : AxisChoice). on_axis c v (view_of k left p)) both.along)
+          (ap (λ (f : Option CentreName). on_fun f (view_of k left p)) both.picked ∙ ap (λ (v : Option Axis). on_axis c v (view_of k left p)) both.along)
 
       pub first-turn : (times : ℕ) → times ≡ multiplier_word c x (orders left) (branches k c x) → TurnMay k left c x times 0
       first-turn times e =
@@ -206,11 +201,11 @@ module _ (k : Kind) (left : ℕ) (p : Path) (s : Sink) (may : NodeMay k left p s
   unfolding node_fuel branch_fuel
   first-falls t e = omega arith
 
-  module _ (some : left ≡ 0 → ⊥) (r : Lowering) (is : r ≡ lowering k (orders left)) where
-    pub node-none : r ≡ Nothing → Took s (terms_below k left p) s
+  module _ (some : left ≡ 0 → ⊥) (r : Option Lowered) (is : r ≡ lowering k (orders left)) where
+    pub node-none : r ≡ None → Took s (terms_below k left p) s
     node-none e = took-none s (terms_below k left p) (terms_below k left p) may.room (below_none k left p may.good.word some r is e)
 
-    module _ (c : CentreName) (x : Axis) (at-them : r ≡ At (record { centre = c; axis = x })) where
+    module _ (c : CentreName) (x : Axis) (at-them : r ≡ Some (record { centre = c; axis = x })) where
       from_first : terms_below k left p ≡ terms_from k left p c x 0
       from_first = below-first k left p may.good.word some r is c x at-them
 

@@ -19,10 +19,8 @@ fn put_orders(out: &mut [u8], orders: [u8; Kind::ORDERS], count: usize)
     requires { (count ≤ request_orders) × (1 + count ≤ length out.old) }
     ensures { out.new ≡ sets out.old 1 (take count orders) }
 {
-    let mut i = 0;
-    while i < count {
+    for i in 0..count {
         out[1 + i] = orders[i];
-        i += 1;
     }
 }
 
@@ -43,10 +41,7 @@ pub(crate) fn first() -> Path
 pub(crate) fn begins(form: u64) -> u8
     ensures { result ≡ form_of form }
 {
-    if form == FORM1 {
-        return 0;
-    }
-    FORM_TWO
+    if form == FORM1 { 0 } else { FORM_TWO }
 }
 
 // Writes what stands before the terms of a roll.

@@ -6,14 +6,13 @@ ghost use Rattle.expansion.specs.Against.{held_against, kind_against, named_agai
 ghost use Rattle.expansion.specs.inner.Requests.{roll_in};
 ghost use Rattle.expansion.specs.inner.Matching.{CountMay, HeadSame};
 
-use crate::Expanded;
 use crate::header::{begins, first, put_head};
 use crate::matching::{Against, match_node};
 use crate::request::{packed, too_high, unused_set};
 use crate::sink::{FORM1, FORM2};
 use crate::size::sized;
 use form2::alike;
-use kind::{Kind, Named};
+use kind::{Kind, Refusal};
 
 // What stands before the terms has no more bytes.
 const HEAD: usize = 32;
@@ -66,43 +65,47 @@ fn held(
 }
 
 // The same of a request of a known kind.
-fn against_kind(form: u64, kind: Kind, orders: [u8; Kind::ORDERS], roll: &[u8]) -> Against
+fn against_kind(
+    form: u64,
+    kind: Kind,
+    orders: [u8; Kind::ORDERS],
+    roll: &[u8],
+) -> Result<Against, Refusal>
     ensures { result ≡ kind_against (roll_in form) kind orders roll.now }
 {
     if too_high(kind, orders) {
-        return Against::Refused(2);
+        return Err(Refusal::OrderSum);
     }
     if unused_set(kind, orders) {
-        return Against::Refused(3);
+        return Err(Refusal::UnusedOrder);
     }
     let left = packed(orders);
-    let size = sized(kind, orders, left);
-    match size {
-        Expanded::Refused(n) => Against::Refused(n),
-        Expanded::Roll(_, count) => held(form, kind, orders, left, count, roll),
-    }
+    let size = sized(kind, orders, left)?;
+    Ok(held(form, kind, orders, left, size.terms, roll))
 }
 
 // The same of a request in a form.
-fn against_in(form: u64, kind: u8, orders: [u8; Kind::ORDERS], roll: &[u8]) -> Against
+fn against_in(
+    form: u64,
+    kind: u8,
+    orders: [u8; Kind::ORDERS],
+    roll: &[u8],
+) -> Result<Against, Refusal>
     ensures { result ≡ named_against (roll_in form) (kind_of kind) orders roll.now }
 {
-    let named = Kind::of(kind);
-    match named {
-        Named::Unknown => Against::Refused(1),
-        Named::Is(known) => against_kind(form, known, orders, roll),
-    }
+    let known = Kind::of(kind).ok_or(Refusal::WrongKind)?;
+    against_kind(form, known, orders, roll)
 }
 
 // Holds a request's roll against bytes.
-pub fn against(kind: u8, orders: [u8; Kind::ORDERS], roll: &[u8]) -> Against
+pub fn against(kind: u8, orders: [u8; Kind::ORDERS], roll: &[u8]) -> Result<Against, Refusal>
     ensures { result ≡ named_against roll_of (kind_of kind) orders roll.now }
 {
     against_in(FORM1, kind, orders, roll)
 }
 
 // Holds a request's form 2 roll against bytes.
-pub fn against2(kind: u8, orders: [u8; Kind::ORDERS], roll: &[u8]) -> Against
+pub fn against2(kind: u8, orders: [u8; Kind::ORDERS], roll: &[u8]) -> Result<Against, Refusal>
     ensures { result ≡ named_against roll_of2 (kind_of kind) orders roll.now }
 {
     against_in(FORM2, kind, orders, roll)

@@ -18,7 +18,7 @@ ghost use Rattle.expansion.specs.inner.Requests.{roll_in, KnownTold, RequestMay,
 ghost use Rattle.expansion.specs.inner.Sinks.{size2};
 
 pub use holding::{against, against2};
-use kind::{Kind, Named};
+use kind::{Kind, Refusal};
 pub use matching::Against;
 pub use request::{sum_of, too_high, unused_set};
 pub use size::roll_size;
@@ -45,13 +45,6 @@ struct Lowered {
     axis: Axis,
 }
 
-// What a state lowers.
-#[derive(Clone, Copy)]
-enum Lowering {
-    At(Lowered),
-    Nothing,
-}
-
 // A state that a branch leads to.
 #[derive(Clone, Copy)]
 struct Child {
@@ -60,18 +53,11 @@ struct Child {
     path: Path,
 }
 
-// Terms and their bytes, where the terms are not too many.
-#[derive(Clone, Copy)]
-enum Measured {
-    Fits(u64, u64),
-    Over,
-}
-
-// A roll's length and its term count, or a refusal.
-#[derive(Clone, Copy)]
-pub enum Expanded {
-    Roll(usize, u32),
-    Refused(u8),
+// A roll's length and its term count.
+#[derive(Clone, Copy, Debug, PartialEq, Eq)]
+pub struct Expanded {
+    pub length: usize,
+    pub terms: u32,
 }
 
 // Writes the roll of a request that was measured, where it fits (D-44).
@@ -80,20 +66,20 @@ fn write_sized(
     kind: Kind,
     orders: [u8; Kind::ORDERS],
     left: u64,
-    long: usize,
-    count: u32,
+    size: Expanded,
     out: &mut [u8],
     start: usize,
-) -> Expanded
-    requires { SizedMay form kind orders left long count start out.old }
+) -> Result<Expanded, Refusal>
+    requires { SizedMay form kind orders left size start out.old }
     ensures { KnownTold form kind orders out.old start result out.new }
 {
     let room = out.len() - start;
-    if size::fits(form, kind, orders, left, long, count, room) {
-        let end = header::put_roll(&mut out[start..], form, kind, orders, left, count as u64);
-        return Expanded::Roll(end, count);
+    if !size::fits(form, kind, orders, left, size, room) {
+        return Err(Refusal::NoRoom);
     }
-    Expanded::Refused(6)
+    let terms = size.terms;
+    let length = header::put_roll(&mut out[start..], form, kind, orders, left, terms as u64);
+    Ok(Expanded { length, terms })
 }
 
 // Expands a request that keeps the limits (D-66).
@@ -103,19 +89,14 @@ fn expand_within(
     orders: [u8; Kind::ORDERS],
     out: &mut [u8],
     start: usize,
-) -> Expanded
+) -> Result<Expanded, Refusal>
     requires form_lt_size2 { form < size2 }
     requires request_may { RequestMay kind orders start out.old }
     ensures { KnownTold form kind orders out.old start result out.new }
 {
     let left = request::packed(orders);
-    let size = size::sized(kind, orders, left);
-    match size {
-        Expanded::Refused(n) => Expanded::Refused(n),
-        Expanded::Roll(long, count) => {
-            write_sized(form, kind, orders, left, long, count, out, start)
-        }
-    }
+    let size = size::sized(kind, orders, left)?;
+    write_sized(form, kind, orders, left, size, out, start)
 }
 
 // Expands a request of a known kind.
@@ -125,18 +106,18 @@ fn expand_kind(
     orders: [u8; Kind::ORDERS],
     out: &mut [u8],
     start: usize,
-) -> Expanded
+) -> Result<Expanded, Refusal>
     requires { form < size2 }
     ensures { KnownTold form kind orders out.old start result out.new }
 {
     if request::too_high(kind, orders) {
-        return Expanded::Refused(2);
+        return Err(Refusal::OrderSum);
     }
     if request::unused_set(kind, orders) {
-        return Expanded::Refused(3);
+        return Err(Refusal::UnusedOrder);
     }
     if out.len() < start {
-        return Expanded::Refused(5);
+        return Err(Refusal::StartBeyondEnd);
     }
     expand_within(form, kind, orders, out, start)
 }
@@ -148,26 +129,33 @@ fn expand_in(
     orders: [u8; Kind::ORDERS],
     out: &mut [u8],
     start: usize,
-) -> Expanded
+) -> Result<Expanded, Refusal>
     requires { form < size2 }
     ensures { FormTold (roll_in form) kind orders out.old start result out.new }
 {
-    let named = Kind::of(kind);
-    match named {
-        Named::Unknown => Expanded::Refused(1),
-        Named::Is(known) => expand_kind(form, known, orders, out, start),
-    }
+    let known = Kind::of(kind).ok_or(Refusal::WrongKind)?;
+    expand_kind(form, known, orders, out, start)
 }
 
 // Expands a request into a roll that begins at `start` (D-1, D-65).
-pub fn expand(kind: u8, orders: [u8; Kind::ORDERS], out: &mut [u8], start: usize) -> Expanded
+pub fn expand(
+    kind: u8,
+    orders: [u8; Kind::ORDERS],
+    out: &mut [u8],
+    start: usize,
+) -> Result<Expanded, Refusal>
     ensures { ExpandTold kind orders out.old start result out.new }
 {
     expand_in(sink::FORM1, kind, orders, out, start)
 }
 
 // Expands a request into a form 2 roll that begins at `start`.
-pub fn expand2(kind: u8, orders: [u8; Kind::ORDERS], out: &mut [u8], start: usize) -> Expanded
+pub fn expand2(
+    kind: u8,
+    orders: [u8; Kind::ORDERS],
+    out: &mut [u8],
+    start: usize,
+) -> Result<Expanded, Refusal>
     ensures { Expand2Told kind orders out.old start result out.new }
 {
     expand_in(sink::FORM2, kind, orders, out, start)

@@ -8,16 +8,15 @@ ghost use Rattle.expansion.specs.inner.Matching.{match_of, differing, written_in
 
 use crate::sink::{FORM1, FORM2, emit};
 use crate::walk::{child, choose};
-use crate::{Child, Lowered, Lowering, Path};
+use crate::{Child, Lowered, Path};
 use form2::alike;
 use kind::Kind;
 
-// Length and term count of a roll that is the same, the place of the first byte that differs, or a refusal.
-#[derive(Clone, Copy)]
+// Length and term count of a roll that is the same, or the place of the first byte that differs.
+#[derive(Clone, Copy, Debug, PartialEq, Eq)]
 pub enum Against {
     Same(usize, u32),
     Differs(usize),
-    Refused(u8),
 }
 
 // The words of a state.
@@ -116,15 +115,9 @@ pub(crate) fn match_node(roll: &[u8], state: &mut [u64; MATCH], kind: Kind, left
         match_term(roll, state, path);
         return;
     }
-    let choice = choose(kind, left);
-    match choice {
-        Lowering::Nothing => {}
-        Lowering::At(lowered) => {
-            let centre = lowered.centre;
-            let axis = lowered.axis;
-            let times = steps::multipliers(kind, left, centre, axis);
-            match_branch(roll, state, kind, left, path, lowered, times, 0);
-        }
+    if let Some(lowered) = choose(kind, left) {
+        let times = steps::multipliers(kind, left, lowered.centre, lowered.axis);
+        match_branch(roll, state, kind, left, path, lowered, times, 0);
     }
 }
 

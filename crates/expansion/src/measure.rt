@@ -5,8 +5,8 @@ ghost use Rattle.number.specs.Numbers.{length_of};
 ghost use Rattle.expansion.specs.inner.Walking.{TurnMay};
 ghost use Rattle.expansion.specs.inner.Measuring.{in_pairs, width_of, skip_of, Unpacked, WordOf, MeasureMay, Measures, MeasuresFrom, MeasuresGroup};
 
+use crate::Lowered;
 use crate::walk::choose;
-use crate::{Lowered, Lowering, Measured};
 use kind::Kind;
 
 // A size in one word: so much for each term, and their bytes.
@@ -20,23 +20,19 @@ fn in_pairs(number: u8) -> u8
     ensures { result ≡ in_pairs number }
 {
     match number {
-        0 => 2,
-        2 => 2,
-        4 => 2,
+        0 | 2 | 4 => 2,
         _ => 1,
     }
 }
 
 // How many branches from a number on have children of one size.
+#[tactic(auto, unfolding(crate::specs::inner::Measuring::width_of))]
 fn width(kind: Kind, number: u8) -> u8
     ensures { result ≡ width_of kind number }
 {
     match kind {
-        Kind::Overlap => 1,
-        Kind::Kinetic => 1,
-        Kind::Nuclear => in_pairs(number),
-        Kind::Moment => 1,
-        Kind::Coulomb => in_pairs(number),
+        Kind::Overlap | Kind::Kinetic | Kind::Moment => 1,
+        Kind::Nuclear | Kind::Coulomb => in_pairs(number),
     }
 }
 
@@ -59,22 +55,22 @@ fn leaf(scale: u64, count: u64) -> u64
 }
 
 // What a word says.
-fn unpacked(word: u64) -> Measured
+fn unpacked(word: u64) -> Option<(u64, u64)>
     ensures { Unpacked word result }
 {
     if word < OVER {
-        return Measured::Fits(word / TERM, word % TERM);
+        return Some((word / TERM, word % TERM));
     }
-    Measured::Over
+    None
 }
 
-// The size of all terms below a state.
-pub(crate) fn measure_node(kind: Kind, left: u64, scale: u64, count: u64) -> Measured
+// The size of all terms below a state: how many they are and their bytes, or none where they are too many.
+pub(crate) fn measure_node(kind: Kind, left: u64, scale: u64, count: u64) -> Option<(u64, u64)>
     requires { MeasureMay kind left scale count }
     ensures { Measures kind left scale count result }
 {
     if left == 0 {
-        return Measured::Fits(1, leaf(scale, count));
+        return Some((1, leaf(scale, count)));
     }
     let word = measure_inner(kind, left, scale, count);
     unpacked(word)
@@ -87,16 +83,11 @@ fn measure_inner(kind: Kind, left: u64, scale: u64, count: u64) -> u64
     requires fact { left ≡ 0 → ⊥ }
     ensures { WordOf (Measures kind left scale count) result }
 {
-    let choice = choose(kind, left);
-    match choice {
-        Lowering::Nothing => 0,
-        Lowering::At(lowered) => {
-            let centre = lowered.centre;
-            let axis = lowered.axis;
-            let times = steps::multipliers(kind, left, centre, axis);
-            measure_branches(kind, left, scale, count, lowered, times)
-        }
-    }
+    let Some(lowered) = choose(kind, left) else {
+        return 0;
+    };
+    let times = steps::multipliers(kind, left, lowered.centre, lowered.axis);
+    measure_branches(kind, left, scale, count, lowered, times)
 }
 
 // The size of the terms of all branches; it ends where they are too many.
@@ -148,9 +139,7 @@ fn measure_branch(
     if times % 16 == 0 {
         return 0;
     }
-    let centre = lowered.centre;
-    let axis = lowered.axis;
-    let step = steps::branch(kind, centre, axis, number);
+    let step = steps::branch(kind, lowered.centre, lowered.axis, number);
     let goes_on = step.kind;
     let below = left - step.falls;
     let scaled = scale * (times % 16);

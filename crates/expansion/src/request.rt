@@ -46,28 +46,19 @@ fn is_above(orders: [u8; Kind::ORDERS], centre: CentreName) -> bool
 fn two_above(orders: [u8; Kind::ORDERS]) -> bool
     ensures { result ≡ (sum_of orders CentreName.A exceeds most_order || sum_of orders CentreName.B exceeds most_order) }
 {
-    if is_above(orders, CentreName::A) {
-        return true;
-    }
-    is_above(orders, CentreName::B)
+    is_above(orders, CentreName::A) || is_above(orders, CentreName::B)
 }
 
 fn three_above(orders: [u8; Kind::ORDERS]) -> bool
     ensures { result ≡ ((sum_of orders CentreName.A exceeds most_order || sum_of orders CentreName.B exceeds most_order) || sum_of orders CentreName.C exceeds most_order) }
 {
-    if two_above(orders) {
-        return true;
-    }
-    is_above(orders, CentreName::C)
+    two_above(orders) || is_above(orders, CentreName::C)
 }
 
 fn four_above(orders: [u8; Kind::ORDERS]) -> bool
     ensures { result ≡ too_high Kind.Coulomb orders }
 {
-    if three_above(orders) {
-        return true;
-    }
-    is_above(orders, CentreName::D)
+    three_above(orders) || is_above(orders, CentreName::D)
 }
 
 // Refusal 2: an order sum that the kind uses is above the limit.
@@ -75,9 +66,7 @@ pub fn too_high(kind: Kind, orders: [u8; Kind::ORDERS]) -> bool
     ensures { result ≡ too_high kind orders }
 {
     match kind {
-        Kind::Overlap => two_above(orders),
-        Kind::Kinetic => two_above(orders),
-        Kind::Nuclear => two_above(orders),
+        Kind::Overlap | Kind::Kinetic | Kind::Nuclear => two_above(orders),
         Kind::Moment => three_above(orders),
         Kind::Coulomb => four_above(orders),
     }
@@ -88,9 +77,7 @@ fn unused(kind: Kind, orders: [u8; Kind::ORDERS]) -> u64
     ensures { result ≡ total (drop (orders_of kind) orders) }
 {
     match kind {
-        Kind::Overlap => three(orders, 6) + three(orders, 9),
-        Kind::Kinetic => three(orders, 6) + three(orders, 9),
-        Kind::Nuclear => three(orders, 6) + three(orders, 9),
+        Kind::Overlap | Kind::Kinetic | Kind::Nuclear => three(orders, 6) + three(orders, 9),
         Kind::Moment => three(orders, 9),
         Kind::Coulomb => 0,
     }
@@ -109,9 +96,7 @@ pub(crate) fn packed(orders: [u8; Kind::ORDERS]) -> u64
     ensures { Packed orders 0 result }
 {
     let mut word: u64 = 0;
-    let mut i = Kind::ORDERS;
-    while 0 < i {
-        i -= 1;
+    for i in (0..Kind::ORDERS).rev() {
         word = word * 16 + in_word(orders[i]);
     }
     word

@@ -9,7 +9,8 @@ use crate::further::{put_term2, shared_with};
 use crate::terms::put_term;
 use crate::{Path, SINK};
 
-// Terms are written in form 1, written in form 2, or measured in form 2.
+// Terms are written in form 1, written in form 2, or measured in form 2. These are words and no enum, since a sink and a matching state hold them among their
+// words, which the walk tests for each term.
 pub(crate) const FORM1: u64 = 1;
 
 pub(crate) const FORM2: u64 = 2;

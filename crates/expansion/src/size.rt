@@ -6,40 +6,37 @@ ghost use Rattle.form2.specs.Bytes.{terms_bytes2};
 ghost use Rattle.expansion.specs.Expanding.{terms_of, kind_measured, named_measured};
 ghost use Rattle.expansion.specs.inner.Requests.{roll_in, WordMay, LongMay};
 
+use crate::Expanded;
 use crate::header::first;
 use crate::measure::measure_node;
 use crate::request::{packed, too_high, unused_set};
 use crate::sink::{FORM1, SIZE2};
 use crate::walk::node;
-use crate::{Expanded, Measured};
-use kind::{Kind, Named};
+use kind::{Kind, Refusal};
 
 // How many bytes stand before the terms.
-fn head(kind: Kind, count: u32) -> usize
-    ensures { result ≡ 1 + orders_of kind + length_of count }
+fn head(kind: Kind, terms: u32) -> usize
+    ensures { result ≡ 1 + orders_of kind + length_of terms }
 {
-    1 + kind.orders() + number::length(count)
+    1 + kind.orders() + number::length(terms)
 }
 
 // The length and the term count of a request's roll.
-pub(crate) fn sized(kind: Kind, orders: [u8; Kind::ORDERS], left: u64) -> Expanded
+pub(crate) fn sized(kind: Kind, orders: [u8; Kind::ORDERS], left: u64) -> Result<Expanded, Refusal>
     requires { WordMay kind orders left }
     ensures { result ≡ kind_measured kind orders }
 {
-    let size = measure_node(kind, left, 1, 0);
-    match size {
-        Measured::Over => Expanded::Refused(4),
-        Measured::Fits(terms, bytes) => {
-            let count = terms as u32;
-            let long = head(kind, count) + bytes as usize;
-            Expanded::Roll(long, count)
-        }
-    }
+    let Some((count, bytes)) = measure_node(kind, left, 1, 0) else {
+        return Err(Refusal::TooManyTerms);
+    };
+    let terms = count as u32;
+    let length = head(kind, terms) + bytes as usize;
+    Ok(Expanded { length, terms })
 }
 
 // The bytes of a request's terms in form 2, by a walk that writes nothing.
-fn terms2(kind: Kind, orders: [u8; Kind::ORDERS], left: u64, long: usize, count: u32) -> u64
-    requires { LongMay kind orders left long count }
+fn terms2(kind: Kind, orders: [u8; Kind::ORDERS], left: u64, size: Expanded) -> u64
+    requires { LongMay kind orders left size }
     ensures { result ≡ length (terms_bytes2 [] (terms_of kind orders)) }
 {
     let mut nothing = [0u8; 1];
@@ -55,43 +52,39 @@ pub(crate) fn fits(
     kind: Kind,
     orders: [u8; Kind::ORDERS],
     left: u64,
-    long: usize,
-    count: u32,
+    size: Expanded,
     room: usize,
 ) -> bool
-    requires { LongMay kind orders left long count }
+    requires { LongMay kind orders left size }
     ensures { result ≡ leb (length (roll_in form kind orders)) room }
 {
     if form == FORM1 {
-        return long <= room;
+        return size.length <= room;
     }
-    if long + count as usize <= room {
+    if size.length + size.terms as usize <= room {
         return true;
     }
-    head(kind, count) + terms2(kind, orders, left, long, count) as usize <= room
+    head(kind, size.terms) + terms2(kind, orders, left, size) as usize <= room
 }
 
 // Measures a request of a known kind.
-fn kind_size(kind: Kind, orders: [u8; Kind::ORDERS]) -> Expanded
+fn kind_size(kind: Kind, orders: [u8; Kind::ORDERS]) -> Result<Expanded, Refusal>
     ensures { result ≡ kind_measured kind orders }
 {
     if too_high(kind, orders) {
-        return Expanded::Refused(2);
+        return Err(Refusal::OrderSum);
     }
     if unused_set(kind, orders) {
-        return Expanded::Refused(3);
+        return Err(Refusal::UnusedOrder);
     }
     let left = packed(orders);
     sized(kind, orders, left)
 }
 
 // Measures the roll of a request and writes nothing, so that a caller lends just what it takes.
-pub fn roll_size(kind: u8, orders: [u8; Kind::ORDERS]) -> Expanded
+pub fn roll_size(kind: u8, orders: [u8; Kind::ORDERS]) -> Result<Expanded, Refusal>
     ensures { result ≡ named_measured (kind_of kind) orders }
 {
-    let named = Kind::of(kind);
-    match named {
-        Named::Unknown => Expanded::Refused(1),
-        Named::Is(known) => kind_size(known, orders),
-    }
+    let known = Kind::of(kind).ok_or(Refusal::WrongKind)?;
+    kind_size(known, orders)
 }

@@ -6,7 +6,6 @@ ghost use Rattle.roll.specs.Bytes.{term_bytes};
 ghost use Rattle.expansion.specs.inner.View.{five_bits, path_prefactors, path_term, TermMay, Emitted, NumberMay, RestMay, MoveMay, moved_on};
 
 use crate::Path;
-use number::Written;
 
 // The path with one prefactor more.
 pub(crate) fn pushed(path: Path, prefactor: u64) -> Path
@@ -67,11 +66,7 @@ pub(crate) fn put_number(out: &mut [u8], at: usize, n: u64) -> usize
         out[at] = n as u8;
         return at + 1;
     }
-    let written = number::write(out, at, n as u32);
-    match written {
-        Written::Next(next) => next,
-        Written::NoRoom => at,
-    }
+    number::write(out, at, n as u32).unwrap_or(at)
 }
 
 // Writes what stands after the scale, one byte each.

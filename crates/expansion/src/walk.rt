@@ -6,28 +6,16 @@ ghost use Rattle.expansion.specs.inner.Walking.{Good, TurnMay, ChildOf, lowering
 
 use crate::sink::emit;
 use crate::terms::moved;
-use crate::{Child, Lowered, Lowering, Path, SINK};
+use crate::{Child, Lowered, Path, SINK};
 use kind::Kind;
-use steps::{AxisChoice, Fun};
 
 // The centre and the axis that are lowered.
-pub(crate) fn choose(kind: Kind, left: u64) -> Lowering
+pub(crate) fn choose(kind: Kind, left: u64) -> Option<Lowered>
     ensures { result ≡ lowering kind (orders left) }
 {
-    let fun = steps::find_fun_to_lower(kind, left);
-    match fun {
-        Fun::Nothing => Lowering::Nothing,
-        Fun::Lower(centre) => {
-            let component = steps::find_component_to_lower(left, centre);
-            match component {
-                AxisChoice::Nowhere => Lowering::Nothing,
-                AxisChoice::Along(axis) => Lowering::At(Lowered {
-                    centre: centre,
-                    axis: axis,
-                }),
-            }
-        }
-    }
+    let centre = steps::find_fun_to_lower(kind, left)?;
+    let axis = steps::find_component_to_lower(left, centre)?;
+    Some(Lowered { centre, axis })
 }
 
 // Where a legal branch leads.
@@ -44,9 +32,7 @@ pub(crate) fn child(
     requires fact { times % 16 ≡ 0 → ⊥ }
     ensures { ChildOf kind left path lowered.centre lowered.axis number result }
 {
-    let centre = lowered.centre;
-    let axis = lowered.axis;
-    let step = steps::branch(kind, centre, axis, number);
+    let step = steps::branch(kind, lowered.centre, lowered.axis, number);
     let goes_on = step.kind;
     let on = moved(path, times % 16, step.raises as u64, step.adds);
     let below = left - step.falls;
@@ -67,15 +53,9 @@ pub(crate) fn node(out: &mut [u8], sink: &mut [u64; SINK], kind: Kind, left: u64
         emit(out, sink, path);
         return;
     }
-    let choice = choose(kind, left);
-    match choice {
-        Lowering::Nothing => {}
-        Lowering::At(lowered) => {
-            let centre = lowered.centre;
-            let axis = lowered.axis;
-            let times = steps::multipliers(kind, left, centre, axis);
-            branch(out, sink, kind, left, path, lowered, times, 0);
-        }
+    if let Some(lowered) = choose(kind, left) {
+        let times = steps::multipliers(kind, left, lowered.centre, lowered.axis);
+        branch(out, sink, kind, left, path, lowered, times, 0);
     }
 }
 

@@ -3,7 +3,7 @@ use Prim.Native.Nat.{ℕ}
 use mathlib.Core.List.{List}
 use contract.Lifetimes.{Lfts}
 use Rattle.laws.proofs.Contract.{Alone, alone, Lent, Shown, ◌then◌, ◌▸◌, end}
-use Rattle.listing.specs.declared.Listed.{Listed}
+use Rattle.listing.specs.Listed.{Listed}
 use Rattle.exporting.specs.Export.{export_of, export_out}
 use Rattle.exporting.proofs.export.Reads.{Post as Export}
 

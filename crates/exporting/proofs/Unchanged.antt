@@ -3,8 +3,8 @@ use Prim.Native.Nat.{ℕ, ◌<◌}
 use mathlib.Core.Path.{◌≡◌, refl, ◌∙◌}
 use mathlib.Core.List.{List}
 use Rattle.roll.specs.Reading.{Reading, got, refused, Roll, roll_at}
-use Rattle.listing.specs.declared.Listed.{Listed}
-use Rattle.listing.specs.Answers.{refusal_of}
+use Rattle.listing.specs.Listed.{Listed}
+use Rattle.roll.specs.Header.{refusal_of}
 use Rattle.listing.proofs.Unchanged.{placed-kept}
 use Rattle.exporting.specs.Text.{text_of}
 use Rattle.exporting.specs.Export.{read_answer, read_out, export_of, export_out, ExportTold}

@@ -3,8 +3,8 @@ use Rattle.std.specs.Prelude.{ℕ, ◌+◌, ◌*◌, ◌≡◌, List}
 use Rattle.kind.specs.Limits.{most_terms, most_l·any, request_orders}
 use Rattle.laws.specs.Placed.{placed_where_fits}
 use Rattle.roll.specs.Reading.{Reading, got, refused, Roll, roll_at}
-use Rattle.listing.specs.declared.Listed.{Listed}
-use Rattle.listing.specs.declared.Listed.TheVariants as listed
+use Rattle.listing.specs.Listed.{Listed}
+use Rattle.listing.specs.Listed as listed
 use Rattle.listing.specs.Answers.{text_at}
 use Rattle.exporting.specs.Text.{text_of}
 

@@ -5,12 +5,10 @@ use Rattle.kind.specs.Kinds.{number_of}
 use Rattle.term.specs.Terms.{Term}
 use Rattle.text.specs.Digits.{decimal_of}
 use Rattle.roll.specs.Reading.{Roll}
+use Rattle.listing.specs.Text.{feed}
 
 abbrev pub comma : List ℕ
 comma = 44 ∷ []
-
-abbrev pub feed : List ℕ
-feed = 10 ∷ []
 
 -- numbers, each after a comma
 unfoldable pub after_commas : List ℕ → List ℕ

@@ -3,7 +3,7 @@
 // The same functions measure the text and write it, as the listing's do (D-74).
 #![tactic(auto)]
 
-ghost use Rattle.std.specs.Prelude.{◌≤◌, ◌++◌, length};
+ghost use Rattle.std.specs.Prelude.{◌≤◌, ◌++◌, length, Some};
 ghost use Rattle.kind.specs.Kinds.{number_of};
 ghost use Rattle.text.specs.Digits.{decimal_of};
 ghost use Rattle.roll.specs.inner.Held.{from_held};
@@ -14,24 +14,22 @@ ghost use Rattle.exporting.specs.Text.{comma, after_commas, line_of, head_number
 ghost use Rattle.exporting.specs.Export.{ExportTold};
 ghost use Rattle.exporting.specs.inner.Whole.{whole_text};
 
-use kind::{Kind, Named};
-use listing::Listed;
-use roll::{Cursor, Opened, Opening};
+use kind::{Fault, Kind, Refusal};
+use roll::{Cursor, Opened};
 use saying::{say, say_each, say_named, say_number};
 use term::Term;
-use text::Written;
 
 // The kind and its orders.
-fn say_kind(out: &mut [u8], room: usize, kind: Kind, orders: &[u8]) -> Written
-    ensures { Said room out.old (Written.To 0) (decimal_of (number_of kind) ++ after_commas orders.now) result out.new }
+fn say_kind(out: &mut [u8], room: usize, kind: Kind, orders: &[u8]) -> Option<usize>
+    ensures { Said room out.old (Some 0) (decimal_of (number_of kind) ++ after_commas orders.now) result out.new }
 {
-    let named = say_number(out, room, Written::To(0), kind.number() as u64);
+    let named = say_number(out, room, Some(0), kind.number() as u64);
     say_each(out, room, named, b",", orders)
 }
 
 // The first line.
-fn say_head(out: &mut [u8], room: usize, kind: Kind, orders: &[u8], terms: u32) -> Written
-    ensures { Said room out.old (Written.To 0) (line_of (head_numbers kind orders.now terms)) result out.new }
+fn say_head(out: &mut [u8], room: usize, kind: Kind, orders: &[u8], terms: u32) -> Option<usize>
+    ensures { Said room out.old (Some 0) (line_of (head_numbers kind orders.now terms)) result out.new }
 {
     let ordered = say_kind(out, room, kind, orders);
     let counted = say_named(out, room, ordered, b",", terms as u64);
@@ -39,7 +37,7 @@ fn say_head(out: &mut [u8], room: usize, kind: Kind, orders: &[u8], terms: u32) 
 }
 
 // What stands before a term's prefactors.
-fn say_front(out: &mut [u8], room: usize, w: Written, scale: u32, boys: u8) -> Written
+fn say_front(out: &mut [u8], room: usize, w: Option<usize>, scale: u32, boys: u8) -> Option<usize>
     ensures { Said room out.old w (decimal_of scale ++ (comma ++ decimal_of boys)) result out.new }
 {
     let scaled = say_number(out, room, w, scale as u64);
@@ -47,7 +45,7 @@ fn say_front(out: &mut [u8], room: usize, w: Written, scale: u32, boys: u8) -> W
 }
 
 // A term's line.
-fn say_term(out: &mut [u8], room: usize, w: Written, t: Term) -> Written
+fn say_term(out: &mut [u8], room: usize, w: Option<usize>, t: Term) -> Option<usize>
     requires { t.count ≤ length t.prefactors }
     ensures { Said room out.old w (line_of (term_numbers (from_held t))) result out.new }
 {
@@ -59,15 +57,20 @@ fn say_term(out: &mut [u8], room: usize, w: Written, t: Term) -> Written
 }
 
 // The lines of the terms that a cursor has still to go through.
-fn say_terms(out: &mut [u8], room: usize, w: Written, roll: &[u8], cursor: Cursor) -> Written
+fn say_terms(
+    out: &mut [u8],
+    room: usize,
+    w: Option<usize>,
+    roll: &[u8],
+    cursor: Cursor,
+) -> Option<usize>
     requires kept { Kept room w }
     requires readable { Readable cursor roll.now }
     ensures { Said room out.old w (term_lines (left_of cursor roll.now)) result out.new }
 {
     let mut said = w;
     let mut at = cursor;
-    while 0 < at.left {
-        let step = at.next(roll);
+    while let Some(step) = at.next(roll).ok().flatten() {
         said = say_term(out, room, said, step.term);
         at = step.next;
     }
@@ -75,48 +78,36 @@ fn say_terms(out: &mut [u8], room: usize, w: Written, roll: &[u8], cursor: Curso
 }
 
 // The whole text, of a roll that has been judged.
-fn say_roll(out: &mut [u8], room: usize, roll: &[u8], opened: Opened) -> Written
+fn say_roll(out: &mut [u8], room: usize, roll: &[u8], opened: Opened) -> Option<usize>
     requires { Judged opened roll.now }
-    ensures { Said room out.old (Written.To 0) (whole_text roll.now) result out.new }
+    ensures { Said room out.old (Some 0) (whole_text roll.now) result out.new }
 {
     let cursor = opened.cursor;
     let orders = opened.orders;
-    match Kind::of(cursor.kind) {
-        Named::Is(kind) => {
-            let n = kind.orders();
-            let headed = say_head(out, room, kind, &orders[0..n], cursor.left);
-            say_terms(out, room, headed, roll, cursor)
-        }
-        Named::Unknown => Written::NoRoom,
-    }
+    let kind = Kind::of(cursor.kind)?;
+    let headed = say_head(out, room, kind, &orders[0..kind.orders()], cursor.left);
+    say_terms(out, room, headed, roll, cursor)
 }
 
-fn written(roll: &[u8], opened: Opened, out: &mut [u8], start: usize) -> Listed
+fn written(roll: &[u8], opened: Opened, out: &mut [u8], start: usize) -> Result<usize, Fault>
     requires { Judged opened roll.now }
     ensures { TextTold (whole_text roll.now) out.old start result out.new }
 {
     if out.len() < start {
-        return Listed::Refused(5, 0);
+        return Err(Fault::from(Refusal::StartBeyondEnd));
     }
     let room = out.len() - start;
-    let measured = say_roll(&mut out[0..0], room, roll, opened);
-    match measured {
-        Written::To(length) => {
-            say_roll(&mut out[start..], room, roll, opened);
-            Listed::Text(length)
-        }
-        Written::NoRoom => Listed::Refused(6, 0),
-    }
+    let Some(length) = say_roll(&mut out[0..0], room, roll, opened) else {
+        return Err(Fault::from(Refusal::NoRoom));
+    };
+    say_roll(&mut out[start..], room, roll, opened);
+    Ok(length)
 }
 
 // The export of a roll of form 1: nothing is written before the whole roll has been judged.
-pub fn export(roll: &[u8], out: &mut [u8], start: usize) -> Listed
+pub fn export(roll: &[u8], out: &mut [u8], start: usize) -> Result<usize, Fault>
     ensures { ExportTold roll.now out.old start result out.new }
 {
-    let opened = roll::check(roll);
-    let found = opened.found;
-    match found {
-        Opening::Roll => written(roll, opened, out, start),
-        Opening::Refused(refusal, place) => Listed::Refused(refusal, place),
-    }
+    let opened = roll::check(roll)?;
+    written(roll, opened, out, start)
 }

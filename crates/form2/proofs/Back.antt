@@ -9,13 +9,12 @@ use Rattle.kind.specs.Limits.{most_scale, most_terms, table_places}
 use Rattle.kind.specs.Kinds.{kind_of, number_of, orders_of, table_of, most_l, most_prefactors}
 use Rattle.kind.specs.declared.Kind.{Kind}
 use Rattle.kind.specs.declared.Kind.TheVariants.{Coulomb}
-use Rattle.kind.specs.declared.Named.{Named}
 use Rattle.kind.proofs.KindNumber.{kind-number}
 use Rattle.kind.proofs.Within.{number-within, l-within, table-within}
 use Rattle.laws.specs.Total.{total}
 use Rattle.number.specs.Numbers.{bytes_of}
 use Rattle.term.specs.Terms.{Term}
-use Rattle.roll.specs.declared.field.Field.{Field}
+use Rattle.roll.specs.Field.{Field}
 use Rattle.roll.specs.Bytes.{numbers_bytes}
 use Rattle.roll.specs.Reading.{got, onward, before, within_at, prefactors_at, most_boys, Header, of_kind, Roll}
 use Rattle.roll.specs.Fits.{CentresFit, Below, TermFits, TermsFit, RollFits}
@@ -26,6 +25,7 @@ use Rattle.form2.specs.Bytes.{form_two, shared, further_of, term_bytes2, terms_b
 use Rattle.form2.specs.Reading.{header_at2, further_count_at, shared_at, boys_at2, front_at, further_at, term_after, terms_after, roll_at2}
 use Rattle.form2.proofs.Sharing.{Parts, shares, further-joined}
 use Rattle.form2.proofs.Inside.{term-inside2, header-inside2, header-most2}
+use Rattle.std.specs.Prelude.{Option}
 
 -- ---- a term
 
@@ -103,7 +103,7 @@ header-back2 k os terms s rest places fit some most is =
     let number : form_two + number_of k - form_two ≡ number_of k = omega arith in (
       r.0,
       ap (λ (x : Field). onward x (λ n next. of_kind s next (kind_of (n - form_two)))) f.1
-          ∙ ap (λ (m : Named). of_kind s f.0 m) (ap kind_of number ∙ kind-number k)
+          ∙ ap (λ (m : Option Kind). of_kind s f.0 m) (ap kind_of number ∙ kind-number k)
           ∙ r.1,
       r.2,
     )

@@ -4,13 +4,13 @@ use mathlib.Core.Path.{◌≡◌, refl, sym, ap, ap₂, ◌∙◌}
 use mathlib.Core.Bool.{Bool, true, false, cond}
 use mathlib.Core.List.{List, [], ◌∷◌, ◌++◌}
 use native.Mathlib.Omega.{arith}
-use borrow.Author.Tests.{eq-eqb, ne_eqb, leb-true, leb-false}
-use lib.Dec.{eqb, leb}
-use lib.ListN.{length, get_or, take, drop, drop_of_length-le}
+use borrow.Author.Tests.{eq-eqb, ne_eqb}
+use lib.Dec.{eqb}
+use lib.ListN.{length, get_or, take, drop}
 use lib.Seq.{take_all}
 use Rattle.laws.proofs.Lists.{drop_head}
 use Rattle.form2.specs.Bytes.{shared}
-use Rattle.form2.proofs.Sharing.{shared-none, shares}
+use Rattle.form2.proofs.Sharing.{shares}
 
 pub shared-heads : (p q : ℕ) (ps qs : List ℕ) (b : Bool) → eqb p q ≡ b → shared (p ∷ ps) (q ∷ qs) ≡ cond b (suc (shared ps qs)) 0
 unfolding shared
@@ -41,20 +41,8 @@ module _ (a b : List ℕ) (most i : ℕ) (limit : most ≡ min (length a) (lengt
       let one = two-heads less ∙ shared-heads (get_or a i 0) (get_or b i 0) (drop (i + 1) a) (drop (i + 1) b) false (ne_eqb (get_or a i 0) (get_or b i 0) differ) in
       omega (arith, beside.same, one)
 
-  pub beside-done : most ≤ i → i ≡ shared a b
-  beside-done done = by (leb (length a) (length b)) refl
-    where
-      by : (v : Bool) → leb (length a) (length b) ≡ v → i ≡ shared a b
-      by true e =
-          let less = leb-true (length a) (length b) e in
-          let none : drop i a ≡ [] = drop_of_length-le a {i = i} (omega arith) in
-          let nothing : shared (drop i a) (drop i b) ≡ 0 = ap (λ (l : List ℕ). shared l (drop i b)) none ∙ none-shared (drop i b) in
-          omega (arith, beside.same, nothing)
-      by false e =
-          let more = leb-false (length a) (length b) e in
-          let none : drop i b ≡ [] = drop_of_length-le b {i = i} (omega arith) in
-          let nothing : shared (drop i a) (drop i b) ≡ 0 = ap (λ (l : List ℕ). shared (drop i a) l) none ∙ shared-none (drop i a) in
-          omega (arith, beside.same, nothing)
+  pub beside-done : most ≤ i → most ≡ shared a b
+  beside-done done = let both = shares a b in let left = both.left in let right = both.right in omega (arith, beside.same)
 
 -- ---- beside lists one behind the other
 

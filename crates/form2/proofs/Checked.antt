@@ -5,13 +5,18 @@ use mathlib.Core.List.{List, []}
 use Rattle.laws.proofs.Cases.{clash}
 use Rattle.laws.specs.Total.{total}
 use Rattle.term.specs.Terms.{Term}
-use Rattle.roll.specs.declared.header.Opening.TheVariants as opening
 use Rattle.roll.specs.declared.header.Opened.{Opened}
 use Rattle.roll.specs.Reading.{Reading, got, refused, and_then, Header, Roll}
 use Rattle.roll.specs.Header.{refused_opened, held_header, judged}
 use Rattle.roll.proofs.Filling.{and_then-is}
 use Rattle.form2.specs.Reading.{header_at2, terms_after, roll_at2}
 use Rattle.form2.specs.Header.{checked2, judged2}
+use Rattle.std.specs.Prelude.{Ok, Err}
+use Rattle.kind.specs.declared.refusals.Refusal.{Refusal}
+use Rattle.kind.specs.declared.refusals.Fault.{Fault}
+use Rattle.kind.proofs.Faults.{err-is}
+use Rattle.roll.specs.Field.{fault}
+use Rattle.roll.proofs.Checked.{opened-of}
 
 -- a roll's terms beside its header
 abbrev pub beside : Header → List Term → ℕ → Reading Roll
@@ -21,17 +26,25 @@ abbrev pub whole : List ℕ → Header → ℕ → Reading Roll
 whole s h next = and_then (terms_after s next h.terms h.kind (total h.orders) []) (beside h)
 
 -- where the whole reads, the header's own answer comes back
-pub reads-checked2 : (s : List ℕ) (r : Roll) (end : ℕ) → roll_at2 s ≡ got r end → (judged2 s ≡ held_header (header_at2 s)) × ((judged2 s).found ≡ opening.Roll)
+pub record Opens2 (s : List ℕ) : Type 0 where
+  pub opened : Opened
+  pub checks : judged2 s ≡ Ok opened
+  pub opens : held_header (header_at2 s) ≡ Ok opened
+
+pub reads-checked2 : (s : List ℕ) (r : Roll) (end : ℕ) → roll_at2 s ≡ got r end → Opens2 s
 unfolding roll_at2 judged2
 reads-checked2 s r end e =
     let x = and_then-is (header_at2 s) (whole s) r end e in
     let h = x.0 in
     let y = and_then-is (terms_after s x.1 h.terms h.kind (total h.orders) []) (beside h) r end x.3 in
-    let is : checked2 s (header_at2 s) ≡ held_header (got h x.1) = ap (checked2 s) x.2 ∙ ap (judged (held_header (got h x.1))) y.2 in
-    (is ∙ ap held_header (sym x.2), ap (λ (o : Opened). o.found) is)
+    record {
+      opened = opened-of h x.1;
+      checks = ap (checked2 s) x.2 ∙ ap (judged (held_header (got h x.1))) y.2;
+      opens = ap held_header x.2;
+    }
 
 -- what does not read is refused, with the same number and place
-pub refused-checked2 : (s : List ℕ) (r p : ℕ) → roll_at2 s ≡ refused r p → judged2 s ≡ refused_opened r p
+pub refused-checked2 : (s : List ℕ) (r : Refusal) (p : ℕ) → roll_at2 s ≡ refused r p → judged2 s ≡ refused_opened r p
 unfolding roll_at2 judged2
 refused-checked2 s r p e = by-header (header_at2 s) e
   where
@@ -44,20 +57,18 @@ refused-checked2 s r p e = by-header (header_at2 s) e
     by-header (refused q o) e = let number : q ≡ r = cc in let there : o ≡ p = cc in rw (number, there) refl
 
 -- and where the check says a roll, the whole reads; where it refuses, reading is refused so
-pub checked-reads2 : (s : List ℕ) → (judged2 s).found ≡ opening.Roll → (r : Roll) × (end : ℕ) × (roll_at2 s ≡ got r end)
-checked-reads2 s found = by (roll_at2 s) refl
+pub checked-reads2 : (s : List ℕ) (o : Opened) → judged2 s ≡ Ok o → (r : Roll) × (end : ℕ) × (roll_at2 s ≡ got r end)
+checked-reads2 s o found = by (roll_at2 s) refl
   where
     by : (x : Reading Roll) → roll_at2 s ≡ x → (r : Roll) × (end : ℕ) × (roll_at2 s ≡ got r end)
     by (got r end) e = (r, end, e)
-    by (refused q o) e = let not = ap (λ (o : Opened). o.found) (refused-checked2 s q o e) in absurd (clash (cc))
+    by (refused q p) e = let not : Ok o ≡ refused_opened q p = sym found ∙ refused-checked2 s q p e in absurd (clash (cc))
 
-pub checked-refused2 : (s : List ℕ) (n place : ℕ) → (judged2 s).found ≡ opening.Refused n place → roll_at2 s ≡ refused n place
-checked-refused2 s n place found = by (roll_at2 s) refl
+pub checked-refused2 : (s : List ℕ) (why : Fault) → judged2 s ≡ Err why → roll_at2 s ≡ refused why.refusal why.place
+checked-refused2 s why found = by (roll_at2 s) refl
   where
-    by : (x : Reading Roll) → roll_at2 s ≡ x → roll_at2 s ≡ refused n place
-    by (got r end) e = let not = (reads-checked2 s r end e).1 in absurd (clash (cc))
-    by (refused q o) e =
-        let is = ap (λ (o : Opened). o.found) (refused-checked2 s q o e) in
-        let number : q ≡ n = cc in
-        let there : o ≡ place = cc in
-        rw (number, there) at e
+    by : (x : Reading Roll) → roll_at2 s ≡ x → roll_at2 s ≡ refused why.refusal why.place
+    by (got r end) e = let opens = reads-checked2 s r end e in let checks = opens.checks in absurd (clash (cc))
+    by (refused q p) e =
+        let same : fault q p ≡ why = err-is (fault q p) why (sym (refused-checked2 s q p e) ∙ found) in
+        rw (← same) e

@@ -20,11 +20,12 @@ use Rattle.form2.specs.Moves.{in_form1, in_form2}
 use Rattle.form2.proofs.Inside.{header-read2}
 use Rattle.form2.proofs.Back.{roll-back2}
 use Rattle.form2.proofs.Written.{roll-read2}
+use Rattle.kind.specs.declared.refusals.Refusal.TheVariants.{BadRoll}
 
 -- ---- each form's reader refuses the other with 7 at 0
 
 -- a header of form 1, read as form 2: its kind is below 16
-pub form1-refused : (s : List ℕ) (h : Header) (next : ℕ) → header_at s ≡ got h next → header_at2 s ≡ refused 7 0
+pub form1-refused : (s : List ℕ) (h : Header) (next : ℕ) → header_at s ≡ got h next → header_at2 s ≡ refused BadRoll 0
 unfolding header_at2
 form1-refused s h next e =
     let r = header_read s h next e in
@@ -32,17 +33,17 @@ form1-refused s h next e =
     rw (sym (within_low s 0 form_two (form_two + number_of Coulomb) (read_at s 0) (number_of h.kind) r.a refl r.kind.read (omega arith)))
 
 -- a header of form 2, read as form 1: its first number is above 4
-pub form2-refused : (s : List ℕ) (h : Header) (next : ℕ) → header_at2 s ≡ got h next → header_at s ≡ refused 7 0
+pub form2-refused : (s : List ℕ) (h : Header) (next : ℕ) → header_at2 s ≡ got h next → header_at s ≡ refused BadRoll 0
 unfolding header_at
 form2-refused s h next e =
     let r = header-read2 s h next e in
     rw (sym (within-high s 0 0 (number_of Coulomb) (read_at s 0) (form_two + number_of h.kind) r.a refl r.kind.read (omega arith) (omega arith)))
 
-pub roll1-refused : (s : List ℕ) (r : Roll) (end : ℕ) → roll_at s ≡ got r end → roll_at2 s ≡ refused 7 0
+pub roll1-refused : (s : List ℕ) (r : Roll) (end : ℕ) → roll_at s ≡ got r end → roll_at2 s ≡ refused BadRoll 0
 unfolding roll_at roll_at2
 roll1-refused s r end e = let x = and_then-is (header_at s) _ r end e in rw (form1-refused s x.0 x.1 x.2)
 
-pub roll2-refused : (s : List ℕ) (r : Roll) (end : ℕ) → roll_at2 s ≡ got r end → roll_at s ≡ refused 7 0
+pub roll2-refused : (s : List ℕ) (r : Roll) (end : ℕ) → roll_at2 s ≡ got r end → roll_at s ≡ refused BadRoll 0
 unfolding roll_at roll_at2
 roll2-refused s r end e = let x = and_then-is (header_at2 s) _ r end e in rw (form2-refused s x.0 x.1 x.2)
 

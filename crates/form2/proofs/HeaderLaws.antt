@@ -11,18 +11,17 @@ use Rattle.laws.proofs.Lists.{length-zero}
 use Rattle.kind.specs.Kinds.{kind_of, number_of}
 use Rattle.kind.specs.declared.Kind.{Kind}
 use Rattle.kind.specs.declared.Kind.TheVariants.{Coulomb}
-use Rattle.kind.specs.declared.Named.{Named}
-use Rattle.kind.specs.declared.Named.TheVariants as named
-use Rattle.roll.specs.declared.field.Field.{Field}
-use Rattle.roll.specs.declared.field.Field.TheVariants as field
+use Rattle.roll.specs.Field.{Field}
+use Rattle.roll.specs.Field as field
 use Rattle.roll.specs.declared.header.Opened.{Opened}
 use Rattle.roll.specs.Reading.{onward, within_at, of_kind}
 use Rattle.roll.specs.Header.{refused_opened, held_header, open_kind_of}
-use Rattle.form2.specs.declared.cursor.Cursor2.{Cursor2}
-use Rattle.form2.specs.declared.header.Opened2.{Opened2}
 use Rattle.form2.specs.Bytes.{form_two}
 use Rattle.form2.specs.Reading.{header_at2}
-use Rattle.form2.specs.Header.{first_cursor, begun, is_form2, open2_of}
+use Rattle.form2.specs.Header.{begun, begun_of, is_form2, open2_of}
+use Rattle.std.specs.Prelude.{Option, Some, None, Result, Ok, Err}
+use Rattle.kind.specs.declared.refusals.Fault.{Fault}
+use Rattle.kind.specs.declared.refusals.Refusal.TheVariants.{BadRoll}
 
 -- ---- the first byte
 
@@ -44,27 +43,27 @@ module _ (s : List ℕ) (q : ℕ) (x : Field) (limit : q ≡ number_of Coulomb) 
   first : within_at s 0 form_two (form_two + number_of Coulomb) ≡ x
   first = ap (λ (m : ℕ). within_at s 0 form_two (form_two + m)) (sym limit) ∙ sym is
 
-  pub header-kind : (n next : ℕ) (m : Named) (k : Kind) (y : Opened) → x ≡ field.Is n next → m ≡ kind_of (n - form_two) → m ≡ named.Is k → y ≡ open_kind_of s next k → y ≡ held_header (header_at2 s)
+  pub header-kind : (n next : ℕ) (m : Option Kind) (k : Kind) (y : Result Opened Fault) → x ≡ field.Is n next → m ≡ kind_of (n - form_two) → m ≡ Some k → y ≡ open_kind_of s next k → y ≡ held_header (header_at2 s)
   unfolding header_at2 open_kind_of
   header-kind n next m k y e kind e' answer =
       answer
-      ∙ sym (ap (λ (m : Named). held_header (of_kind s next m)) (sym kind ∙ e'))
+      ∙ sym (ap (λ (m : Option Kind). held_header (of_kind s next m)) (sym kind ∙ e'))
       ∙ sym (ap (λ (f : Field). held_header (onward f (λ n next. of_kind s next (kind_of (n - form_two))))) (first ∙ e))
 
-  pub header-unknown : (n next : ℕ) (m : Named) (y : Opened) → x ≡ field.Is n next → m ≡ kind_of (n - form_two) → m ≡ named.Unknown → y ≡ refused_opened 7 0 → y ≡ held_header (header_at2 s)
+  pub header-unknown : (n next : ℕ) (m : Option Kind) → x ≡ field.Is n next → m ≡ kind_of (n - form_two) → m ≡ None → refused_opened BadRoll 0 ≡ held_header (header_at2 s)
   unfolding header_at2
-  header-unknown n next m y e kind e' answer =
-      answer
-      ∙ sym (ap (λ (m : Named). held_header (of_kind s next m)) (sym kind ∙ e'))
+  header-unknown n next m e kind e' =
+      sym (ap (λ (m : Option Kind). held_header (of_kind s next m)) (sym kind ∙ e'))
       ∙ sym (ap (λ (f : Field). held_header (onward f (λ n next. of_kind s next (kind_of (n - form_two))))) (first ∙ e))
 
-  pub header-unread : (r place : ℕ) (y : Opened) → x ≡ field.Refused r place → y ≡ refused_opened r place → y ≡ held_header (header_at2 s)
+  pub header-unread : (why : Fault) → x ≡ Err why → Err why ≡ held_header (header_at2 s)
   unfolding header_at2
-  header-unread r place y e answer = answer ∙ sym (ap (λ (f : Field). held_header (onward f (λ n next. of_kind s next (kind_of (n - form_two))))) (first ∙ e))
+  header-unread why e = sym (ap (λ (f : Field). held_header (onward f (λ n next. of_kind s next (kind_of (n - form_two))))) (first ∙ e))
 
-pub begun-made : (o : Opened) (c : Cursor2) → c ≡ first_cursor o.cursor → ◌≡◌ {A = Opened2} (record { found = o.found; cursor = c; orders = o.orders }) (begun o)
-begun-made o c is = rw is
-
-pub open2-is : (s : List ℕ) (o : Opened) (y : Opened2) → o ≡ held_header (header_at2 s) → y ≡ begun o → y ≡ open2_of s
+pub open2-is : (s : List ℕ) (x : Result Opened Fault) (o : Opened) → x ≡ held_header (header_at2 s) → x ≡ Ok o → Ok (begun o) ≡ open2_of s
 unfolding open2_of
-open2-is s o y is answer = answer ∙ ap begun is
+open2-is s x o is ok = ap begun_of (sym ok ∙ is)
+
+pub open2-not : (s : List ℕ) (x : Result Opened Fault) (why : Fault) → x ≡ held_header (header_at2 s) → x ≡ Err why → Err why ≡ open2_of s
+unfolding open2_of
+open2-not s x why is err = ap begun_of (sym err ∙ is)

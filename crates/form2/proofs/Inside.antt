@@ -12,7 +12,7 @@ use Rattle.kind.specs.declared.Kind.TheVariants.{Coulomb}
 use Rattle.laws.proofs.Cases.{clash}
 use Rattle.laws.specs.Total.{total}
 use Rattle.term.specs.Terms.{Term}
-use Rattle.roll.specs.declared.field.Field.TheVariants as field
+use Rattle.roll.specs.Field as field
 use Rattle.roll.specs.Reading.{Reading, got, refused, onward, and_then, before, within_at, most_boys, prefactors_at, orders_at, Header, of_kind}
 use Rattle.roll.specs.Fits.{Below}
 use Rattle.roll.proofs.FieldLaws.{Taken, taken}
@@ -21,6 +21,7 @@ use Rattle.roll.proofs.Inside.{taken-inside, prefactors-inside, kind-read, order
 use Rattle.form2.specs.Bytes.{form_two}
 use Rattle.form2.specs.Reading.{header_at2, Front, further_count_at, shared_at, boys_at2, front_at, goes_on, further_at, term_after}
 use Rattle.form2.proofs.Sharing.{Parts}
+use Rattle.kind.specs.declared.refusals.Refusal.TheVariants.{BadRoll}
 
 -- ---- the front
 
@@ -64,10 +65,10 @@ pub further-read : (count table : ℕ) (follow : List ℕ) (s : List ℕ) (at : 
 unfolding further_at prefactors_at
 further-read zero table follow s at ps next e = let none : [] ≡ ps = cc in (e, rw (← none) tt)
 further-read (suc count) table follow s at ps next e =
-    let x = onward-is (within_at s at 0 (table - 1)) (λ p n. cond (goes_on follow p) (refused 7 at) (before (p ∷ []) (prefactors_at s n count table))) ps next e in
+    let x = onward-is (within_at s at 0 (table - 1)) (λ p n. cond (goes_on follow p) (refused BadRoll at) (before (p ∷ []) (prefactors_at s n count table))) ps next e in
     by x.0 x.1 x.2 (goes_on follow x.0) refl x.3
   where
-    by : (p n : ℕ) → within_at s at 0 (table - 1) ≡ field.Is p n → (b : Bool) → goes_on follow p ≡ b → cond b (refused 7 at) (before (p ∷ []) (prefactors_at s n count table)) ≡ got ps next → (onward (within_at s at 0 (table - 1)) (λ p n. before (p ∷ []) (prefactors_at s n count table)) ≡ got ps next) × Parts follow ps
+    by : (p n : ℕ) → within_at s at 0 (table - 1) ≡ field.Is p n → (b : Bool) → goes_on follow p ≡ b → cond b (refused BadRoll at) (before (p ∷ []) (prefactors_at s n count table)) ≡ got ps next → (onward (within_at s at 0 (table - 1)) (λ p n. before (p ∷ []) (prefactors_at s n count table)) ≡ got ps next) × Parts follow ps
     by p n is true t e = absurd (clash (cc))
     by p n is false f e = let b = before-is p (prefactors_at s n count table) ps next e in (rw is e, rw b.2 f)
 

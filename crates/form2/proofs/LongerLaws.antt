@@ -11,8 +11,6 @@ use borrow.Rule.Slice.PartMut.{put_mid}
 use Rattle.kind.specs.Limits.{most_l·any}
 use Rattle.kind.specs.Kinds.{kind_of, number_of, table_of, most_l}
 use Rattle.kind.specs.declared.Kind.{Kind}
-use Rattle.kind.specs.declared.Named.{Named}
-use Rattle.kind.specs.declared.Named.TheVariants as named
 use Rattle.kind.proofs.KindNumber.{kind-number}
 use Rattle.kind.proofs.Within.{some-entries, table-within, number-within}
 use Rattle.laws.proofs.Cases.{clash}
@@ -22,8 +20,6 @@ use Rattle.number.specs.Numbers.{bytes_of, Bytes}
 use Rattle.number.proofs.Writing.{bytes-last}
 use Rattle.term.specs.Terms.{Term}
 use Rattle.roll.specs.declared.cursor.Cursor.{Cursor}
-use Rattle.roll.specs.declared.field.Field.TheVariants as field
-use Rattle.roll.specs.declared.header.Opening.TheVariants as opening
 use Rattle.roll.specs.declared.header.Opened.{Opened}
 use Rattle.roll.specs.Bytes.{numbers_bytes, term_bytes, terms_bytes, roll_bytes}
 use Rattle.roll.specs.Fits.{TermFits}
@@ -37,19 +33,24 @@ use Rattle.roll.proofs.JudgeLaws.{none_left}
 use Rattle.roll.proofs.TermsLaws.{few-prefactors, prefactors-length}
 use Rattle.roll.proofs.Written.{HeadBytes, head_bytes, prefactors-bytes}
 use Rattle.form2.specs.declared.judge.Sized.{Sized}
-use Rattle.form2.specs.declared.moves.Moved.TheVariants as moved
 use Rattle.form2.specs.declared.terms.ReadFront.{ReadFront}
 use Rattle.form2.specs.Bytes.{form_two}
 use Rattle.form2.specs.Reading.{header_at2, Front, front_at, term_after, terms_after, roll_at2}
 use Rattle.form2.specs.Header.{judged2}
 use Rattle.form2.specs.Moves.{in_form1, MoveTold}
-use Rattle.form2.specs.inner.Held.{held_front, AfterMay, size_in, sized_of}
+use Rattle.form2.specs.inner.Held.{held_front, size_in, sized_of}
 use Rattle.form2.specs.inner.Puts.{Put, bytes_in, two_bytes, plain1, Term1May, TermsMay1, May1}
 use Rattle.form2.proofs.Checked.{beside, whole, reads-checked2, checked-reads2, checked-refused2}
 use Rattle.form2.proofs.Inside.{front_read, front-inside, further-read, term-read2, term-inside2, header-read2, header-inside2, header-most2}
-use Rattle.form2.proofs.JudgeLaws.{one-byte-each, terms-turn2}
+use Rattle.form2.proofs.JudgeLaws.{one-byte-each, terms-turn2, sized-opened, sized-refused}
 use Rattle.form2.proofs.MovesLaws.{told-refused, told-beyond, told-full, part_room, told_moved, first_one, head-copied, behind-head, roll-put}
-use Rattle.form2.proofs.Written.{EarlierFits, none-fits, term-earlier, term-fits2, terms-count2}
+use Rattle.form2.proofs.Written.{EarlierFits, term-earlier, term-fits2, terms-count2}
+use Rattle.std.specs.Prelude.{Option, Some, None, Result, Ok, Err}
+use Rattle.kind.specs.declared.refusals.Fault.{Fault}
+use Rattle.roll.specs.Field.{fault}
+use Rattle.roll.proofs.Checked.{opened-of}
+use Rattle.form2.proofs.TermsLaws.{front_as}
+use Rattle.kind.specs.declared.refusals.Refusal.TheVariants.{StartBeyondEnd, NoRoom}
 
 -- ---- a term
 
@@ -67,7 +68,8 @@ abbrev all_of : List ℕ → ℕ → ℕ → Kind → ℕ → List ℕ
 all_of s at terms k l = terms_bytes (terms_got (terms_after s at terms k l []))
 
 -- the prefactors of the term before stand in the buffer, before what comes next
-pub record Writing1 (old : List ℕ) (start : ℕ) (s : List ℕ) (at terms : ℕ) (k : Kind) (l : ℕ) (out : List ℕ) (from count place left to : ℕ) : Type 0 where
+pub record Writing1 (old : List ℕ) (start : ℕ) (s : List ℕ) (at terms : ℕ) (k : Kind) (l : ℕ) (out : List ℕ) (from count place went to : ℕ) : Type 0 where
+  pub within : went ≤ terms
   pub small : l ≤ most_l k
   pub each : Bytes s
   pub earlier : List ℕ
@@ -77,33 +79,12 @@ pub record Writing1 (old : List ℕ) (start : ℕ) (s : List ℕ) (at terms : �
   pub apart : from + count ≤ to
   pub rest : List Term
   pub last : ℕ
-  pub reads : terms_after s place left k l earlier ≡ got rest last
+  pub reads : terms_after s place (terms - went) k l earlier ≡ got rest last
   pub done : List ℕ
   pub room : start + length (all_of s at terms k l) ≤ length old
   pub stored : out ≡ sets old start done
   pub next : to ≡ start + length done
   pub all : done ++ terms_bytes rest ≡ all_of s at terms k l
-
-pub writing1-first : (out : List ℕ) (start : ℕ) (s : List ℕ) (at terms : ℕ) (k : Kind) (l : ℕ) → TermsMay1 s at terms k l out start → Writing1 out start s at terms k l out start 0 at terms start
-writing1-first out start s at terms k l may =
-    let is : all_of s at terms k l ≡ terms_bytes may.terms = ap (λ (x : Reading (List Term)). terms_bytes (terms_got x)) may.reads in
-    record {
-      small = may.small;
-      each = may.each;
-      earlier = [];
-      fits = none-fits k l;
-      counted = refl;
-      stands = refl;
-      apart = omega arith;
-      rest = may.terms;
-      last = may.end;
-      reads = may.reads;
-      done = [];
-      room = omega (arith, may.room, ap length is);
-      stored = refl;
-      next = omega arith;
-      all = sym is;
-    }
 
 -- a term that is to be written: its bytes in the roll, and the terms behind it
 record Here (s : List ℕ) (k : Kind) (l : ℕ) (earlier : List ℕ) (place left count : ℕ) (rest : List Term) (last : ℕ) : Type 0 where
@@ -177,102 +158,97 @@ put-stands out xs ps to q n after long room p =
           ∙ take_at ps (drop (to + length xs + length ps) mid) n long,
     )
 
-module _ (old : List ℕ) (start : ℕ) (s : List ℕ) (at terms : ℕ) (k : Kind) (l : ℕ) (out : List ℕ) (from count place left to : ℕ) (w : Writing1 old start s at terms k l out from count place left to) where
-  pub writing1-may : AfterMay k l count
-  writing1-may = record { small = w.small; few = let few = w.fits.count in let same = w.counted in omega arith }
-
+module _ (old : List ℕ) (start : ℕ) (s : List ℕ) (at terms : ℕ) (k : Kind) (l : ℕ) (out : List ℕ) (from count place went to : ℕ) (w : Writing1 old start s at terms k l out from count place went to) where
   pub writing1-length : length out ≡ length old
   writing1-length = ap length w.stored ∙ length-sets old start w.done
 
-  pub writing1-done : left ≤ 0 → out ≡ sets old start (all_of s at terms k l)
+  pub writing1-done : terms ≤ went → out ≡ sets old start (all_of s at terms k l)
   unfolding terms_after terms_bytes
   writing1-done none =
-      let zero_left : left ≡ 0 = omega arith in
+      let zero_left : terms - went ≡ 0 = omega arith in
       let reads = rw zero_left at w.reads in
       let nothing : w.rest ≡ [] = none_left place w.rest w.last (eqb place (length s)) reads in
       w.stored ∙ ap (sets old start) (sym (append-nil w.done) ∙ ap (λ (ts : List Term). w.done ++ terms_bytes ts) (sym nothing) ∙ w.all)
 
-  module _ (x : ReadFront) (some : 0 < left) (is : x ≡ held_front (front_at s place k l count)) where
-    h : Here s k l w.earlier place left count w.rest w.last
-    h = rw w.counted at (here-read s k l w.earlier place left w.rest w.last w.each w.fits some w.reads)
+  module _ (x : Result ReadFront Fault) (some : went < terms) (is : x ≡ held_front (front_at s place k l count)) where
+    h : Here s k l w.earlier place (terms - went) count w.rest w.last
+    h = rw w.counted at (here-read s k l w.earlier place (terms - went) w.rest w.last w.each w.fits (omega arith) w.reads)
 
-    x-is : x ≡ held_front (got h.front h.next)
-    x-is = is ∙ ap held_front h.numbers
+    pub writing1-never : (why : Fault) → x ≡ Err why → out ≡ sets old start (all_of s at terms k l)
+    writing1-never why err = let not : held_front (got h.front h.next) ≡ Err why = sym (ap held_front h.numbers) ∙ sym is ∙ err in absurd (clash (cc))
 
-    pub writing1-never : (r wrong : ℕ) → x.found ≡ field.Refused r wrong → out ≡ sets old start (all_of s at terms k l)
-    writing1-never r wrong e =
-        let found = ap (λ (x : ReadFront). x.found) x-is in
-        absurd (clash (cc))
+    module _ (read : ReadFront) (ok : x ≡ Ok read) where
+      read-is : read ≡ front_as h.front h.next
+      read-is = let same : Ok read ≡ held_front (got h.front h.next) = sym ok ∙ is ∙ ap held_front h.numbers in cc
 
-    module _ (further next : ℕ) (found : x.found ≡ field.Is further next) where
-      scale-is : x.scale ≡ h.front.scale
-      scale-is = ap (λ (x : ReadFront). x.scale) x-is
+      scale-is : read.scale ≡ h.front.scale
+      scale-is = ap (λ (x : ReadFront). x.scale) read-is
 
-      boys-is : x.boys ≡ h.front.boys
-      boys-is = ap (λ (x : ReadFront). x.boys) x-is
+      boys-is : read.boys ≡ h.front.boys
+      boys-is = ap (λ (x : ReadFront). x.boys) read-is
 
-      shared-is : x.shared ≡ h.front.shared
-      shared-is = ap (λ (x : ReadFront). x.shared) x-is
+      shared-is : read.shared ≡ h.front.shared
+      shared-is = ap (λ (x : ReadFront). x.shared) read-is
 
-      further-is : further ≡ h.front.further
-      further-is = let there = ap (λ (x : ReadFront). x.found) x-is in cc
+      further-is : read.further ≡ h.front.further
+      further-is = ap (λ (x : ReadFront). x.further) read-is
 
-      next-is : next ≡ h.next
-      next-is = let there = ap (λ (x : ReadFront). x.found) x-is in cc
+      next-is : read.next ≡ h.next
+      next-is = ap (λ (x : ReadFront). x.next) read-is
 
       ps : List ℕ
-      ps = take x.shared (drop from out) ++ take (next + further - next) (drop next s)
+      ps = take read.shared (drop from out) ++ take (read.next + read.further - read.next) (drop read.next s)
 
-      slice : take (next + further - next) (drop next s) ≡ h.further
+      slice : take (read.next + read.further - read.next) (drop read.next s) ≡ h.further
       slice =
-          let n : next + further - next ≡ further = omega arith in
+          let n : read.next + read.further - read.next ≡ read.further = omega arith in
           ap₂ (λ (m p : ℕ). take m (drop p s)) (n ∙ further-is) next-is
           ∙ ap (take h.front.further) h.bytes
           ∙ take_at h.further (drop (h.next + h.front.further) s) h.front.further h.long
 
-      pub write1-inside : next + further ≤ length s
+      pub write1-inside : read.next + read.further ≤ length s
       write1-inside = omega (arith, h.inside, next-is, further-is)
 
-      within : x.shared ≤ count
+      within : read.shared ≤ count
       within = omega (arith, h.within, shared-is)
 
       prefactors-are : ps ≡ h.term.prefactors
       unfolding ps
       prefactors-are =
-          ap₂ ◌++◌ (sym (take-take x.shared count (drop from out) within) ∙ ap (take x.shared) w.stands ∙ ap (λ (n : ℕ). take n w.earlier) shared-is) slice
+          ap₂ ◌++◌ (sym (take-take read.shared count (drop from out) within) ∙ ap (take read.shared) w.stands ∙ ap (λ (n : ℕ). take n w.earlier) shared-is) slice
           ∙ ap (λ (t : Term). t.prefactors) (sym h.is)
 
       few : length h.term.prefactors ≤ most_l·any
       few = omega (arith, h.fit.count, few-prefactors k l w.small)
 
-      count-is : length h.term.prefactors ≡ x.shared + further
+      count-is : length h.term.prefactors ≡ read.shared + read.further
       count-is =
           let same = w.counted in
           let inside = within in
           omega (arith, ap (λ (t : Term). length t.prefactors) h.is, length-append (take h.front.shared w.earlier) h.further, length-take-le h.front.shared w.earlier (omega (arith, shared-is)), h.long, further-is, shared-is)
 
-      pub write1-few : x.shared + further ≤ most_l·any
+      pub write1-few : read.shared + read.further ≤ most_l·any
       write1-few = omega (arith, count-is, few)
 
-      one-is : plain1 x.scale x.boys ps ≡ term_bytes h.term
+      one-is : plain1 read.scale read.boys ps ≡ term_bytes h.term
       one-is =
           ap₂ (λ (a b : ℕ). plain1 a b ps) (scale-is ∙ ap (λ (t : Term). t.scale) (sym h.is)) (boys-is ∙ ap (λ (t : Term). t.boys) (sym h.is))
           ∙ ap (plain1 h.term.scale h.term.boys) prefactors-are
           ∙ sym (plain-term k l h.term h.fit)
 
-      all-is : w.done ++ (plain1 x.scale x.boys ps ++ terms_bytes h.behind) ≡ all_of s at terms k l
+      all-is : w.done ++ (plain1 read.scale read.boys ps ++ terms_bytes h.behind) ≡ all_of s at terms k l
       unfolding terms_bytes
       all-is =
           ap (λ (l : List ℕ). w.done ++ (l ++ terms_bytes h.behind)) one-is
           ∙ ap (λ (ts : List Term). w.done ++ terms_bytes ts) (sym h.split)
           ∙ w.all
 
-      room : to + length (plain1 x.scale x.boys ps) ≤ length out
+      room : to + length (plain1 read.scale read.boys ps) ≤ length out
       room =
-          let one = plain1 x.scale x.boys ps in
+          let one = plain1 read.scale read.boys ps in
           omega (arith, w.room, w.next, ap length all-is, length-append w.done (one ++ terms_bytes h.behind), length-append one (terms_bytes h.behind), writing1-length)
 
-      pub write1-may : Term1May x.scale x.boys from x.shared (take (next + further - next) (drop next s)) to out
+      pub write1-may : Term1May read.scale read.boys from read.shared (take (read.next + read.further - read.next) (drop read.next s)) to out
       unfolding ps
       write1-may =
           let apart = w.apart in
@@ -280,23 +256,25 @@ module _ (old : List ℕ) (start : ℕ) (s : List ℕ) (at terms : ℕ) (k : Kin
           let most = write1-few in
           record { apart = omega arith; few = omega (arith, ap length slice, h.long, further-is); room = room }
 
-      module _ (q : ℕ) (after : List ℕ) (p : Put (plain1 x.scale x.boys (take x.shared (drop from out) ++ take (next + further - next) (drop next s))) to out q after) where
-        stood : (x.shared + further ≤ q) × (take (x.shared + further) (drop (q - (x.shared + further)) after) ≡ ps)
+      module _ (q : ℕ) (after : List ℕ) (p : Put (plain1 read.scale read.boys (take read.shared (drop from out) ++ take (read.next + read.further - read.next) (drop read.next s))) to out q after) where
+        stood : (read.shared + read.further ≤ q) × (take (read.shared + read.further) (drop (q - (read.shared + read.further)) after) ≡ ps)
         unfolding plain1 ps
         stood =
-            let front = two_bytes x.scale x.boys ++ bytes_of (length ps) in
-            let is : plain1 x.scale x.boys ps ≡ front ++ ps = sym (append_assoc (two_bytes x.scale x.boys) (bytes_of (length ps)) ps) in
-            put-stands out front ps to q (x.shared + further) after (ap length prefactors-are ∙ count-is) (rw is at room) (rw is at p)
+            let front = two_bytes read.scale read.boys ++ bytes_of (length ps) in
+            let is : plain1 read.scale read.boys ps ≡ front ++ ps = sym (append_assoc (two_bytes read.scale read.boys) (bytes_of (length ps)) ps) in
+            put-stands out front ps to q (read.shared + read.further) after (ap length prefactors-are ∙ count-is) (rw is at room) (rw is at p)
 
-        pub write1-back : x.shared + further ≤ q
+        pub write1-back : read.shared + read.further ≤ q
         write1-back = stood.0
 
-        pub writing1-more : Writing1 old start s at terms k l after (q - (x.shared + further)) (x.shared + further) (next + further) (left - 1) q
+        pub writing1-more : Writing1 old start s at terms k l after (q - (read.shared + read.further)) (read.shared + read.further) (read.next + read.further) (went + 1) q
         unfolding ps
         writing1-more =
-            let one = plain1 x.scale x.boys ps in
+            let one = plain1 read.scale read.boys ps in
             let back = stood.0 in
+            let less : terms - went - 1 ≡ terms - (went + 1) = omega arith in
             record {
+              within = omega arith;
               small = w.small;
               each = w.each;
               earlier = h.term.prefactors;
@@ -306,7 +284,7 @@ module _ (old : List ℕ) (start : ℕ) (s : List ℕ) (at terms : ℕ) (k : Kin
               apart = omega arith;
               rest = h.behind;
               last = w.last;
-              reads = rw (next-is, further-is) h.reads;
+              reads = rw (next-is, further-is, ← less) h.reads;
               done = w.done ++ one;
               room = w.room;
               stored = p.out ∙ ap₂ (λ (l : List ℕ) (k : ℕ). sets l k one) w.stored w.next ∙ sym (sets-append old start w.done one);
@@ -326,18 +304,18 @@ module _ (o : Opened) (n : ℕ) (s : List ℕ) (may : May1 o n s) where
   pub head-fits1 : (out : List ℕ) → length (bytes_in in_form1 (roll_at2 s)) ≤ length out → o.cursor.place ≤ length out
   head-fits1 out room = omega (arith, ap length bytes-are1, length-append (o.cursor.kind ∷ between s 1 o.cursor.place) (terms_bytes may.roll.terms), head-long1)
 
-  same_kind : (k : Kind) → kind_of o.cursor.kind ≡ named.Is k → may.kind ≡ k
+  same_kind : (k : Kind) → kind_of o.cursor.kind ≡ Some k → may.kind ≡ k
   same_kind k e = let is = may.named in cc
 
-  terms-may : (k : Kind) → kind_of o.cursor.kind ≡ named.Is k → (out : List ℕ) (start : ℕ) → start + length (terms_bytes may.roll.terms) ≤ length out → TermsMay1 s o.cursor.place o.cursor.left k o.cursor.l out start
+  terms-may : (k : Kind) → kind_of o.cursor.kind ≡ Some k → (out : List ℕ) (start : ℕ) → start + length (terms_bytes may.roll.terms) ≤ length out → TermsMay1 s o.cursor.place o.cursor.left k o.cursor.l out start
   terms-may k e out start room =
       rw (← (same_kind k e)) (record { small = may.small; terms = may.roll.terms; end = may.last; reads = may.terms; room = room; each = may.each })
 
-  pub put-terms-may1 : (k : Kind) (out : List ℕ) (to : ℕ) (mid : List ℕ) → kind_of o.cursor.kind ≡ named.Is k → length (bytes_in in_form1 (roll_at2 s)) ≤ length out → Put (o.cursor.kind ∷ between s 1 o.cursor.place) 0 out to mid → TermsMay1 s o.cursor.place o.cursor.left k o.cursor.l mid to
+  pub put-terms-may1 : (k : Kind) (out : List ℕ) (to : ℕ) (mid : List ℕ) → kind_of o.cursor.kind ≡ Some k → length (bytes_in in_form1 (roll_at2 s)) ≤ length out → Put (o.cursor.kind ∷ between s 1 o.cursor.place) 0 out to mid → TermsMay1 s o.cursor.place o.cursor.left k o.cursor.l mid to
   put-terms-may1 k out to mid e room p =
       terms-may k e mid to (behind-head o.cursor.kind s o.cursor.place (terms_bytes may.roll.terms) out (bytes_in in_form1 (roll_at2 s)) bytes-are1 room to mid p)
 
-  pub roll-put1 : (k : Kind) (out : List ℕ) (to : ℕ) (mid after : List ℕ) → kind_of o.cursor.kind ≡ named.Is k → Put (o.cursor.kind ∷ between s 1 o.cursor.place) 0 out to mid → after ≡ sets mid to (terms_bytes (terms_got (terms_after s o.cursor.place o.cursor.left k o.cursor.l []))) → after ≡ sets out 0 (bytes_in in_form1 (roll_at2 s))
+  pub roll-put1 : (k : Kind) (out : List ℕ) (to : ℕ) (mid after : List ℕ) → kind_of o.cursor.kind ≡ Some k → Put (o.cursor.kind ∷ between s 1 o.cursor.place) 0 out to mid → after ≡ sets mid to (terms_bytes (terms_got (terms_after s o.cursor.place o.cursor.left k o.cursor.l []))) → after ≡ sets out 0 (bytes_in in_form1 (roll_at2 s))
   roll-put1 k out to mid after e p put =
       let reads : terms_after s o.cursor.place o.cursor.left k o.cursor.l [] ≡ got may.roll.terms may.last = rw (same_kind k e) at may.terms in
       roll-put o.cursor.kind s o.cursor.place (terms_bytes may.roll.terms) out (bytes_in in_form1 (roll_at2 s)) bytes-are1 to mid after p
@@ -346,51 +324,53 @@ module _ (o : Opened) (n : ℕ) (s : List ℕ) (may : May1 o n s) where
   size-is1 : o.cursor.place + n ≡ length (in_form1 may.roll)
   size-is1 = omega (arith, may.size, ap length may.bytes, length-append (o.cursor.kind ∷ between s 1 o.cursor.place) (terms_bytes may.roll.terms), head-long1)
 
-  pub beyond1 : (out : List ℕ) (start : ℕ) → length out < start → MoveTold in_form1 (roll_at2 s) out start (moved.Refused 5 0) out
+  pub beyond1 : (out : List ℕ) (start : ℕ) → length out < start → MoveTold in_form1 (roll_at2 s) out start (Err (fault StartBeyondEnd 0)) out
   beyond1 out start past = told-beyond in_form1 (roll_at2 s) out start may.roll may.end may.reads past
 
   module _ (out : List ℕ) (start : ℕ) (t : Bool) (inside : start ≤ length out) (test : t ≡ leb (o.cursor.place + n) (length out - start)) where
-    pub full1 : t ≡ false → MoveTold in_form1 (roll_at2 s) out start (moved.Refused 6 0) out
+    pub full1 : t ≡ false → MoveTold in_form1 (roll_at2 s) out start (Err (fault NoRoom 0)) out
     full1 off = told-full in_form1 (roll_at2 s) out start may.roll may.end may.reads (o.cursor.place + n) t inside test size-is1 off
 
     pub part-room1 : t ≡ true → length (bytes_in in_form1 (roll_at2 s)) ≤ length (take (length out - start) (drop start out))
     part-room1 on = part_room in_form1 (roll_at2 s) out start may.roll may.end may.reads (o.cursor.place + n) t inside test size-is1 on
 
-    pub moved1 : (part : List ℕ) → t ≡ true → part ≡ sets (take (length out - start) (drop start out)) 0 (bytes_in in_form1 (roll_at2 s)) → MoveTold in_form1 (roll_at2 s) out start (moved.Roll (o.cursor.place + n) o.cursor.left) (put_mid start (length out - start) out part)
+    pub moved1 : (part : List ℕ) → t ≡ true → part ≡ sets (take (length out - start) (drop start out)) 0 (bytes_in in_form1 (roll_at2 s)) → MoveTold in_form1 (roll_at2 s) out start (Ok (record { length = o.cursor.place + n; terms = o.cursor.left })) (put_mid start (length out - start) out part)
     moved1 part on put = told_moved in_form1 (roll_at2 s) out start may.roll may.end may.reads (o.cursor.place + n) t inside test size-is1 o.cursor.left part on may.count put
 
     pub sum-fits1 : t ≡ true → o.cursor.place + n ≤ length out
     sum-fits1 on = omega (arith, borrow.Author.Tests.leb-true (o.cursor.place + n) (length out - start) (sym test ∙ on))
 
-  pub named1 : (m : Named) → m ≡ kind_of o.cursor.kind → m ≡ named.Unknown → ⊥
-  named1 m is e = let known = may.named in clash (cc)
+  pub named1 : {P : Type 0} (m : Option Kind) → m ≡ kind_of o.cursor.kind → m ≡ None → P
+  named1 m is e = let known = may.named in absurd (clash (cc))
 
 -- ---- the move
 
 -- what the judge says of a roll that reads
-pub judged-may1 : (s : List ℕ) (z : Sized) → Bytes s → z ≡ sized_of s → z.opened.found ≡ opening.Roll → May1 z.opened z.size s
+pub judged-may1 : (s : List ℕ) (x : Result Sized Fault) (z : Sized) → Bytes s → x ≡ sized_of s → x ≡ Ok z → May1 z.opened z.size s
 unfolding sized_of roll_at2 in_form1 roll_bytes
-judged-may1 s z bytes is found =
+judged-may1 s x z bytes is ok =
     let o = z.opened in
-    let o_is : o ≡ judged2 s = ap (λ (z : Sized). z.opened) is in
-    let n-is : z.size ≡ size_in (roll_at2 s) = ap (λ (z : Sized). z.size) is in
-    let reads = checked-reads2 s (ap (λ (o : Opened). o.found) (sym o_is) ∙ found) in
+    let both = sized-opened (size_in (roll_at2 s)) (judged2 s) z (sym is ∙ ok) in
+    let n-is : z.size ≡ size_in (roll_at2 s) = sym both.1 in
+    let reads = checked-reads2 s o both.0 in
     let r = reads.0 in
-    let x = and_then-is (header_at2 s) (whole s) r reads.1 reads.2 in
-    let h = x.0 in
-    let next = x.1 in
-    let y = and_then-is (terms_after s next h.terms h.kind (total h.orders) []) (beside h) r reads.1 x.3 in
+    let g = and_then-is (header_at2 s) (whole s) r reads.1 reads.2 in
+    let h = g.0 in
+    let next = g.1 in
+    let y = and_then-is (terms_after s next h.terms h.kind (total h.orders) []) (beside h) r reads.1 g.3 in
     let made : record { kind = h.kind; orders = h.orders; terms = y.0 } ≡ r = cc y.3 in
-    let hr = header-read2 s h next x.2 in
+    let hr = header-read2 s h next g.2 in
     let within = number-within h.kind in
     let one : hr.a ≡ 1 = first_one s form_two (form_two + number_of Rattle.kind.specs.declared.Kind.TheVariants.Coulomb) (form_two + number_of h.kind) hr.a bytes (omega arith) hr.kind in
     let hb : HeadBytes s 1 h next = rw one at (head_bytes s hr.a hr.b h next bytes hr.orders hr.terms) in
     let some : 1 ≤ next = omega (arith, (taken-inside s hr.b 1 Rattle.kind.specs.Limits.most_terms h.terms next hr.terms).0) in
-    let inside = header-inside2 s h next x.2 in
+    let inside = header-inside2 s h next g.2 in
     let copied = head-copied s h next some inside hb in
-    let opened : o ≡ held_header (got h next) = o_is ∙ (reads-checked2 s r reads.1 reads.2).0 ∙ ap held_header x.2 in
+    let opens = reads-checked2 s r reads.1 reads.2 in
+    let answer : Ok o ≡ held_header (got h next) = sym both.0 ∙ opens.checks ∙ sym opens.opens ∙ ap held_header g.2 in
+    let opened : o ≡ opened-of h next = cc in
     let cursor : o.cursor ≡ cursor_at h next = ap (λ (o : Opened). o.cursor) opened in
-    made-may1 s o z.size h next y.0 r reads.1 y.1 bytes made cursor reads.2 some inside (header-most2 s h next x.2) y.2 (n-is ∙ ap size_in reads.2) copied
+    made-may1 s o z.size h next y.0 r reads.1 y.1 bytes made cursor reads.2 some inside (header-most2 s h next g.2) y.2 (n-is ∙ ap size_in reads.2) copied
   where
     made-may1 : (s : List ℕ) (o : Opened) (n : ℕ) (h : Header) (next : ℕ) (ts : List Term) (r : Roll) (end last : ℕ) → Bytes s → record { kind = h.kind; orders = h.orders; terms = ts } ≡ r → o.cursor ≡ cursor_at h next → roll_at2 s ≡ got r end → 1 ≤ next → next ≤ length s → total h.orders ≤ most_l h.kind → terms_after s next h.terms h.kind (total h.orders) [] ≡ got ts last → n ≡ length (terms_bytes r.terms) → between s 1 next ≡ numbers_bytes h.orders ++ bytes_of h.terms → May1 o n s
     made-may1 s o n h next ts r end last bytes made cursor reads some inside small terms size copied =
@@ -424,7 +404,6 @@ judged-may1 s z bytes is found =
             ∙ ap (λ (m : ℕ). (numbers_bytes os ++ bytes_of m) ++ terms_bytes ts) count
             ∙ ap (λ (l : List ℕ). l ++ terms_bytes ts) (sym is))
 
-pub refused1 : (s : List ℕ) (z : Sized) (out : List ℕ) (start n place : ℕ) → z ≡ sized_of s → z.opened.found ≡ opening.Refused n place → MoveTold in_form1 (roll_at2 s) out start (moved.Refused n place) out
+pub refused1 : (s : List ℕ) (x : Result Sized Fault) (out : List ℕ) (start : ℕ) (why : Fault) → x ≡ sized_of s → x ≡ Err why → MoveTold in_form1 (roll_at2 s) out start (Err why) out
 unfolding sized_of
-refused1 s z out start n place is found =
-    told-refused in_form1 (roll_at2 s) out start n place (checked-refused2 s n place (ap (λ (z : Sized). z.opened.found) (sym is) ∙ found))
+refused1 s x out start why is err = told-refused in_form1 (roll_at2 s) out start why (checked-refused2 s why (sized-refused (size_in (roll_at2 s)) (judged2 s) why (sym is ∙ err)))

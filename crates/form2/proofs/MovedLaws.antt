@@ -18,7 +18,6 @@ use Rattle.number.specs.Numbers.{bytes_of, Bytes}
 use Rattle.number.proofs.Writing.{bytes-last}
 use Rattle.term.specs.Terms.{Term}
 use Rattle.roll.specs.declared.cursor.Cursor.{Cursor}
-use Rattle.roll.specs.declared.header.Opening.TheVariants as opening
 use Rattle.roll.specs.declared.header.Opened.{Opened}
 use Rattle.roll.specs.Bytes.{numbers_bytes}
 use Rattle.roll.specs.Fits.{Below}
@@ -32,7 +31,6 @@ use Rattle.roll.proofs.Inside.{term-read, term-inside, header_read, header-insid
 use Rattle.roll.proofs.JudgeLaws.{none_left}
 use Rattle.roll.proofs.TermsLaws.{few-prefactors}
 use Rattle.roll.proofs.Written.{HeadBytes, head_bytes, roll-read}
-use Rattle.form2.specs.declared.moves.Moved.TheVariants as moved
 use Rattle.form2.specs.Bytes.{form_two, shared, further_of, term_bytes2, terms_bytes2, roll_bytes2}
 use Rattle.form2.specs.Moves.{in_form1, in_form2, MoveTold}
 use Rattle.form2.specs.inner.Puts.{Put, bytes_in, two_bytes, plain2, ps_at, head_bytes2, again_bytes2, SmallAgain, May2}
@@ -40,9 +38,13 @@ use Rattle.form2.proofs.AtMost.{roll-longer}
 use Rattle.form2.proofs.Back.{below-further}
 use Rattle.form2.proofs.Inside.{prefactors-below}
 use Rattle.form2.proofs.JudgeLaws.{one-byte-each}
-use Rattle.form2.proofs.MovesLaws.{told-refused, told-beyond, told-full, part_room, told_moved, first_one, head-copied, head-long, behind-head}
+use Rattle.form2.proofs.MovesLaws.{told-refused, told-beyond, told-full, told_moved, first_one, head-copied, head-long, behind-head}
 use Rattle.form2.proofs.PutsLaws.{put_both}
 use Rattle.form2.proofs.ShorterLaws.{head-order, part-long}
+use Rattle.std.specs.Prelude.{Result, Ok, Err}
+use Rattle.kind.specs.declared.refusals.Fault.{Fault}
+use Rattle.roll.specs.Field.{fault}
+use Rattle.kind.specs.declared.refusals.Refusal.TheVariants.{StartBeyondEnd, NoRoom}
 
 -- ---- a term
 
@@ -153,9 +155,9 @@ made-may2 s o h next r end last bytes kind-is orders-is count cursor reads some 
     }
 
 -- what the check says of a roll that reads
-pub judged-may2 : (s : List ℕ) (o : Opened) → Bytes s → o ≡ check_of s → o.found ≡ opening.Roll → May2 o s
-judged-may2 s o bytes is found =
-    let j = checked-judged s o is found in
+pub judged-may2 : (s : List ℕ) (x : Result Opened Fault) (o : Opened) → Bytes s → x ≡ check_of s → x ≡ Ok o → May2 o s
+judged-may2 s x o bytes is ok =
+    let j = checked-judged s x o is ok in
     let d = headed o s j in
     let h = d.header in
     let next = d.next in
@@ -183,7 +185,7 @@ module _ (o : Opened) (s : List ℕ) (may : May2 o s) where
   pub roll-put2 : (out : List ℕ) (to : ℕ) (mid : List ℕ) (r : ℕ) (after : List ℕ) → Put ((o.cursor.kind + form_two) ∷ between s 1 o.cursor.place) 0 out to mid → Put (again_bytes2 s [] o.cursor.place o.cursor.left) to mid r after → Put (bytes_in in_form2 (roll_at s)) 0 out r after
   roll-put2 out to mid r after p q = rw bytes-are2 (put_both ((o.cursor.kind + form_two) ∷ between s 1 o.cursor.place) (again_bytes2 s [] o.cursor.place o.cursor.left) 0 out to mid p r after q)
 
-  pub beyond2 : (out : List ℕ) (start : ℕ) → length out < start → MoveTold in_form2 (roll_at s) out start (moved.Refused 5 0) out
+  pub beyond2 : (out : List ℕ) (start : ℕ) → length out < start → MoveTold in_form2 (roll_at s) out start (Err (fault StartBeyondEnd 0)) out
   beyond2 out start past = told-beyond in_form2 (roll_at s) out start may.roll may.end may.reads past
 
   long2 : length (bytes_in in_form2 (roll_at s)) ≡ length (in_form2 may.roll)
@@ -198,16 +200,13 @@ module _ (o : Opened) (s : List ℕ) (may : May2 o s) where
       test ∙ ap (λ (m : ℕ). leb m room) size
 
   module _ (out : List ℕ) (start : ℕ) (t : Bool) (inside : start ≤ length out) (test : t ≡ leb (length (bytes_in in_form2 (roll_at s))) (length out - start)) where
-    pub full2 : t ≡ false → MoveTold in_form2 (roll_at s) out start (moved.Refused 6 0) out
+    pub full2 : t ≡ false → MoveTold in_form2 (roll_at s) out start (Err (fault NoRoom 0)) out
     full2 off = told-full in_form2 (roll_at s) out start may.roll may.end may.reads (length (bytes_in in_form2 (roll_at s))) t inside test long2 off
 
-    pub part-room2 : t ≡ true → length (bytes_in in_form2 (roll_at s)) ≤ length (take (length out - start) (drop start out))
-    part-room2 on = part_room in_form2 (roll_at s) out start may.roll may.end may.reads (length (bytes_in in_form2 (roll_at s))) t inside test long2 on
-
-    pub moved2 : (r : ℕ) (part : List ℕ) → t ≡ true → Put (bytes_in in_form2 (roll_at s)) 0 (take (length out - start) (drop start out)) r part → MoveTold in_form2 (roll_at s) out start (moved.Roll r o.cursor.left) (put_mid start (length out - start) out part)
+    pub moved2 : (r : ℕ) (part : List ℕ) → t ≡ true → Put (bytes_in in_form2 (roll_at s)) 0 (take (length out - start) (drop start out)) r part → MoveTold in_form2 (roll_at s) out start (Ok (record { length = r; terms = o.cursor.left })) (put_mid start (length out - start) out part)
     moved2 r part on put =
         let all : r ≡ length (bytes_in in_form2 (roll_at s)) = omega (arith, put.next) in
         rw all (told_moved in_form2 (roll_at s) out start may.roll may.end may.reads (length (bytes_in in_form2 (roll_at s))) t inside test long2 o.cursor.left part on may.count put.out)
 
-pub refused2 : (s : List ℕ) (o : Opened) (out : List ℕ) (start n place : ℕ) → o ≡ check_of s → o.found ≡ opening.Refused n place → MoveTold in_form2 (roll_at s) out start (moved.Refused n place) out
-refused2 s o out start n place is found = told-refused in_form2 (roll_at s) out start n place (checked_refused s o n place is found)
+pub refused2 : (s : List ℕ) (x : Result Opened Fault) (out : List ℕ) (start : ℕ) (why : Fault) → x ≡ check_of s → x ≡ Err why → MoveTold in_form2 (roll_at s) out start (Err why) out
+refused2 s x out start why is err = told-refused in_form2 (roll_at s) out start why (checked_refused s x why is err)

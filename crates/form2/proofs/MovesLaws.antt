@@ -19,22 +19,25 @@ use Rattle.roll.specs.Reading.{Reading, got, refused, Header, Roll}
 use Rattle.roll.specs.inner.Again.{between}
 use Rattle.roll.proofs.FieldLaws.{Taken}
 use Rattle.roll.proofs.Written.{HeadBytes}
-use Rattle.form2.specs.declared.moves.Moved.TheVariants as moved
 use Rattle.form2.specs.Moves.{moved_into, MoveTold}
 use Rattle.form2.specs.inner.Puts.{Put, bytes_in}
+use Rattle.std.specs.Prelude.{Ok, Err}
+use Rattle.kind.specs.declared.refusals.Fault.{Fault}
+use Rattle.roll.specs.Field.{fault}
+use Rattle.kind.specs.declared.refusals.Refusal.TheVariants.{StartBeyondEnd, NoRoom}
 
 -- ---- answers
 
-pub told-refused : (form : Roll → List ℕ) (reading : Reading Roll) (out : List ℕ) (start n place : ℕ) → reading ≡ refused n place → MoveTold form reading out start (moved.Refused n place) out
-told-refused form reading out start n place e = rw e (record { answer = refl; bytes = refl })
+pub told-refused : (form : Roll → List ℕ) (reading : Reading Roll) (out : List ℕ) (start : ℕ) (why : Fault) → reading ≡ refused why.refusal why.place → MoveTold form reading out start (Err why) out
+told-refused form reading out start why e = rw e (record { answer = refl; bytes = refl })
 
 module _ (form : Roll → List ℕ) (reading : Reading Roll) (out : List ℕ) (start : ℕ) (r : Roll) (end : ℕ) (reads : reading ≡ got r end) where
-  pub told-beyond : length out < start → MoveTold form reading out start (moved.Refused 5 0) out
+  pub told-beyond : length out < start → MoveTold form reading out start (Err (fault StartBeyondEnd 0)) out
   unfolding moved_into
   told-beyond past = rw reads (record { answer = simp (lt-ltb (length out) start past); bytes = simp (lt-ltb (length out) start past) })
 
   module _ (n : ℕ) (t : Bool) (inside : start ≤ length out) (test : t ≡ leb n (length out - start)) (size : n ≡ length (form r)) where
-    pub told-full : t ≡ false → MoveTold form reading out start (moved.Refused 6 0) out
+    pub told-full : t ≡ false → MoveTold form reading out start (Err (fault NoRoom 0)) out
     unfolding moved_into
     told-full off =
         let over : length out < start + length (form r) = omega (arith, leb-false n (length out - start) (sym test ∙ off)) in
@@ -54,7 +57,7 @@ module _ (form : Roll → List ℕ) (reading : Reading Roll) (out : List ℕ) (s
         let all = ap length (Rattle.laws.proofs.Parts.part-all out start) in
         rw reads (omega (arith, all, length-drop start out))
 
-    pub told_moved : (m : ℕ) (part : List ℕ) → t ≡ true → m ≡ length r.terms → part ≡ sets (take (length out - start) (drop start out)) 0 (bytes_in form reading) → MoveTold form reading out start (moved.Roll n m) (put_mid start (length out - start) out part)
+    pub told_moved : (m : ℕ) (part : List ℕ) → t ≡ true → m ≡ length r.terms → part ≡ sets (take (length out - start) (drop start out)) 0 (bytes_in form reading) → MoveTold form reading out start (Ok (record { length = n; terms = m })) (put_mid start (length out - start) out part)
     unfolding moved_into
     told_moved m part on count put =
         let room = fits on in

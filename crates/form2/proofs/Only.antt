@@ -3,6 +3,8 @@ use Prim.Native.Nat.{ℕ}
 use mathlib.Core.List.{List}
 use contract.Lifetimes.{Lfts}
 use Rattle.laws.proofs.Contract.{Alone, alone, Lent, Shown, ◌▸◌, ◌then◌, end}
+use Rattle.std.specs.Prelude.{Result}
+use Rattle.kind.specs.declared.refusals.Fault.{Fault}
 use Rattle.roll.specs.Reading.{roll_at}
 use Rattle.form2.specs.declared.cursor.Cursor2.{Cursor2}
 use Rattle.form2.specs.declared.moves.Moved.{Moved}
@@ -36,9 +38,9 @@ pub alike-only : (κs : Lfts 2) (a b : Shown ℕ) → let g = a ▸ b ▸ end in
 alike-only κs a b = alone (λ r p. p)
 
 pub to-form2-only : (κs : Lfts 2) (roll : Shown ℕ) (out : Lent ℕ) (start : ℕ) →
-    Alone {A = Moved × List ℕ} (λ x. ToForm2 κs (roll ▸ out ▸ start ▸ end) x.0 (roll ▸ out then x.1 ▸ start ▸ end)) (moved_of in_form2 (roll_at roll.now) out.now start, out_of in_form2 (roll_at roll.now) out.now start)
+    Alone {A = Result Moved Fault × List ℕ} (λ x. ToForm2 κs (roll ▸ out ▸ start ▸ end) x.0 (roll ▸ out then x.1 ▸ start ▸ end)) (moved_of in_form2 (roll_at roll.now) out.now start, out_of in_form2 (roll_at roll.now) out.now start)
 to-form2-only κs roll out start = alone (λ x p i. (p.answer i, p.bytes i))
 
 pub to-form1-only : (κs : Lfts 2) (roll : Shown ℕ) (out : Lent ℕ) (start : ℕ) →
-    Alone {A = Moved × List ℕ} (λ x. ToForm1 κs (roll ▸ out ▸ start ▸ end) x.0 (roll ▸ out then x.1 ▸ start ▸ end)) (moved_of in_form1 (roll_at2 roll.now) out.now start, out_of in_form1 (roll_at2 roll.now) out.now start)
+    Alone {A = Result Moved Fault × List ℕ} (λ x. ToForm1 κs (roll ▸ out ▸ start ▸ end) x.0 (roll ▸ out then x.1 ▸ start ▸ end)) (moved_of in_form1 (roll_at2 roll.now) out.now start, out_of in_form1 (roll_at2 roll.now) out.now start)
 to-form1-only κs roll out start = alone (λ x p i. (p.answer i, p.bytes i))

@@ -15,23 +15,26 @@ use Rattle.kind.specs.declared.Kind.TheVariants.{Overlap, Kinetic, Nuclear, Mome
 use Rattle.kind.proofs.Within.{table-within}
 use Rattle.laws.proofs.Cases.{clash}
 use Rattle.laws.specs.Total.{total}
-use Rattle.number.specs.declared.Number.{Number}
+use Rattle.number.specs.Read.{Number}
 use Rattle.number.specs.Numbers.{bytes_of}
 use Rattle.term.specs.Terms.{Term}
-use Rattle.roll.specs.declared.field.Field.{Field}
-use Rattle.roll.specs.declared.field.Field.TheVariants as field
+use Rattle.roll.specs.Field.{Field}
+use Rattle.roll.specs.Field as field
 use Rattle.roll.specs.Reading.{Reading, got, refused, opened, within_at, onward, and_then, before, prefactors_at, most_boys, Header, of_kind, Roll}
 use Rattle.roll.specs.Fits.{TermsFit}
 use Rattle.roll.specs.Places.{here}
 use Rattle.roll.proofs.FieldLaws.{taken}
 use Rattle.roll.proofs.Filling.{and_then-is}
 use Rattle.roll.proofs.Back.{field_back}
-use Rattle.roll.proofs.Mending.{leads-inside, Kept, Broken, Some, kept-made, broken-made, some-made, some_number, some-field, broken-then, broken-number, kept-onward, broken-onward, kept_second, broken-first, broken-second, made_got, made-refused, kept-got, some-got, Cut, Long, made_ends, second-ends}
+use Rattle.roll.proofs.Mending.{leads-inside, Kept, Broken, SomeBytes, kept-made, broken-made, some-made, some_number, some-field, broken-then, broken-number, kept-onward, broken-onward, kept_second, broken-first, broken-second, made_got, made-refused, kept-got, some-got, Cut, Long, made_ends, second-ends}
 use Rattle.roll.proofs.Places.{prefactors-kept, prefactors-some, prefactors-broken, kind-kept, kind-some, kind-broken, known}
 use Rattle.form2.specs.Bytes.{form_two, terms_bytes2}
 use Rattle.form2.specs.Reading.{header_at2, Front, further_count_at, shared_at, boys_at2, front_at, goes_on, further_at, term_after, terms_after, roll_at2}
 use Rattle.form2.proofs.Inside.{term-inside2, header-inside2, header-most2}
 use Rattle.form2.proofs.Back.{terms-back2}
+use Rattle.std.specs.Prelude.{Err}
+use Rattle.kind.specs.declared.refusals.Refusal.{Refusal}
+use Rattle.kind.specs.declared.refusals.Refusal.TheVariants.{BadRoll}
 
 -- ---- the front of a term
 
@@ -42,13 +45,13 @@ module _ (k : Kind) (l scale boys shared : ℕ) where
       kept-onward (λ further next t. got (record { scale = scale; boys = boys; shared = shared; further = further }) next) s at 0 (most_prefactors k l - shared) end f
       (λ further next is e. kept-got (record { scale = scale; boys = boys; shared = shared; further = further }) f s next end e) e
 
-  count-some : Some (λ at t. further_count_at t at k l scale boys shared)
+  count-some : SomeBytes (λ at t. further_count_at t at k l scale boys shared)
   unfolding further_count_at
   count-some =
       some-field (λ further next t. got (record { scale = scale; boys = boys; shared = shared; further = further }) next) 0 (most_prefactors k l - shared) (omega arith) zero-le
       (some-got (record { scale = scale; boys = boys; shared = shared; further = 0 }))
 
-  count-broken : (s : List ℕ) (at r p : ℕ) → further_count_at s at k l scale boys shared ≡ refused r p → Broken (λ t. further_count_at t at k l scale boys shared) s at r p
+  count-broken : (s : List ℕ) (at : ℕ) (r : Refusal) (p : ℕ) → further_count_at s at k l scale boys shared ≡ refused r p → Broken (λ t. further_count_at t at k l scale boys shared) s at r p
   unfolding further_count_at
   count-broken s at r p e =
       broken-onward (λ further next t. got (record { scale = scale; boys = boys; shared = shared; further = further }) next) s at 0 (most_prefactors k l - shared) r p (omega arith) zero-le
@@ -60,11 +63,11 @@ module _ (k : Kind) (l longest scale boys : ℕ) where
   unfolding shared_at
   shared_kept s at f end e = kept-onward (λ n next t. further_count_at t next k l scale boys n) s at 0 longest end f (λ n next is e. count_kept k l scale boys n s next f end e) e
 
-  shared-some : Some (λ at t. shared_at t at k l longest scale boys)
+  shared-some : SomeBytes (λ at t. shared_at t at k l longest scale boys)
   unfolding shared_at
   shared-some = some-field (λ n next t. further_count_at t next k l scale boys n) 0 longest (omega arith) zero-le (count-some k l scale boys 0)
 
-  shared-broken : (s : List ℕ) (at r p : ℕ) → shared_at s at k l longest scale boys ≡ refused r p → Broken (λ t. shared_at t at k l longest scale boys) s at r p
+  shared-broken : (s : List ℕ) (at : ℕ) (r : Refusal) (p : ℕ) → shared_at s at k l longest scale boys ≡ refused r p → Broken (λ t. shared_at t at k l longest scale boys) s at r p
   unfolding shared_at
   shared-broken s at r p e =
       broken-onward (λ n next t. further_count_at t next k l scale boys n) s at 0 longest r p (omega arith) zero-le (count-some k l scale boys 0)
@@ -75,11 +78,11 @@ module _ (k : Kind) (l longest scale : ℕ) where
   unfolding boys_at2
   boys-kept s at f end e = kept-onward (λ boys next t. shared_at t next k l longest scale boys) s at 0 (most_boys k l) end f (λ boys next is e. shared_kept k l longest scale boys s next f end e) e
 
-  boys-some : Some (λ at t. boys_at2 t at k l longest scale)
+  boys-some : SomeBytes (λ at t. boys_at2 t at k l longest scale)
   unfolding boys_at2
   boys-some = some-field (λ boys next t. shared_at t next k l longest scale boys) 0 (most_boys k l) (omega arith) zero-le (shared-some k l longest scale 0)
 
-  boys-broken : (s : List ℕ) (at r p : ℕ) → boys_at2 s at k l longest scale ≡ refused r p → Broken (λ t. boys_at2 t at k l longest scale) s at r p
+  boys-broken : (s : List ℕ) (at : ℕ) (r : Refusal) (p : ℕ) → boys_at2 s at k l longest scale ≡ refused r p → Broken (λ t. boys_at2 t at k l longest scale) s at r p
   unfolding boys_at2
   boys-broken s at r p e =
       broken-onward (λ boys next t. shared_at t next k l longest scale boys) s at 0 (most_boys k l) r p (omega arith) zero-le (shared-some k l longest scale 0)
@@ -90,7 +93,7 @@ module _ (k : Kind) (l longest : ℕ) where
   unfolding front_at
   front_kept s at f end e = kept-onward (λ scale next t. boys_at2 t next k l longest scale) s at 1 most_scale end f (λ scale next is e. boys-kept k l longest scale s next f end e) e
 
-  front-broken : (s : List ℕ) (at r p : ℕ) → front_at s at k l longest ≡ refused r p → Broken (λ t. front_at t at k l longest) s at r p
+  front-broken : (s : List ℕ) (at : ℕ) (r : Refusal) (p : ℕ) → front_at s at k l longest ≡ refused r p → Broken (λ t. front_at t at k l longest) s at r p
   unfolding front_at
   front-broken s at r p e =
       broken-onward (λ scale next t. boys_at2 t next k l longest scale) s at 1 most_scale r p (omega arith) (omega arith) (boys-some k l longest 1)
@@ -124,21 +127,21 @@ other-parts (q ∷ qs) = by (eqb q 0) refl
 module _ (table : ℕ) (follow : List ℕ) where
   -- what follows a first further prefactor, with the place of its refusal
   abbrev then : ℕ → ℕ → ℕ → ℕ → List ℕ → Reading (List ℕ)
-  then wrong count p next t = cond (goes_on follow p) (refused 7 wrong) (before (p ∷ []) (prefactors_at t next count table))
+  then wrong count p next t = cond (goes_on follow p) (refused BadRoll wrong) (before (p ∷ []) (prefactors_at t next count table))
 
   further-kept : (count : ℕ) (s : List ℕ) (at : ℕ) (ps : List ℕ) (end : ℕ) → further_at s at count table follow ≡ got ps end → Kept (λ t. further_at t at count table follow) s at end
   unfolding further_at
   further-kept zero s at ps end e = kept-got [] ps s at end e
   further-kept (suc count) s at ps end e = kept-onward (then at count) s at 0 (table - 1) end ps (λ p next is e. by p next (goes_on follow p) e) e
     where
-      by : (p next : ℕ) (b : Bool) → cond b (refused 7 at) (before (p ∷ []) (prefactors_at s next count table)) ≡ got ps end → Kept (λ t. cond b (refused 7 at) (before (p ∷ []) (prefactors_at t next count table))) s next end
+      by : (p next : ℕ) (b : Bool) → cond b (refused BadRoll at) (before (p ∷ []) (prefactors_at s next count table)) ≡ got ps end → Kept (λ t. cond b (refused BadRoll at) (before (p ∷ []) (prefactors_at t next count table))) s next end
       by p next true e = absurd (clash (cc))
       by p next false e =
           kept-made (λ qs. (p ∷ []) ++ qs) (λ t. prefactors_at t next count table) s next end
           (let m = made_got (λ qs. (p ∷ []) ++ qs) (prefactors_at s next count table) ps end e in prefactors-kept count table s next m.0 end m.1)
 
   module _ (two : 2 ≤ table) (places : table ≤ table_places) where
-    then_some : (wrong count : ℕ) → Some (then wrong count (other follow))
+    then_some : (wrong count : ℕ) → SomeBytes (then wrong count (other follow))
     then_some wrong count =
         let c = prefactors-some count table in
         record {
@@ -147,10 +150,10 @@ module _ (table : ℕ) (follow : List ℕ) where
           reads = λ t rest at is. let m = c.reads t rest at is in (m.0, rw (other-parts follow) (ap (before (other follow ∷ [])) m.1), m.2);
         }
 
-    first_some : (wrong count : ℕ) → Some (λ at t. onward (within_at t at 0 (table - 1)) (λ p next. then wrong count p next t))
+    first_some : (wrong count : ℕ) → SomeBytes (λ at t. onward (within_at t at 0 (table - 1)) (λ p next. then wrong count p next t))
     first_some wrong count = let small = other-small follow in some_number (then wrong count) 0 (table - 1) (other follow) (omega arith) zero-le (omega arith) (then_some wrong count)
 
-    further-some : (count : ℕ) → Some (λ at t. further_at t at count table follow)
+    further-some : (count : ℕ) → SomeBytes (λ at t. further_at t at count table follow)
     unfolding further_at
     further-some zero = some-got []
     further-some (suc count) =
@@ -165,7 +168,7 @@ module _ (table : ℕ) (follow : List ℕ) where
               (m.0, rw r.1 (rw (other-parts follow) (ap (before (other follow ∷ [])) m.1)), m.2);
         }
 
-    further-broken : (count : ℕ) (s : List ℕ) (at r p : ℕ) → further_at s at count table follow ≡ refused r p → Broken (λ t. further_at t at count table follow) s at r p
+    further-broken : (count : ℕ) (s : List ℕ) (at : ℕ) (r : Refusal) (p : ℕ) → further_at s at count table follow ≡ refused r p → Broken (λ t. further_at t at count table follow) s at r p
     unfolding further_at within_at
     further-broken zero s at r p e = absurd (clash (cc))
     further-broken (suc count) s at r p e = by (within_at s at 0 (table - 1)) refl e
@@ -173,10 +176,10 @@ module _ (table : ℕ) (follow : List ℕ) where
         X : List ℕ → Reading (List ℕ)
         X t = onward (within_at t at 0 (table - 1)) (λ q next. then at count q next t)
 
-        on : (q next : ℕ) → within_at s at 0 (table - 1) ≡ field.Is q next → (b : Bool) → goes_on follow q ≡ b → cond b (refused 7 at) (before (q ∷ []) (prefactors_at s next count table)) ≡ refused r p → Broken X s at r p
+        on : (q next : ℕ) → within_at s at 0 (table - 1) ≡ field.Is q next → (b : Bool) → goes_on follow q ≡ b → cond b (refused BadRoll at) (before (q ∷ []) (prefactors_at s next count table)) ≡ refused r p → Broken X s at r p
         on q next is true goes e =
             let there : at ≡ p = cc in
-            let number : 7 ≡ r = cc in
+            let number : BadRoll ≡ r = cc in
             let some = first_some at count in
             rw (← there, ← number)
             (record {
@@ -190,7 +193,7 @@ module _ (table : ℕ) (follow : List ℕ) where
         on q next is false goes e =
             broken-then (then at count) s at 0 (table - 1) q next r p is (off (goes_on follow q) goes)
           where
-            off : (b : Bool) → b ≡ false → Broken (λ t. cond b (refused 7 at) (before (q ∷ []) (prefactors_at t next count table))) s next r p
+            off : (b : Bool) → b ≡ false → Broken (λ t. cond b (refused BadRoll at) (before (q ∷ []) (prefactors_at t next count table))) s next r p
             off true f = absurd (clash (cc))
             off false f =
                 broken-made (λ qs. (q ∷ []) ++ qs) (λ t. prefactors_at t next count table) s next r p
@@ -198,9 +201,9 @@ module _ (table : ℕ) (follow : List ℕ) where
 
         by : (x : Field) → within_at s at 0 (table - 1) ≡ x → onward x (λ q next. then at count q next s) ≡ refused r p → Broken X s at r p
         by (field.Is q next) is e = on q next is (goes_on follow q) refl e
-        by (field.Refused n o) is e =
-            let number : n ≡ r = cc in
-            let there : o ≡ p = cc in
+        by (Err why) is e =
+            let number : why.refusal ≡ r = cc in
+            let there : why.place ≡ p = cc in
             broken-number (then at count) s at 0 (table - 1) r p (rw (number, there) at is) (first_some at count)
 
 two-entries : (k : Kind) → 2 ≤ table_of k
@@ -226,13 +229,13 @@ module _ (k : Kind) (l : ℕ) (earlier : List ℕ) where
       let got-all = made_got (term_of f) (further_at s m f.further (table_of k) follow) u end e in
       kept-made (term_of f) (λ t. further_at t m f.further (table_of k) follow) s m end (further-kept (table_of k) follow f.further s m got-all.0 end got-all.1)
 
-  rest_some : (f : Front) → Some (rest_at f)
+  rest_some : (f : Front) → SomeBytes (rest_at f)
   unfolding rest_at
   rest_some f =
       let follow = drop f.shared earlier in
       some-made (term_of f) (λ at t. further_at t at f.further (table_of k) follow) (further-some (table_of k) follow (two-entries k) (table-within k) f.further)
 
-  rest-broken : (f : Front) (s : List ℕ) (m r p : ℕ) → rest_at f m s ≡ refused r p → Broken (rest_at f m) s m r p
+  rest-broken : (f : Front) (s : List ℕ) (m : ℕ) (r : Refusal) (p : ℕ) → rest_at f m s ≡ refused r p → Broken (rest_at f m) s m r p
   unfolding rest_at
   rest-broken f s m r p e =
       let follow = drop f.shared earlier in
@@ -246,7 +249,7 @@ module _ (k : Kind) (l : ℕ) (earlier : List ℕ) where
       kept_second (λ t. front_at t at k l (length earlier)) rest_at s at x.1 end x.0 x.2
       (front_kept k l (length earlier) s at x.0 x.1 x.2) (rest-kept x.0 s x.1 u end x.3)
 
-  term-broken2 : (s : List ℕ) (at r p : ℕ) → term_after s at k l earlier ≡ refused r p → Broken (λ t. term_after t at k l earlier) s at r p
+  term-broken2 : (s : List ℕ) (at : ℕ) (r : Refusal) (p : ℕ) → term_after s at k l earlier ≡ refused r p → Broken (λ t. term_after t at k l earlier) s at r p
   unfolding term_after rest_at term_of
   term-broken2 s at r p e = by (front_at s at k l (length earlier)) refl e
     where
@@ -264,7 +267,7 @@ pub header-kept2 : (s : List ℕ) (h : Header) (end : ℕ) → header_at2 s ≡ 
 unfolding header_at2
 header-kept2 s h end e = kept-onward (λ n next t. of_kind t next (kind_of (n - form_two))) s 0 form_two (form_two + number_of Coulomb) end h (λ n next is e. kind-kept (kind_of (n - form_two)) s next h end e) e
 
-pub header-broken2 : (s : List ℕ) (r p : ℕ) → header_at2 s ≡ refused r p → Broken header_at2 s 0 r p
+pub header-broken2 : (s : List ℕ) (r : Refusal) (p : ℕ) → header_at2 s ≡ refused r p → Broken header_at2 s 0 r p
 unfolding header_at2
 header-broken2 s r p e =
     broken-onward (λ n next t. of_kind t next (kind_of (n - form_two))) s 0 form_two (form_two + number_of Coulomb) r p (omega arith) (omega arith) (kind-some Overlap)
@@ -285,15 +288,15 @@ plain_fits k l (suc n) = (record { scale-least = omega arith; scale = omega arit
 plain-terms : (k : Kind) (l n : ℕ) (earlier t : List ℕ) (at : ℕ) → l ≤ most_l k → at ≤ length t → drop at t ≡ terms_bytes2 earlier (replicate n plain) → terms_after t at n k l earlier ≡ got (replicate n plain) (length t)
 plain-terms k l n earlier t at small inside is = rw (length-replicate n plain) at (terms-back2 k l earlier (replicate n plain) t at small inside (plain_fits k l n) is)
 
-terms-end2 : (left : ℕ) (k : Kind) (l : ℕ) (earlier s : List ℕ) (at r p : ℕ) → l ≤ most_l k → terms_after s at left k l earlier ≡ refused r p → Cut (λ t. terms_after t at left k l earlier) s at r p ⊎ Long (λ t. terms_after t at left k l earlier) s at r p
+terms-end2 : (left : ℕ) (k : Kind) (l : ℕ) (earlier s : List ℕ) (at : ℕ) (r : Refusal) (p : ℕ) → l ≤ most_l k → terms_after s at left k l earlier ≡ refused r p → Cut (λ t. terms_after t at left k l earlier) s at r p ⊎ Long (λ t. terms_after t at left k l earlier) s at r p
 unfolding terms_after
 terms-end2 zero k l earlier s at r p small e = by (eqb at (length s)) refl e
   where
-    by : (b : Bool) → eqb at (length s) ≡ b → cond {A = Reading (List Term)} b (got [] at) (refused 7 at) ≡ refused r p → Cut (λ t. terms_after t at zero k l earlier) s at r p ⊎ Long (λ t. terms_after t at zero k l earlier) s at r p
+    by : (b : Bool) → eqb at (length s) ≡ b → cond {A = Reading (List Term)} b (got [] at) (refused BadRoll at) ≡ refused r p → Cut (λ t. terms_after t at zero k l earlier) s at r p ⊎ Long (λ t. terms_after t at zero k l earlier) s at r p
     by true t e = absurd (clash (cc))
     by false f e =
         let there : at ≡ p = cc in
-        let number : 7 ≡ r = cc in
+        let number : BadRoll ≡ r = cc in
         rw (← there, ← number)
         (inr (record {
           leads = here;
@@ -332,7 +335,7 @@ terms-end2 (suc left) k l earlier s at r p small e = by (term_after s at k l ear
 
 -- ---- the roll
 
-pub roll-end2 : (s : List ℕ) (r p : ℕ) → roll_at2 s ≡ refused r p → Cut roll_at2 s 0 r p ⊎ Long roll_at2 s 0 r p
+pub roll-end2 : (s : List ℕ) (r : Refusal) (p : ℕ) → roll_at2 s ≡ refused r p → Cut roll_at2 s 0 r p ⊎ Long roll_at2 s 0 r p
 unfolding roll_at2
 roll-end2 s r p e = by (header_at2 s) refl e
   where
@@ -365,7 +368,7 @@ roll-end2 s r p e = by (header_at2 s) refl e
         })
 
 -- the place of a refusal lies within the roll
-pub place-inside2 : (s : List ℕ) (r p : ℕ) → roll_at2 s ≡ refused r p → p ≤ length s
+pub place-inside2 : (s : List ℕ) (r : Refusal) (p : ℕ) → roll_at2 s ≡ refused r p → p ≤ length s
 place-inside2 s r p e = by (roll-end2 s r p e)
   where
     by : Cut roll_at2 s 0 r p ⊎ Long roll_at2 s 0 r p → p ≤ length s

@@ -17,10 +17,12 @@ use Rattle.kind.specs.declared.Kind.{Kind}
 use Rattle.kind.proofs.Within.{l-within}
 use Rattle.laws.proofs.Lists.{sets-append}
 use Rattle.number.proofs.Reading.{read_one}
-use Rattle.number.specs.declared.Number.TheVariants as number
-use Rattle.roll.specs.declared.field.Field.{Field}
-use Rattle.roll.specs.declared.field.Field.TheVariants as field
+use Rattle.number.specs.Read as number
+use Rattle.roll.specs.Field.{Field}
+use Rattle.roll.specs.Field as field
 use Rattle.roll.specs.Reading.{got, within_at, prefactors_at, most_boys}
+use Rattle.std.specs.Prelude.{Result, Ok}
+use Rattle.kind.specs.declared.refusals.Fault.{Fault}
 use Rattle.roll.specs.inner.Again.{between}
 use Rattle.roll.specs.inner.Over.{SmallBytes}
 use Rattle.roll.proofs.Back.{most-boys}
@@ -42,18 +44,12 @@ short-is s at boys longest most rest b shared further here left room x low y les
     let sum : further ≤ most - shared = leb-true further (most - shared) total in
     record { inside = omega arith; boys = omega arith; shared = omega arith; total = omega arith }
 
-pub short-made : (s : List ℕ) (scale at b shared further : ℕ) → b ≡ get_or s at 0 → shared ≡ get_or s (at + 1) 0 → further ≡ get_or s (at + 2) 0 → ◌≡◌ {A = ReadFront} (record { found = field.Is further (at + 3); scale = scale; boys = b; shared = shared }) (short_front s scale at)
+pub short-made : (s : List ℕ) (scale at b shared further : ℕ) → b ≡ get_or s at 0 → shared ≡ get_or s (at + 1) 0 → further ≡ get_or s (at + 2) 0 → ◌≡◌ {A = ReadFront} (record { scale = scale; boys = b; shared = shared; further = further; next = at + 3 }) (short_front s scale at)
 short-made s scale at b shared further p q r = rw (p, q, r)
-
-pub short-inside : (s : List ℕ) (at boys longest most : ℕ) (t : Bool) → (t ≡ true → ShortFront s at boys longest most) → t ≡ true → at + 3 ≤ length s
-short-inside s at boys longest most t so on = (so on).inside
 
 -- a byte within a limit below 128
 byte-is : (s : List ℕ) (at high : ℕ) → at < length s → high < 128 → get_or s at 0 ≤ high → within_at s at 0 high ≡ field.Is (get_or s at 0) (at + 1)
 byte-is s at high here small below = sym (within-is s at 0 high (number.Is (get_or s at 0) (at + 1)) (get_or s at 0) (at + 1) (read_one s at (get_or s at 0) here refl (omega arith)) refl zero-le below)
-
-pub most-fits : (k : Kind) (l longest most : ℕ) → AfterMay k l longest → most ≡ most_prefactors k l → Fits w32 most
-most-fits k l longest most may is = omega (arith, few-prefactors k l may.small)
 
 module _ (k : Kind) (l longest : ℕ) (s : List ℕ) (at : ℕ) (may : AfterMay k l longest) (boys most : ℕ) (boys-is : boys ≡ most_boys k l) (most-is : most ≡ most_prefactors k l) where
   few : most_prefactors k l ≤ most_l·any
@@ -79,8 +75,8 @@ module _ (k : Kind) (l longest : ℕ) (s : List ℕ) (at : ℕ) (may : AfterMay 
       let further-read : within_at s (next + 2) 0 (most_prefactors k l - n) ≡ field.Is (get_or s (next + 2) 0) (next + 2 + 1) = byte-is s (next + 2) (most_prefactors k l - n) (omega arith) (omega arith) (omega arith) in
       rw (scale-read, boys-read, shared-read, two, further-read, three)
 
-  pub numbers-short : (x : Field) (scale next : ℕ) (y : ReadFront) (t : Bool) → x ≡ within_at s at 1 most_scale → x ≡ field.Is scale next → y ≡ short_front s scale next → (t ≡ true → ShortFront s next boys longest most) → t ≡ true → y ≡ held_front (front_at s at k l longest)
-  numbers-short x scale next y t is e answer so on = answer ∙ sym (ap held_front (front-is x scale next is e (so on)))
+  pub numbers-short : (x : Field) (scale next : ℕ) (y : ReadFront) (t : Bool) → x ≡ within_at s at 1 most_scale → x ≡ field.Is scale next → y ≡ short_front s scale next → (t ≡ true → ShortFront s next boys longest most) → t ≡ true → Ok y ≡ held_front (front_at s at k l longest)
+  numbers-short x scale next y t is e answer so on = ap (λ (y : ReadFront). Ok y) answer ∙ sym (ap held_front (front-is x scale next is e (so on)))
 
 -- ---- the further prefactors
 
@@ -99,9 +95,6 @@ pub record Placed (s : List ℕ) (at : ℕ) (before : List ℕ) (from count : �
   pub stored : values ≡ sets before from (take i (between s at (at + count)))
 
 module _ (s : List ℕ) (at : ℕ) (before : List ℕ) (from count : ℕ) where
-  pub placed_first : Placed s at before from count before 0
-  placed_first = record { inside = zero-le; stored = refl }
-
   module _ (room : (at + count ≤ length s) × (from + count ≤ most_l·any)) where
     part-long : length (between s at (at + count)) ≡ count
     unfolding between
@@ -127,9 +120,6 @@ module _ (s : List ℕ) (at : ℕ) (before : List ℕ) (from count : ℕ) where
                 ∙ ap (sets before from) (sym (take-suc bytes i 0 (omega arith)))
                 ∙ ap (λ (n : ℕ). sets before from (take n bytes)) (sym (add-one i));
           }
-
-      pub placed-never : (last b : ℕ) → SmallBytes s at (at + count) last → i < count → b ≡ get_or s (at + i) 0 → last < b → values ≡ sets before from (between s at (at + count))
-      placed-never last b small less byte over = absurd (let most = small.each (at + i) (omega arith) (omega arith) in omega arith)
 
       pub placed-done : count ≤ i → values ≡ sets before from (between s at (at + count))
       placed-done done = p.stored ∙ ap (sets before from) (take_all i (between s at (at + count)) (omega (arith, part-long)))
@@ -169,24 +159,21 @@ module _ (s : List ℕ) (at : ℕ) (values : List ℕ) (count from left table : 
 pub short-bytes : (s : List ℕ) (at left last : ℕ) (t : Bool) → (t ≡ true → SmallBytes s at (at + left) last) → t ≡ true → SmallBytes s at (at + left) last
 short-bytes s at left last t so on = so on
 
-pub short-in : (s : List ℕ) (at : ℕ) (values : List ℕ) (count from left table : ℕ) (r : Bool) (after : List ℕ) → ShortTold s at values count from left table r after → r ≡ true → at + left ≤ length s
-short-in s at values count from left table r after told on = told.inside on
-
 -- ---- a term
 
-module _ (k : Kind) (l : ℕ) (s : List ℕ) (at : ℕ) (values : List ℕ) (count : ℕ) (x : ReadFront) (may : AfterMay k l count) (is : x ≡ held_front (front_at s at k l count)) (long : length values ≡ most_l·any) (left next table : ℕ) (found : x.found ≡ field.Is left next) (size : table ≡ table_of k) where
-  pub next-may : ShortMay values count x.shared left table
-  next-may = record { more = after-may k l s at values count x may is left next table found size; few = after-few k l count may; long = long }
+module _ (k : Kind) (l : ℕ) (s : List ℕ) (at : ℕ) (values : List ℕ) (count : ℕ) (x : Result ReadFront Fault) (may : AfterMay k l count) (is : x ≡ held_front (front_at s at k l count)) (long : length values ≡ most_l·any) (read : ReadFront) (table : ℕ) (ok : x ≡ Ok read) (size : table ≡ table_of k) where
+  pub next-may : ShortMay values count read.shared read.further table
+  next-may = record { more = after-may k l s at values count x may is read table ok size; few = after-few k l count may; long = long }
 
-  pub next_fits : Fits w32 (x.shared + left)
+  pub next_fits : Fits w32 (read.shared + read.further)
   next_fits = let room = next-may.more.room in omega arith
 
-  module _ (t : Bool) (after : List ℕ) (told : ShortTold s next values count x.shared left table t after) where
-    pub next-placed : t ≡ true → AfterTold values (term_after s at k l (take count values)) (record { found = field.Is (x.shared + left) (next + left); scale = x.scale; boys = x.boys }) after
-    next-placed on = after_read k l s at values count x may is long left next table (field.Is (x.shared + left) (next + left)) after (record { found = field.Is (x.shared + left) (next + left); scale = x.scale; boys = x.boys }) found size (told.placed on) refl
+  module _ (t : Bool) (after : List ℕ) (told : ShortTold s read.next values count read.shared read.further table t after) where
+    pub next-placed : t ≡ true → AfterTold values (term_after s at k l (take count values)) (Ok (record { scale = read.scale; boys = read.boys; count = read.shared + read.further; end = read.next + read.further })) after
+    next-placed on = after_read k l s at values count x may is long read table (field.Is (read.shared + read.further) (read.next + read.further)) after (Ok (record { scale = read.scale; boys = read.boys; count = read.shared + read.further; end = read.next + read.further })) ok size (told.placed on) refl
 
     pub next-long : t ≡ false → length after ≡ most_l·any
     next-long off = ap length (told.kept off) ∙ long
 
-    pub next-else : (y : ReadAfter) (last : List ℕ) → t ≡ false → AfterTold after (term_after s at k l (take count after)) y last → AfterTold values (term_after s at k l (take count values)) y last
+    pub next-else : (y : Result ReadAfter Fault) (last : List ℕ) → t ≡ false → AfterTold after (term_after s at k l (take count after)) y last → AfterTold values (term_after s at k l (take count values)) y last
     next-else y last off answer = rw (told.kept off) at answer

@@ -8,12 +8,12 @@ use native.Mathlib.Nat.{not-suc-le-zero, min-le_left, min-le_right, min-eq_left}
 use native.Mathlib.Numerals.{add-one}
 use borrow.Author.Tests.{eq-eqb, ne_eqb, le-leb, lt-leb, leb-true, ltb-true}
 use lib.Dec.{eqb, leb}
-use lib.ListN.{length, get_or, take, drop, length-append, length-drop, drop_of_length-le}
+use lib.ListN.{length, get_or, take, drop, length-append, length-drop}
 use lib.Seq.{sets, length-sets, drop-cons, drop-drop, get_or-take, get_or-drop, length-take-le}
 use Rattle.kind.specs.Limits.{most_l·any}
 use Rattle.laws.proofs.Lists.{sets-append, drop-take}
-use Rattle.number.specs.declared.Number.{Number}
-use Rattle.number.specs.declared.Number.TheVariants as number
+use Rattle.number.specs.Read.{Number}
+use Rattle.number.specs.Read as number
 use Rattle.number.specs.Numbers.{one_byte, bytes_of, length_of, read_at}
 use Rattle.number.proofs.Reading.{read_one, read-inside}
 use Rattle.number.proofs.Writing.{length-few}
@@ -23,6 +23,7 @@ use Rattle.roll.proofs.AgainLaws.{seen-is, head-made, head-inside}
 use Rattle.form2.specs.Bytes.{shared, further_of}
 use Rattle.form2.specs.inner.Puts.{Put, two_bytes, plain2, plain_length2, ps_at, head_bytes2, again_bytes2, SmallAgain, AgainMay, ShortRest, short_head, PartsMay}
 use Rattle.form2.proofs.Sharing.{shares}
+use Rattle.std.specs.Prelude.{Err}
 
 -- ---- room
 
@@ -49,21 +50,9 @@ part-next s a b i order inside less =
     let same : get_or (take (b - a) (drop a s)) i 0 ≡ get_or s (a + i) 0 = get_or-take (b - a) (drop a s) i 0 less ∙ get_or-drop a s i 0 in
     drop-cons (take (b - a) (drop a s)) i 0 room ∙ ap₂ (λ (x n : ℕ). x ∷ drop n (take (b - a) (drop a s))) same (sym (add-one i))
 
-part_none : (s : List ℕ) (a b i : ℕ) → a ≤ b → b ≤ length s → b - a ≤ i → drop i (between s a b) ≡ []
-part_none s a b i order inside past = drop_of_length-le (between s a b) {i = i} (omega (arith, part-long s a b order inside))
-
 shared-heads : (p q : ℕ) (ps qs : List ℕ) (b : Bool) → eqb p q ≡ b → shared (p ∷ ps) (q ∷ qs) ≡ cond b (suc (shared ps qs)) 0
 unfolding shared
 shared-heads p q ps qs b e = rw e
-
-shared-left : (qs : List ℕ) → shared [] qs ≡ 0
-unfolding shared
-shared-left qs = refl
-
-shared-right : (ps : List ℕ) → shared ps [] ≡ 0
-unfolding shared
-shared-right [] = refl
-shared-right (p ∷ ps) = refl
 
 pub record Beside (s : List ℕ) (a b c d most i : ℕ) : Type 0 where
   pub inside : i ≤ most
@@ -88,20 +77,12 @@ module _ (s : List ℕ) (a b c d most i : ℕ) (may : PartsMay s a b c d) (limit
       let one = two-heads less ∙ shared-heads (get_or s (a + i) 0) (get_or s (c + i) 0) (drop (i + 1) (between s a b)) (drop (i + 1) (between s c d)) false (ne_eqb (get_or s (a + i) 0) (get_or s (c + i) 0) differ) in
       omega (arith, beside.same, one)
 
-  pub beside-done : most ≤ i → i ≡ shared (between s a b) (between s c d)
-  beside-done done = by (leb (b - a) (d - c)) refl
-    where
-      by : (v : Bool) → leb (b - a) (d - c) ≡ v → i ≡ shared (between s a b) (between s c d)
-      by true e =
-          let less = borrow.Author.Tests.leb-true (b - a) (d - c) e in
-          let none : drop i (between s a b) ≡ [] = part_none s a b i may.one may.inside (omega arith) in
-          let nothing : shared (drop i (between s a b)) (drop i (between s c d)) ≡ 0 = ap (λ (l : List ℕ). shared l (drop i (between s c d))) none ∙ shared-left (drop i (between s c d)) in
-          omega (arith, beside.same, nothing)
-      by false e =
-          let more = borrow.Author.Tests.leb-false (b - a) (d - c) e in
-          let none : drop i (between s c d) ≡ [] = part_none s c d i may.two may.inside_too (omega arith) in
-          let nothing : shared (drop i (between s a b)) (drop i (between s c d)) ≡ 0 = ap (λ (l : List ℕ). shared (drop i (between s a b)) l) none ∙ shared-right (drop i (between s a b)) in
-          omega (arith, beside.same, nothing)
+  pub beside-done : most ≤ i → most ≡ shared (between s a b) (between s c d)
+  beside-done done =
+      let both = shares (between s a b) (between s c d) in
+      let left = both.left in
+      let right = both.right in
+      omega (arith, beside.same, part-long s a b may.one may.inside, part-long s c d may.two may.inside_too)
 
 -- ---- a term's length
 
@@ -131,9 +112,7 @@ seen-inside s at inside = by (read_at s at) refl
   where
     by : (n : Number) → read_at s at ≡ n → (seen_of at n).next ≤ length s
     by (number.Is n next) e = (read-inside s at n next e).1
-    by number.Ended e = inside
-    by number.NotShortest e = inside
-    by number.TooLarge e = inside
+    by (Err why) e = inside
 
 pub head-order : (s : List ℕ) (place : ℕ) → place ≤ length s → (head_at s place).from ≤ (head_at s place).end
 unfolding head_at
@@ -156,9 +135,6 @@ short-is s at rest b count q t here left room y b-test b-small z count-test coun
       count = ap one_byte (sym z) ∙ sym count-test ∙ count_small;
       inside = omega arith;
     }
-
-pub short-given : (s : List ℕ) (at : ℕ) (t : Bool) → (t ≡ true → ShortRest s at) → t ≡ true → ShortRest s at
-short-given s at t is e = is e
 
 pub short-made : (s : List ℕ) (scale at b count : ℕ) → b ≡ get_or s at 0 → count ≡ get_or s (at + 1) 0 → ◌≡◌ {A = Head} (record { scale = scale; boys = b; from = at + 2; end = at + 2 + count }) (short_head s scale at)
 short-made s scale at b count p q = rw (p, q)
@@ -255,118 +231,127 @@ module _ (s : List ℕ) (terms from end place left : ℕ) (h : Head) (g : Again 
 
 -- ---- measuring
 
-pub record Sizing2 (s : List ℕ) (at terms from end place left n : ℕ) : Type 0 where
-  pub again : Again s terms from end place left
-  pub bound : n ≤ 64 * (terms - left)
-  pub whole : n + length (again_bytes2 s (between s from end) place left) ≡ length (again_bytes2 s [] at terms)
+pub record Sizing2 (s : List ℕ) (at terms from end place done n : ℕ) : Type 0 where
+  pub within : done ≤ terms
+  pub again : Again s terms from end place (terms - done)
+  pub bound : n ≤ 64 * done
+  pub whole : n + length (again_bytes2 s (between s from end) place (terms - done)) ≡ length (again_bytes2 s [] at terms)
 
-pub sizing2-parts : (s : List ℕ) (at terms from end place left size : ℕ) (h : Head) → Sizing2 s at terms from end place left size → 0 < left → h ≡ head_at s place → PartsMay s from end h.from h.end
-sizing2-parts s at terms from end place left size h z some is = again-parts s terms from end place left h z.again some is
+pub sizing2-parts : (s : List ℕ) (at terms from end place done size : ℕ) (h : Head) → Sizing2 s at terms from end place done size → done < terms → h ≡ head_at s place → PartsMay s from end h.from h.end
+sizing2-parts s at terms from end place done size h z some is = again-parts s terms from end place (terms - done) h z.again (omega arith) is
 
 no_part : (s : List ℕ) (at : ℕ) → between s at at ≡ []
 unfolding between
 no_part s at = let none : at - at ≡ 0 = omega arith in rw none
 
-pub sizing2-first : (s : List ℕ) (at terms : ℕ) → AgainMay s at terms → Sizing2 s at terms at at at terms 0
+pub sizing2-first : (s : List ℕ) (at terms : ℕ) → AgainMay s at terms → Sizing2 s at terms at at at 0 0
 sizing2-first s at terms may =
-    record { again = again-first s at terms may; bound = zero-le; whole = let none = ap (λ (l : List ℕ). length (again_bytes2 s l at terms)) (no_part s at) in omega arith }
+    let all : terms - 0 ≡ terms = omega arith in
+    record { within = zero-le; again = rw all (again-first s at terms may); bound = zero-le; whole = rw all (let none = ap (λ (l : List ℕ). length (again_bytes2 s l at terms)) (no_part s at) in omega arith) }
 
-module _ (s : List ℕ) (at terms from end place left size : ℕ) (h : Head) (n : ℕ) (z : Sizing2 s at terms from end place left size) (some : 0 < left) (is : h ≡ head_at s place) (alike : n ≡ shared (between s from end) (between s h.from h.end)) where
+module _ (s : List ℕ) (at terms from end place done size : ℕ) (h : Head) (n : ℕ) (z : Sizing2 s at terms from end place done size) (some : done < terms) (is : h ≡ head_at s place) (alike : n ≡ shared (between s from end) (between s h.from h.end)) where
   pub size-shared : h.from + n ≤ h.end
-  size-shared = again-shared s terms from end place left h z.again some is n alike
+  size-shared = again-shared s terms from end place (terms - done) h z.again (omega arith) is n alike
 
   pub size_few : h.end - h.from ≤ most_l·any
-  size_few = again-few s terms from end place left h z.again some is n alike
+  size_few = again-few s terms from end place (terms - done) h z.again (omega arith) is n alike
 
   module _ (v : ℕ) (measured : v ≡ plain_length2 h.scale h.boys n (h.end - h.from - n)) where
     pub size_fits : size + v ≤ 64 * terms
-    size_fits = let few = size_few in let inside = z.again.inside in omega (arith, z.bound, measured, length2-small h.scale h.boys n (h.end - h.from - n))
+    size_fits = let few = size_few in omega (arith, z.bound, measured, length2-small h.scale h.boys n (h.end - h.from - n))
 
-    pub sizing2-more : Sizing2 s at terms h.from h.end h.end (left - 1) (size + v)
+    pub sizing2-more : Sizing2 s at terms h.from h.end h.end (done + 1) (size + v)
     sizing2-more =
         let g = z.again in
         let few = size_few in
-        let inside = g.inside in
+        let less : terms - done - 1 ≡ terms - (done + 1) = omega arith in
         let fs = take (h.end - (h.from + n)) (drop (h.from + n) s) in
-        let long : length fs ≡ h.end - h.from - n = further-long s terms from end place left h g some is n alike in
-        let all = ap length (bytes-are s terms from end place left h g some is n alike) in
-        let both = length-append (plain2 h.scale h.boys n fs) (again_bytes2 s (between s h.from h.end) h.end (left - 1)) in
+        let long : length fs ≡ h.end - h.from - n = further-long s terms from end place (terms - done) h g (omega arith) is n alike in
+        let all = ap length (rw less at (bytes-are s terms from end place (terms - done) h g (omega arith) is n alike)) in
+        let both = length-append (plain2 h.scale h.boys n fs) (again_bytes2 s (between s h.from h.end) h.end (terms - (done + 1))) in
         let one : length (plain2 h.scale h.boys n fs) ≡ v = plain2-length h.scale h.boys n fs ∙ ap (plain_length2 h.scale h.boys n) long ∙ sym measured in
         record {
-          again = again-next s terms from end place left h g some is;
+          within = omega arith;
+          again = rw less at (again-next s terms from end place (terms - done) h g (omega arith) is);
           bound = omega (arith, z.bound, measured, length2-small h.scale h.boys n (h.end - h.from - n));
           whole = omega (arith, z.whole, all, both, one);
         }
 
-no_bytes : (s earlier : List ℕ) (place left : ℕ) → left ≤ 0 → again_bytes2 s earlier place left ≡ []
+no_bytes : (s earlier : List ℕ) (place left : ℕ) → left ≡ 0 → again_bytes2 s earlier place left ≡ []
 unfolding again_bytes2
-no_bytes s earlier place left none = let zero_left : left ≡ 0 = omega arith in rw zero_left
+no_bytes s earlier place left none = rw none
 
-pub sizing2-done : (s : List ℕ) (at terms from end place left size : ℕ) → Sizing2 s at terms from end place left size → left ≤ 0 → size ≡ length (again_bytes2 s [] at terms)
-sizing2-done s at terms from end place left size z none =
-    let nothing = ap length (no_bytes s (between s from end) place left none) in
+pub sizing2-done : (s : List ℕ) (at terms from end place done size : ℕ) → Sizing2 s at terms from end place done size → terms ≤ done → size ≡ length (again_bytes2 s [] at terms)
+sizing2-done s at terms from end place done size z all =
+    let nothing = ap length (no_bytes s (between s from end) place (terms - done) (omega arith)) in
     omega (arith, z.whole, nothing)
 
 -- ---- writing
 
-pub record Writing2 (before : List ℕ) (start : ℕ) (s : List ℕ) (at terms : ℕ) (out : List ℕ) (from end place left to : ℕ) : Type 0 where
-  pub again : Again s terms from end place left
+pub record Writing2 (before : List ℕ) (start : ℕ) (s : List ℕ) (at terms : ℕ) (out : List ℕ) (from end place went to : ℕ) : Type 0 where
+  pub within : went ≤ terms
+  pub again : Again s terms from end place (terms - went)
   pub done : List ℕ
   pub room : start + length (again_bytes2 s [] at terms) ≤ length before
   pub stored : out ≡ sets before start done
   pub next : to ≡ start + length done
-  pub whole : done ++ again_bytes2 s (between s from end) place left ≡ again_bytes2 s [] at terms
+  pub whole : done ++ again_bytes2 s (between s from end) place (terms - went) ≡ again_bytes2 s [] at terms
 
-pub writing2-first : (out : List ℕ) (start : ℕ) (s : List ℕ) (at terms : ℕ) → AgainMay s at terms → start + length (again_bytes2 s [] at terms) ≤ length out → Writing2 out start s at terms out at at at terms start
+pub writing2-first : (out : List ℕ) (start : ℕ) (s : List ℕ) (at terms : ℕ) → AgainMay s at terms → start + length (again_bytes2 s [] at terms) ≤ length out → Writing2 out start s at terms out at at at 0 start
 writing2-first out start s at terms may room =
-    record { again = again-first s at terms may; done = []; room = room; stored = refl; next = omega arith; whole = ap (λ (l : List ℕ). again_bytes2 s l at terms) (no_part s at) }
+    let all : terms - 0 ≡ terms = omega arith in
+    record { within = zero-le; again = rw all (again-first s at terms may); done = []; room = room; stored = refl; next = omega arith; whole = rw all (ap (λ (l : List ℕ). again_bytes2 s l at terms) (no_part s at)) }
 
-pub writing2-parts : (before : List ℕ) (start : ℕ) (s : List ℕ) (at terms : ℕ) (out : List ℕ) (from end place left to : ℕ) (h : Head) → Writing2 before start s at terms out from end place left to → 0 < left → h ≡ head_at s place → PartsMay s from end h.from h.end
-writing2-parts before start s at terms out from end place left to h w some is = again-parts s terms from end place left h w.again some is
+pub writing2-parts : (before : List ℕ) (start : ℕ) (s : List ℕ) (at terms : ℕ) (out : List ℕ) (from end place went to : ℕ) (h : Head) → Writing2 before start s at terms out from end place went to → went < terms → h ≡ head_at s place → PartsMay s from end h.from h.end
+writing2-parts before start s at terms out from end place went to h w some is = again-parts s terms from end place (terms - went) h w.again (omega arith) is
 
-pub writing2-length : (before : List ℕ) (start : ℕ) (s : List ℕ) (at terms : ℕ) (out : List ℕ) (from end place left to : ℕ) → Writing2 before start s at terms out from end place left to → length out ≡ length before
-writing2-length before start s at terms out from end place left to w = ap length w.stored ∙ length-sets before start w.done
+pub writing2-length : (before : List ℕ) (start : ℕ) (s : List ℕ) (at terms : ℕ) (out : List ℕ) (from end place went to : ℕ) → Writing2 before start s at terms out from end place went to → length out ≡ length before
+writing2-length before start s at terms out from end place went to w = ap length w.stored ∙ length-sets before start w.done
 
-module _ (before : List ℕ) (start : ℕ) (s : List ℕ) (at terms : ℕ) (out : List ℕ) (from end place left to : ℕ) (h : Head) (n : ℕ) (w : Writing2 before start s at terms out from end place left to) (some : 0 < left) (is : h ≡ head_at s place) (alike : n ≡ shared (between s from end) (between s h.from h.end)) where
+module _ (before : List ℕ) (start : ℕ) (s : List ℕ) (at terms : ℕ) (out : List ℕ) (from end place went to : ℕ) (h : Head) (n : ℕ) (w : Writing2 before start s at terms out from end place went to) (some : went < terms) (is : h ≡ head_at s place) (alike : n ≡ shared (between s from end) (between s h.from h.end)) where
   pub write-shared : h.from + n ≤ h.end
-  write-shared = again-shared s terms from end place left h w.again some is n alike
+  write-shared = again-shared s terms from end place (terms - went) h w.again (omega arith) is n alike
 
   pub write-few : h.end - h.from ≤ most_l·any
-  write-few = again-few s terms from end place left h w.again some is n alike
+  write-few = again-few s terms from end place (terms - went) h w.again (omega arith) is n alike
 
   pub write-in : h.end ≤ length s
   write-in = head-inside s place h is
 
-  all : w.done ++ (plain2 h.scale h.boys n (take (h.end - (h.from + n)) (drop (h.from + n) s)) ++ again_bytes2 s (between s h.from h.end) h.end (left - 1)) ≡ again_bytes2 s [] at terms
-  all = ap (λ (l : List ℕ). w.done ++ l) (sym (bytes-are s terms from end place left h w.again some is n alike)) ∙ w.whole
+  all : w.done ++ (plain2 h.scale h.boys n (take (h.end - (h.from + n)) (drop (h.from + n) s)) ++ again_bytes2 s (between s h.from h.end) h.end (terms - (went + 1))) ≡ again_bytes2 s [] at terms
+  all =
+      let less : terms - went - 1 ≡ terms - (went + 1) = omega arith in
+      ap (λ (l : List ℕ). w.done ++ l) (sym (rw less at (bytes-are s terms from end place (terms - went) h w.again (omega arith) is n alike))) ∙ w.whole
 
   pub write-short : length (take (h.end - (h.from + n)) (drop (h.from + n) s)) ≤ most_l·any
-  write-short = let few = write-few in omega (arith, further-long s terms from end place left h w.again some is n alike)
+  write-short = let few = write-few in omega (arith, further-long s terms from end place (terms - went) h w.again (omega arith) is n alike)
 
   pub write-room : to + length (plain2 h.scale h.boys n (take (h.end - (h.from + n)) (drop (h.from + n) s))) ≤ length out
   write-room =
       let one = plain2 h.scale h.boys n (take (h.end - (h.from + n)) (drop (h.from + n) s)) in
-      let rest = again_bytes2 s (between s h.from h.end) h.end (left - 1) in
+      let rest = again_bytes2 s (between s h.from h.end) h.end (terms - (went + 1)) in
       let a = ap length all in
       let b = length-append w.done (one ++ rest) in
       let c = length-append one rest in
-      let long = writing2-length before start s at terms out from end place left to w in
+      let long = writing2-length before start s at terms out from end place went to w in
       omega (arith, w.room, w.next, a, b, c, long)
 
-  pub writing2-more : (r : ℕ) (after : List ℕ) → Put (plain2 h.scale h.boys n (take (h.end - (h.from + n)) (drop (h.from + n) s))) to out r after → Writing2 before start s at terms after h.from h.end h.end (left - 1) r
+  pub writing2-more : (r : ℕ) (after : List ℕ) → Put (plain2 h.scale h.boys n (take (h.end - (h.from + n)) (drop (h.from + n) s))) to out r after → Writing2 before start s at terms after h.from h.end h.end (went + 1) r
   writing2-more r after p =
       let one = plain2 h.scale h.boys n (take (h.end - (h.from + n)) (drop (h.from + n) s)) in
+      let less : terms - went - 1 ≡ terms - (went + 1) = omega arith in
       record {
-        again = again-next s terms from end place left h w.again some is;
+        within = omega arith;
+        again = rw less at (again-next s terms from end place (terms - went) h w.again (omega arith) is);
         done = w.done ++ one;
         room = w.room;
         stored = p.out ∙ ap₂ (λ (l : List ℕ) (k : ℕ). sets l k one) w.stored w.next ∙ sym (sets-append before start w.done one);
         next = omega (arith, p.next, w.next, length-append w.done one);
-        whole = append_assoc w.done one (again_bytes2 s (between s h.from h.end) h.end (left - 1)) ∙ all;
+        whole = append_assoc w.done one (again_bytes2 s (between s h.from h.end) h.end (terms - (went + 1))) ∙ all;
       }
 
-pub writing2-done : (before : List ℕ) (start : ℕ) (s : List ℕ) (at terms : ℕ) (out : List ℕ) (from end place left to : ℕ) → Writing2 before start s at terms out from end place left to → left ≤ 0 → Put (again_bytes2 s [] at terms) start before to out
-writing2-done before start s at terms out from end place left to w none =
-    let nothing = no_bytes s (between s from end) place left none in
+pub writing2-done : (before : List ℕ) (start : ℕ) (s : List ℕ) (at terms : ℕ) (out : List ℕ) (from end place went to : ℕ) → Writing2 before start s at terms out from end place went to → terms ≤ went → Put (again_bytes2 s [] at terms) start before to out
+writing2-done before start s at terms out from end place went to w none =
+    let nothing = no_bytes s (between s from end) place (terms - went) (omega arith) in
     let all : w.done ≡ again_bytes2 s [] at terms = sym (mathlib.Core.List.append-nil w.done) ∙ ap (λ (l : List ℕ). w.done ++ l) (sym nothing) ∙ w.whole in
     rw (← all) (record { next = w.next; out = w.stored })

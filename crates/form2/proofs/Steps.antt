@@ -11,23 +11,23 @@ use lib.Seq.{take-append_seam}
 use Rattle.kind.specs.Limits.{most_l·any}
 use Rattle.kind.specs.Kinds.{table_of, most_l, most_prefactors}
 use Rattle.kind.specs.declared.Kind.{Kind}
-use Rattle.kind.specs.declared.Named.{Named}
 use Rattle.kind.proofs.KindNumber.{kind-number}
 use Rattle.laws.specs.Total.{total}
 use Rattle.term.specs.Terms.{Term, held}
 use Rattle.roll.specs.Fits.{Below}
 use Rattle.roll.specs.Reading.{Reading, got, refused, before, Header}
-use Rattle.roll.specs.Cursor.{gathering, held_terms}
+use Rattle.roll.specs.Cursor.{held_terms}
 use Rattle.roll.specs.Header.{cursor_at}
 use Rattle.roll.specs.inner.Judged.{Honest}
 use Rattle.form2.specs.declared.cursor.Cursor2.{Cursor2}
-use Rattle.form2.specs.declared.cursor.Step2.{Step2}
 use Rattle.form2.specs.Reading.{header_at2, term_after, terms_after}
 use Rattle.form2.specs.Header.{first_cursor}
-use Rattle.form2.specs.Cursor.{earlier_of, refused_step2, end_step2, stepped_after, end_or2, step_with2, some_above, forged_earlier, step_as2, step2_of, gathered2}
+use Rattle.form2.specs.Cursor.{earlier_of, Stepped2, refused_step2, end_step2, step_behind, stepped_after, end_or2, step_with2, some_above, forged_earlier, step_as2, step2_of, gathering2, gathered2}
 use Rattle.form2.proofs.Inside.{term-inside2, header-inside2, header-most2}
 use Rattle.form2.proofs.JudgeLaws.{terms-turn2}
 use Rattle.form2.proofs.Written.{EarlierFits, none-fits, term-earlier, term-fits2}
+use Rattle.std.specs.Prelude.{Option}
+use Rattle.kind.specs.declared.refusals.Refusal.TheVariants.{BadRoll}
 
 -- a cursor that is not forged, its term before neither
 pub record Honest2 (c : Cursor2) (s : List ℕ) : Type 0 where
@@ -48,22 +48,22 @@ honest-step2 c s h =
     let k = h.honest.kind in
     let few : c.count ≤ most_prefactors k c.cursor.l = omega (arith, h.count, h.fits.count) in
     let below : some_above (table_of k) (earlier_of c) ≡ false = ap (some_above (table_of k)) h.is ∙ none_above (table_of k) h.earlier h.fits.prefactors in
-    ap (λ (n : Named). step_as2 n c s) h.honest.is
+    ap (λ (n : Option Kind). step_as2 n c s) h.honest.is
     ∙ simp (le-ltb (most_l k) c.cursor.l h.honest.small, le-ltb (length s) c.cursor.place h.honest.inside, le-ltb (most_prefactors k c.cursor.l) c.count few, below)
 
-gather : (n : ℕ) (c : Cursor2) (s : List ℕ) (x : Step2) → step2_of c s ≡ x → gathered2 (suc n) c s ≡ gathering x.found x.term (gathered2 n x.next s) c.cursor.place
+gather : (n : ℕ) (c : Cursor2) (s : List ℕ) (x : Stepped2) → step2_of c s ≡ x → gathered2 (suc n) c s ≡ gathering2 x (λ next. gathered2 n next s) c.cursor.place
 unfolding gathered2
-gather n c s x e = ap (λ (x : Step2). gathering x.found x.term (gathered2 n x.next s) c.cursor.place) e
+gather n c s x e = ap (λ (x : Stepped2). gathering2 x (λ next. gathered2 n next s) c.cursor.place) e
 
 held-before : (t : Term) (r : Reading (List Term)) → before (held t ∷ []) (held_terms r) ≡ held_terms (before (t ∷ []) r)
 held-before t (got ts end) = refl
 held-before t (refused r place) = refl
 
-at-end : (n : ℕ) (c : Cursor2) (s : List ℕ) (b : Bool) → step2_of c s ≡ cond b end_step2 (refused_step2 7 c.cursor.place) → gathered2 (suc n) c s ≡ held_terms (cond b (got [] c.cursor.place) (refused 7 c.cursor.place))
+at-end : (n : ℕ) (c : Cursor2) (s : List ℕ) (b : Bool) → step2_of c s ≡ cond b end_step2 (refused_step2 BadRoll c.cursor.place) → gathered2 (suc n) c s ≡ held_terms (cond b (got [] c.cursor.place) (refused BadRoll c.cursor.place))
 at-end n c s true e = gather n c s end_step2 e
-at-end n c s false e = gather n c s (refused_step2 7 c.cursor.place) e
+at-end n c s false e = gather n c s (refused_step2 BadRoll c.cursor.place) e
 
-none-left2 : (s : List ℕ) (at : ℕ) (k : Kind) (l : ℕ) (earlier : List ℕ) → terms_after s at 0 k l earlier ≡ cond (eqb at (length s)) (got [] at) (refused 7 at)
+none-left2 : (s : List ℕ) (at : ℕ) (k : Kind) (l : ℕ) (earlier : List ℕ) → terms_after s at 0 k l earlier ≡ cond (eqb at (length s)) (got [] at) (refused BadRoll at)
 unfolding terms_after
 none-left2 s at k l earlier = refl
 
@@ -87,7 +87,7 @@ steps-are-terms2 (suc n) c s h left = by (term_after s c.cursor.place h.honest.k
         let step : step2_of c s ≡ stepped_after c (got t next) = honest-step2 c s h ∙ term-with ∙ ap (stepped_after c) e in
         let less : suc n - 1 ≡ n = omega arith in
         let fit = term-fits2 k l h.earlier s c.cursor.place t next h.fits e in
-        let c' : Cursor2 = (stepped_after c (got t next)).next in
+        let c' : Cursor2 = (step_behind c t next).next in
         let h' : Honest2 c' s =
         record {
           honest = record { kind = k; is = h.honest.is; small = h.honest.small; inside = term-inside2 k l h.earlier s c.cursor.place t next e };

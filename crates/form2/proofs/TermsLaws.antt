@@ -1,13 +1,13 @@
 -- The functions of src/terms.rt: a term's numbers, its further prefactors in their places, and both together, a law for each way out.
-use Prim.Native.Nat.{ℕ, suc, zero-le, ◌+◌, ◌-◌, ◌≤◌, ◌<◌}
+use Prim.Native.Nat.{ℕ, suc, ◌+◌, ◌-◌, ◌≤◌, ◌<◌}
 use mathlib.Core.Path.{◌≡◌, refl, sym, ap, ap₂, ◌∙◌}
 use mathlib.Core.Bool.{Bool, true, false, cond, ◌&&◌}
 use mathlib.Core.List.{List, [], ◌∷◌, ◌++◌}
 use native.Mathlib.Omega.{arith}
-use mir.Syntax.{w8, w32}
+use mir.Syntax.{w8}
 use mir.Val.{Fits}
 use native.Mathlib.Numerals.{add-one}
-use borrow.Author.Tests.{lt-ltb, le-ltb, ltb-true, ltb-false}
+use borrow.Author.Tests.{ltb-true, ltb-false}
 use lib.Dec.{ltb, eqb}
 use lib.ListN.{length, get_or, set, take, drop, length-append, length-take, drop_of_length-le, take-append-drop}
 use lib.Seq.{sets, drop-cons, get_or-take, length-take-le, take-take, sets-eq}
@@ -17,53 +17,51 @@ use Rattle.kind.specs.declared.Kind.{Kind}
 use Rattle.kind.proofs.Within.{some-entries, table-within}
 use Rattle.laws.proofs.Cases.{clash}
 use Rattle.laws.proofs.Lists.{sets-append}
-use Rattle.roll.specs.declared.field.Field.{Field}
-use Rattle.roll.specs.declared.field.Field.TheVariants as field
+use Rattle.term.specs.Terms.{Term}
+use Rattle.roll.specs.Field.{Field}
+use Rattle.roll.specs.Field as field
 use Rattle.roll.specs.Reading.{Reading, got, refused, onward, and_then, before, within_at, prefactors_at, most_boys}
 use Rattle.roll.proofs.FieldLaws.{taken-below}
 use Rattle.roll.proofs.TermsLaws.{few-prefactors}
 use Rattle.form2.specs.declared.terms.ReadFront.{ReadFront}
 use Rattle.form2.specs.declared.terms.ReadAfter.{ReadAfter}
 use Rattle.form2.specs.Reading.{Front, further_count_at, shared_at, boys_at2, front_at, goes_on, further_at, term_after}
-use Rattle.form2.specs.inner.Held.{held_front, found_from, places_from, held_after, with_more, AfterMay, AfterTold, MoreMay, MoreTold}
+use Rattle.form2.specs.inner.Held.{held_front, found_from, places_from, AfterMay, AfterTold, MoreMay, MoreTold}
 use Rattle.form2.proofs.Inside.{front_read}
+use Rattle.std.specs.Prelude.{Result, Ok, Err}
+use Rattle.kind.specs.declared.refusals.Fault.{Fault}
+use Rattle.kind.proofs.Faults.{err-is}
+use Rattle.roll.specs.Field.{fault}
+use Rattle.kind.specs.declared.refusals.Refusal.TheVariants.{BadRoll}
 
 -- ---- the front
 
-pub count-read : (k : Kind) (l scale boys shared : ℕ) (s : List ℕ) (at most : ℕ) (x : Field) (further next : ℕ) → most ≡ most_prefactors k l → x ≡ within_at s at 0 (most - shared) → x ≡ field.Is further next → ◌≡◌ {A = ReadFront} (record { found = field.Is further next; scale = scale; boys = boys; shared = shared }) (held_front (further_count_at s at k l scale boys shared))
-unfolding further_count_at
-count-read k l scale boys shared s at most x further next limit is e = rw (← limit, sym is ∙ e)
+pub shared-few : (k : Kind) (l longest : ℕ) (s : List ℕ) (at most : ℕ) (x : Field) (n next : ℕ) → AfterMay k l longest → most ≡ most_prefactors k l → x ≡ within_at s at 0 longest → x ≡ field.Is n next → n ≤ most
+shared-few k l longest s at most x n next may limit is e = omega (arith, may.few, taken-below s at 0 longest x n next is e)
 
-pub count-unread : (k : Kind) (l scale boys shared : ℕ) (s : List ℕ) (at most : ℕ) (x : Field) (r place : ℕ) (y : ReadFront) → most ≡ most_prefactors k l → x ≡ within_at s at 0 (most - shared) → x ≡ field.Refused r place → y ≡ held_front (refused r place) → y ≡ held_front (further_count_at s at k l scale boys shared)
-unfolding further_count_at
-count-unread k l scale boys shared s at most x r place y limit is e answer = answer ∙ rw (← limit, sym is ∙ e)
+pub front-read : (k : Kind) (l longest scale : ℕ) (s : List ℕ) (at high most : ℕ) (x y z : Field) (boys a shared b further next : ℕ) → high ≡ most_boys k l → x ≡ within_at s at 0 high → x ≡ field.Is boys a → y ≡ within_at s a 0 longest → y ≡ field.Is shared b → most ≡ most_prefactors k l → z ≡ within_at s b 0 (most - shared) → z ≡ field.Is further next → ◌≡◌ {A = Result ReadFront Fault} (Ok (record { scale = scale; boys = boys; shared = shared; further = further; next = next })) (held_front (boys_at2 s at k l longest scale))
+unfolding boys_at2 shared_at further_count_at
+front-read k l longest scale s at high most x y z boys a shared b further next h is e then f limit last g = rw (← h, sym is ∙ e, sym then ∙ f, ← limit, sym last ∙ g)
 
-pub shared-may : (k : Kind) (l longest : ℕ) (s : List ℕ) (at : ℕ) (x : Field) (n next : ℕ) → AfterMay k l longest → x ≡ within_at s at 0 longest → x ≡ field.Is n next → AfterMay k l n
-shared-may k l longest s at x n next may is e = record { small = may.small; few = omega (arith, may.few, taken-below s at 0 longest x n next is e) }
+pub count-unread : (k : Kind) (l longest scale : ℕ) (s : List ℕ) (at high most : ℕ) (x y z : Field) (boys a shared b : ℕ) (why : Fault) → high ≡ most_boys k l → x ≡ within_at s at 0 high → x ≡ field.Is boys a → y ≡ within_at s a 0 longest → y ≡ field.Is shared b → most ≡ most_prefactors k l → z ≡ within_at s b 0 (most - shared) → z ≡ Err why → Err why ≡ held_front (boys_at2 s at k l longest scale)
+unfolding boys_at2 shared_at further_count_at
+count-unread k l longest scale s at high most x y z boys a shared b why h is e then f limit last g = rw (← h, sym is ∙ e, sym then ∙ f, ← limit, sym last ∙ g)
 
-pub shared-read : (k : Kind) (l longest scale boys : ℕ) (s : List ℕ) (at : ℕ) (x : Field) (n next : ℕ) (y : ReadFront) → x ≡ within_at s at 0 longest → x ≡ field.Is n next → y ≡ held_front (further_count_at s next k l scale boys n) → y ≡ held_front (shared_at s at k l longest scale boys)
-unfolding shared_at
-shared-read k l longest scale boys s at x n next y is e answer = answer ∙ rw (sym is ∙ e)
+pub shared-unread : (k : Kind) (l longest scale : ℕ) (s : List ℕ) (at high : ℕ) (x y : Field) (boys a : ℕ) (why : Fault) → high ≡ most_boys k l → x ≡ within_at s at 0 high → x ≡ field.Is boys a → y ≡ within_at s a 0 longest → y ≡ Err why → Err why ≡ held_front (boys_at2 s at k l longest scale)
+unfolding boys_at2 shared_at
+shared-unread k l longest scale s at high x y boys a why h is e then f = rw (← h, sym is ∙ e, sym then ∙ f)
 
-pub shared-unread : (k : Kind) (l longest scale boys : ℕ) (s : List ℕ) (at : ℕ) (x : Field) (r place : ℕ) (y : ReadFront) → x ≡ within_at s at 0 longest → x ≡ field.Refused r place → y ≡ held_front (refused r place) → y ≡ held_front (shared_at s at k l longest scale boys)
-unfolding shared_at
-shared-unread k l longest scale boys s at x r place y is e answer = answer ∙ rw (sym is ∙ e)
-
-pub boys-read : (k : Kind) (l longest scale : ℕ) (s : List ℕ) (at most : ℕ) (x : Field) (boys next : ℕ) (y : ReadFront) → most ≡ most_boys k l → x ≡ within_at s at 0 most → x ≡ field.Is boys next → y ≡ held_front (shared_at s next k l longest scale boys) → y ≡ held_front (boys_at2 s at k l longest scale)
+pub boys-unread : (k : Kind) (l longest scale : ℕ) (s : List ℕ) (at high : ℕ) (x : Field) (why : Fault) → high ≡ most_boys k l → x ≡ within_at s at 0 high → x ≡ Err why → Err why ≡ held_front (boys_at2 s at k l longest scale)
 unfolding boys_at2
-boys-read k l longest scale s at most x boys next y limit is e answer = answer ∙ rw (← limit, sym is ∙ e)
+boys-unread k l longest scale s at high x why h is e = rw (← h, sym is ∙ e)
 
-pub boys-unread : (k : Kind) (l longest scale : ℕ) (s : List ℕ) (at most : ℕ) (x : Field) (r place : ℕ) (y : ReadFront) → most ≡ most_boys k l → x ≡ within_at s at 0 most → x ≡ field.Refused r place → y ≡ held_front (refused r place) → y ≡ held_front (boys_at2 s at k l longest scale)
-unfolding boys_at2
-boys-unread k l longest scale s at most x r place y limit is e answer = answer ∙ rw (← limit, sym is ∙ e)
-
-pub scale-read : (k : Kind) (l longest : ℕ) (s : List ℕ) (at : ℕ) (x : Field) (scale next : ℕ) (y : ReadFront) → x ≡ within_at s at 1 most_scale → x ≡ field.Is scale next → y ≡ held_front (boys_at2 s next k l longest scale) → y ≡ held_front (front_at s at k l longest)
+pub scale-read : (k : Kind) (l longest : ℕ) (s : List ℕ) (at : ℕ) (x : Field) (scale next : ℕ) (y : Result ReadFront Fault) → x ≡ within_at s at 1 most_scale → x ≡ field.Is scale next → y ≡ held_front (boys_at2 s next k l longest scale) → y ≡ held_front (front_at s at k l longest)
 unfolding front_at
 scale-read k l longest s at x scale next y is e answer = answer ∙ rw (sym is ∙ e)
 
-pub scale-unread : (k : Kind) (l longest : ℕ) (s : List ℕ) (at : ℕ) (x : Field) (r place : ℕ) (y : ReadFront) → x ≡ within_at s at 1 most_scale → x ≡ field.Refused r place → y ≡ held_front (refused r place) → y ≡ held_front (front_at s at k l longest)
+pub scale-unread : (k : Kind) (l longest : ℕ) (s : List ℕ) (at : ℕ) (x : Field) (why : Fault) → x ≡ within_at s at 1 most_scale → x ≡ Err why → Err why ≡ held_front (front_at s at k l longest)
 unfolding front_at
-scale-unread k l longest s at x r place y is e answer = answer ∙ rw (sym is ∙ e)
+scale-unread k l longest s at x why is e = rw (sym is ∙ e)
 
 -- ---- prefactors in their places
 
@@ -81,18 +79,12 @@ pub told-behind : (values : List ℕ) (from p : ℕ) (x : Reading (List ℕ)) (y
 told-behind values from p x y after m = record { found = m.found ∙ sym (found-one from p x); places = m.places ∙ sym (places-one values from p after x) }
 
 -- a refusal, whatever is left in the places
-told_none : (values : List ℕ) (from : ℕ) (x : Reading (List ℕ)) (r place : ℕ) (after : List ℕ) → x ≡ refused r place → MoreTold values from x (field.Refused r place) after
-told_none values from x r place after e = rw e (record { found = refl; places = refl })
+told_none : (values : List ℕ) (from : ℕ) (x : Reading (List ℕ)) (why : Fault) (after : List ℕ) → x ≡ refused why.refusal why.place → MoreTold values from x (Err why) after
+told_none values from x why after e = rw e (record { found = refl; places = refl })
 
 pub record Placing (s : List ℕ) (at : ℕ) (values : List ℕ) (from count table : ℕ) (held : List ℕ) (place i : ℕ) : Type 0 where
   pub inside : i ≤ count
   pub told : (y : Field) (after : List ℕ) → MoreTold held (from + i) (prefactors_at s place (count - i) table) y after → MoreTold values from (prefactors_at s at count table) y after
-
-pub placing-none : (s : List ℕ) (at : ℕ) (values : List ℕ) (from count table : ℕ) → Placing s at values from count table values at 0
-placing-none s at values from count table =
-    let all : count - 0 ≡ count = omega arith in
-    let first : from + 0 ≡ from = omega arith in
-    record { inside = zero-le; told = λ y after m. rw (all, first) at m }
 
 turn : (s : List ℕ) (place count table i : ℕ) (x : Field) → i < count → x ≡ within_at s place 0 (table - 1) → prefactors_at s place (count - i) table ≡ onward x (λ p next. before (p ∷ []) (prefactors_at s next (count - (i + 1)) table))
 unfolding prefactors_at
@@ -107,10 +99,10 @@ placing-more s at values from count table held place i x p next f less is e =
       told = λ y after m. f.told y after (rw rest (told-behind held (from + i) p (prefactors_at s next (count - (i + 1)) table) y after (rw behind at m)));
     }
 
-pub placing-refused : (s : List ℕ) (at : ℕ) (values : List ℕ) (from count table : ℕ) (held : List ℕ) (place i : ℕ) (x : Field) (r wrong : ℕ) → Placing s at values from count table held place i → i < count → x ≡ within_at s place 0 (table - 1) → x ≡ field.Refused r wrong → MoreTold values from (prefactors_at s at count table) (field.Refused r wrong) held
-placing-refused s at values from count table held place i x r wrong f less is e =
-    let rest : prefactors_at s place (count - i) table ≡ refused r wrong = rw e at (turn s place count table i x less is) in
-    f.told (field.Refused r wrong) held (told_none held (from + i) (prefactors_at s place (count - i) table) r wrong held rest)
+pub placing-refused : (s : List ℕ) (at : ℕ) (values : List ℕ) (from count table : ℕ) (held : List ℕ) (place i : ℕ) (x : Field) (why : Fault) → Placing s at values from count table held place i → i < count → x ≡ within_at s place 0 (table - 1) → x ≡ Err why → MoreTold values from (prefactors_at s at count table) (Err why) held
+placing-refused s at values from count table held place i x why f less is e =
+    let rest : prefactors_at s place (count - i) table ≡ refused why.refusal why.place = rw e at (turn s place count table i x less is) in
+    f.told (Err why) held (told_none held (from + i) (prefactors_at s place (count - i) table) why held rest)
 
 no_more : (s : List ℕ) (place table n : ℕ) → n ≡ 0 → prefactors_at s place n table ≡ got [] place
 unfolding prefactors_at
@@ -130,12 +122,6 @@ pub prefactor-fits : (from left table : ℕ) (s : List ℕ) (at : ℕ) (x : Fiel
 prefactor-fits from left table s at x p next may is e = omega (arith, may.most, taken-below s at 0 (table - 1) x p next is e)
 
 -- ---- the further prefactors
-
-pub goes-past : (there count from p : ℕ) → count ≤ from → false ≡ (ltb from count && eqb there p)
-goes-past there count from p past = rw (le-ltb from count past)
-
-pub goes-there : (there count from p : ℕ) → from < count → eqb there p ≡ (ltb from count && eqb there p)
-goes-there there count from p inside = rw (lt-ltb from count inside)
 
 goes_none : (values : List ℕ) (count from p : ℕ) → count ≤ from → goes_on (drop from (take count values)) p ≡ false
 goes_none values count from p past =
@@ -161,22 +147,22 @@ module _ (s : List ℕ) (at : ℕ) (values : List ℕ) (from left table count : 
   unfolding further_at
   further-none none = rw none (record { found = ap (λ (n : ℕ). field.Is n at) (omega arith); places = refl })
 
-  first : (x : Field) → (left ≡ 0 → ⊥) → x ≡ within_at s at 0 (table - 1) → further_at s at left table (drop from (take count values)) ≡ onward x (λ p next. cond (goes_on (drop from (take count values)) p) (refused 7 at) (before (p ∷ []) (prefactors_at s next (left - 1) table)))
+  first : (x : Field) → (left ≡ 0 → ⊥) → x ≡ within_at s at 0 (table - 1) → further_at s at left table (drop from (take count values)) ≡ onward x (λ p next. cond (goes_on (drop from (take count values)) p) (refused BadRoll at) (before (p ∷ []) (prefactors_at s next (left - 1) table)))
   unfolding further_at
   first x some is = let one : left ≡ suc (left - 1) = omega arith in ap (λ (n : ℕ). further_at s at n table (drop from (take count values))) one ∙ rw is
 
-  pub further-unread : (x : Field) (r place : ℕ) → (left ≡ 0 → ⊥) → x ≡ within_at s at 0 (table - 1) → x ≡ field.Refused r place → MoreTold values from (further_at s at left table (drop from (take count values))) (field.Refused r place) values
-  further-unread x r place some is e =
-      told_none values from (further_at s at left table (drop from (take count values))) r place values (rw e at (first x some is))
+  pub further-unread : (x : Field) (why : Fault) → (left ≡ 0 → ⊥) → x ≡ within_at s at 0 (table - 1) → x ≡ Err why → MoreTold values from (further_at s at left table (drop from (take count values))) (Err why) values
+  further-unread x why some is e =
+      told_none values from (further_at s at left table (drop from (take count values))) why values (rw e at (first x some is))
 
   module _ (long : length values ≡ most_l·any) (few : count ≤ most_l·any) (x : Field) (p next : ℕ) (some : left ≡ 0 → ⊥) (is : x ≡ within_at s at 0 (table - 1)) (e : x ≡ field.Is p next) (there : ℕ) (stands : there ≡ get_or values from 0) (t : Bool) (goes : t ≡ (ltb from count && eqb there p)) where
-    one : (b : Bool) → t ≡ b → further_at s at left table (drop from (take count values)) ≡ cond b (refused 7 at) (before (p ∷ []) (prefactors_at s next (left - 1) table))
+    one : (b : Bool) → t ≡ b → further_at s at left table (drop from (take count values)) ≡ cond b (refused BadRoll at) (before (p ∷ []) (prefactors_at s next (left - 1) table))
     one b so =
-        let all : further_at s at left table (drop from (take count values)) ≡ cond (goes_on (drop from (take count values)) p) (refused 7 at) (before (p ∷ []) (prefactors_at s next (left - 1) table)) = rw e at (first x some is) in
+        let all : further_at s at left table (drop from (take count values)) ≡ cond (goes_on (drop from (take count values)) p) (refused BadRoll at) (before (p ∷ []) (prefactors_at s next (left - 1) table)) = rw e at (first x some is) in
         rw (follows values count from p there long few stands ∙ sym goes ∙ so) at all
 
-    pub further-goes : t ≡ true → MoreTold values from (further_at s at left table (drop from (take count values))) (field.Refused 7 at) values
-    further-goes on = told_none values from (further_at s at left table (drop from (take count values))) 7 at values (one true on)
+    pub further-goes : t ≡ true → MoreTold values from (further_at s at left table (drop from (take count values))) (field.Refused BadRoll at) values
+    further-goes on = told_none values from (further_at s at left table (drop from (take count values))) (fault BadRoll at) values (one true on)
 
     pub further-parts : (y : Field) (after : List ℕ) → t ≡ false → MoreTold (set values from p) (from + 1) (prefactors_at s next (left - 1) table) y after → MoreTold values from (further_at s at left table (drop from (take count values))) y after
     further-parts y after off m = rw (one false off) (told-behind values from p (prefactors_at s next (left - 1) table) y after m)
@@ -186,11 +172,10 @@ more-may from left table may some = record { room = omega (arith, may.room); som
 
 -- ---- a term
 
-pub after-made : (scale boys : ℕ) (found : Field) (n next : ℕ) → found ≡ field.Is n next → record { found = field.Is n next; scale = scale; boys = boys } ≡ with_more scale boys found
-after-made scale boys found n next e = sym (ap (with_more scale boys) e)
-
-pub after-unmade : (scale boys : ℕ) (found : Field) (r place : ℕ) (y : ReadAfter) → found ≡ field.Refused r place → y ≡ held_after (refused r place) → y ≡ with_more scale boys found
-after-unmade scale boys found r place y e answer = answer ∙ sym (ap (with_more scale boys) e)
+-- a term of prefactors that were read
+abbrev pub with_more : ℕ → ℕ → Field → Result ReadAfter Fault
+with_more scale boys (field.Is n end) = Ok (record { scale = scale; boys = boys; count = n; end = end })
+with_more scale boys (Err why) = Err why
 
 -- a list's own beginning, put down at its front
 pub sets-own : (values : List ℕ) (n : ℕ) → n ≤ length values → sets values 0 (take n values) ≡ values
@@ -217,7 +202,7 @@ after-of : (values : List ℕ) (count scale boys n : ℕ) (r : Reading (List ℕ
 after-of values count scale boys n (got ps next) found after room inside m =
     let b = behind-shared values count n ps room inside in
     record {
-      read = ap (with_more scale boys) m.found ∙ ap (λ (m : ℕ). record { found = field.Is m next; scale = scale; boys = boys }) b.1;
+      read = ap (with_more scale boys) m.found ∙ ap (λ (m : ℕ). Ok (record { scale = scale; boys = boys; count = m; end = next })) b.1;
       places = m.places ∙ b.0;
     }
 after-of values count scale boys n (refused r place) found after room inside m = record { read = ap (with_more scale boys) m.found; places = refl }
@@ -225,22 +210,26 @@ after-of values count scale boys n (refused r place) found after room inside m =
 pub after-few : (k : Kind) (l count : ℕ) → AfterMay k l count → count ≤ most_l·any
 after-few k l count may = omega (arith, may.few, few-prefactors k l may.small)
 
-pub after-fits : (k : Kind) (l count : ℕ) → AfterMay k l count → Fits w32 count
-after-fits k l count may = omega (arith, after-few k l count may)
+-- what was read of a term and of its front, as the code holds it
+abbrev pub after_as : Term → ℕ → ReadAfter
+after_as t end = record { scale = t.scale; boys = t.boys; count = length t.prefactors; end = end }
 
-module _ (k : Kind) (l : ℕ) (s : List ℕ) (at : ℕ) (values : List ℕ) (count : ℕ) (x : ReadFront) (may : AfterMay k l count) (is : x ≡ held_front (front_at s at k l count)) where
+abbrev pub front_as : Front → ℕ → ReadFront
+front_as f next = record { scale = f.scale; boys = f.boys; shared = f.shared; further = f.further; next = next }
+
+module _ (k : Kind) (l : ℕ) (s : List ℕ) (at : ℕ) (values : List ℕ) (count : ℕ) (x : Result ReadFront Fault) (may : AfterMay k l count) (is : x ≡ held_front (front_at s at k l count)) where
   few-count : count ≤ most_l·any
   few-count = after-few k l count may
 
-  pub after-may : (left next table : ℕ) → x.found ≡ field.Is left next → table ≡ table_of k → MoreMay x.shared left table
-  after-may left next table e size = by (front_at s at k l count) refl
+  pub after-may : (read : ReadFront) (table : ℕ) → x ≡ Ok read → table ≡ table_of k → MoreMay read.shared read.further table
+  after-may read table ok size = by (front_at s at k l count) refl
     where
-      by : (r : Reading Front) → front_at s at k l count ≡ r → MoreMay x.shared left table
+      by : (r : Reading Front) → front_at s at k l count ≡ r → MoreMay read.shared read.further table
       by (got f m) front =
-          let x-is : x ≡ held_front (got f m) = is ∙ ap held_front front in
-          let found = ap (λ (x : ReadFront). x.found) x-is in
-          let shared : x.shared ≡ f.shared = ap (λ (x : ReadFront). x.shared) x-is in
-          let count-is : f.further ≡ left = cc in
+          let x-is : Ok read ≡ held_front (got f m) = sym ok ∙ is ∙ ap held_front front in
+          let same : read ≡ front_as f m = cc in
+          let shared : read.shared ≡ f.shared = ap (λ (x : ReadFront). x.shared) same in
+          let further : read.further ≡ f.further = ap (λ (x : ReadFront). x.further) same in
           let r = front_read k l count s at f m front in
           let a = r.shared.below in
           let b = r.further.below in
@@ -248,7 +237,7 @@ module _ (k : Kind) (l : ℕ) (s : List ℕ) (at : ℕ) (values : List ℕ) (cou
           let most = may.few in
           record { room = omega arith; some = omega (arith, size, some-entries k); most = omega (arith, size, table-within k) }
       by (refused r place) front =
-          let found = ap (λ (x : ReadFront). x.found) (is ∙ ap held_front front) in
+          let x-is : Ok read ≡ held_front (refused r place) = sym ok ∙ is ∙ ap held_front front in
           absurd (clash (cc))
 
   module _ (long : length values ≡ most_l·any) where
@@ -259,36 +248,36 @@ module _ (k : Kind) (l : ℕ) (s : List ℕ) (at : ℕ) (values : List ℕ) (cou
     unfolding term_after
     term_is r e = rw (counted, e)
 
-    pub after-unread : (r place : ℕ) (y : ReadAfter) → x.found ≡ field.Refused r place → y ≡ held_after (refused r place) → AfterTold values (term_after s at k l (take count values)) y values
-    after-unread r place y e answer = by (front_at s at k l count) refl
+    pub after-unread : (why : Fault) → x ≡ Err why → AfterTold values (term_after s at k l (take count values)) (Err why) values
+    after-unread why err = by (front_at s at k l count) refl
       where
-        by : (z : Reading Front) → front_at s at k l count ≡ z → AfterTold values (term_after s at k l (take count values)) y values
+        by : (z : Reading Front) → front_at s at k l count ≡ z → AfterTold values (term_after s at k l (take count values)) (Err why) values
         by (got f m) front =
-            let found = ap (λ (x : ReadFront). x.found) (is ∙ ap held_front front) in
+            let x-is : held_front (got f m) ≡ Err why = sym (ap held_front front) ∙ sym is ∙ err in
             absurd (clash (cc))
         by (refused q o) front =
-            let found = ap (λ (x : ReadFront). x.found) (is ∙ ap held_front front) in
-            let number : q ≡ r = cc in
-            let there : o ≡ place = cc in
-            let all : term_after s at k l (take count values) ≡ refused r place = rw (number, there) at (term_is (refused q o) front) in
-            rw all (record { read = answer; places = refl })
+            let x-is : held_front (refused q o) ≡ Err why = sym (ap held_front front) ∙ sym is ∙ err in
+            let same : fault q o ≡ why = err-is (fault q o) why x-is in
+            rw (term_is (refused q o) front, ← same) (record { read = refl; places = refl })
 
-    pub after_read : (left next table : ℕ) (found : Field) (after : List ℕ) (y : ReadAfter) → x.found ≡ field.Is left next → table ≡ table_of k → MoreTold values x.shared (further_at s next left table (drop x.shared (take count values))) found after → y ≡ with_more x.scale x.boys found → AfterTold values (term_after s at k l (take count values)) y after
-    after_read left next table found after y e size told answer = by (front_at s at k l count) refl
+    pub after_read : (read : ReadFront) (table : ℕ) (found : Field) (after : List ℕ) (y : Result ReadAfter Fault) → x ≡ Ok read → table ≡ table_of k → MoreTold values read.shared (further_at s read.next read.further table (drop read.shared (take count values))) found after → y ≡ with_more read.scale read.boys found → AfterTold values (term_after s at k l (take count values)) y after
+    after_read read table found after y ok size told answer = by (front_at s at k l count) refl
       where
         by : (z : Reading Front) → front_at s at k l count ≡ z → AfterTold values (term_after s at k l (take count values)) y after
         by (got f m) front =
-            let x-is : x ≡ held_front (got f m) = is ∙ ap held_front front in
-            let there = ap (λ (x : ReadFront). x.found) x-is in
-            let scale : x.scale ≡ f.scale = ap (λ (x : ReadFront). x.scale) x-is in
-            let boys : x.boys ≡ f.boys = ap (λ (x : ReadFront). x.boys) x-is in
-            let shared : x.shared ≡ f.shared = ap (λ (x : ReadFront). x.shared) x-is in
-            let number : left ≡ f.further = cc in
-            let place : next ≡ m = cc in
+            let x-is : Ok read ≡ held_front (got f m) = sym ok ∙ is ∙ ap held_front front in
+            let same : read ≡ front_as f m = cc in
             let r = front_read k l count s at f m front in
-            let told_is : MoreTold values f.shared (further_at s m f.further (table_of k) (drop f.shared (take count values))) found after = rw (shared, number, place, size) at told in
-            rw (answer, scale, boys, term_is (got f m) front)
+            let told_is : MoreTold values f.shared (further_at s m f.further (table_of k) (drop f.shared (take count values))) found after = rw (same, size) at told in
+            let answer-is : y ≡ with_more f.scale f.boys found = rw same at answer in
+            rw (answer-is, term_is (got f m) front)
             (after-of values count f.scale f.boys f.shared (further_at s m f.further (table_of k) (drop f.shared (take count values))) found after (omega (arith, few-count)) r.shared.below told_is)
         by (refused q o) front =
-            let found = ap (λ (x : ReadFront). x.found) (is ∙ ap held_front front) in
+            let x-is : Ok read ≡ held_front (refused q o) = sym ok ∙ is ∙ ap held_front front in
             absurd (clash (cc))
+
+    pub after_more : (read : ReadFront) (table : ℕ) (found : Field) (after : List ℕ) (n end : ℕ) → x ≡ Ok read → table ≡ table_of k → MoreTold values read.shared (further_at s read.next read.further table (drop read.shared (take count values))) found after → found ≡ field.Is n end → AfterTold values (term_after s at k l (take count values)) (Ok (record { scale = read.scale; boys = read.boys; count = n; end = end })) after
+    after_more read table found after n end ok size told e = after_read read table found after (with_more read.scale read.boys (field.Is n end)) ok size told (sym (ap (with_more read.scale read.boys) e))
+
+    pub after-unmore : (read : ReadFront) (table : ℕ) (found : Field) (after : List ℕ) (why : Fault) → x ≡ Ok read → table ≡ table_of k → MoreTold values read.shared (further_at s read.next read.further table (drop read.shared (take count values))) found after → found ≡ Err why → AfterTold values (term_after s at k l (take count values)) (Err why) after
+    after-unmore read table found after why ok size told e = after_read read table found after (Err why) ok size told (sym (ap (with_more read.scale read.boys) e))

@@ -29,6 +29,7 @@ use Rattle.form2.specs.Bytes.{form_two, shared, further_of, term_bytes2, terms_b
 use Rattle.form2.specs.Reading.{header_at2, term_after, terms_after, roll_at2}
 use Rattle.form2.proofs.Sharing.{shared-is, further-is}
 use Rattle.form2.proofs.Inside.{front_read, further-read, prefactors-below, term-read2, header-read2}
+use Rattle.kind.specs.declared.refusals.Refusal.TheVariants.{BadRoll}
 
 -- ---- the term before
 
@@ -111,7 +112,7 @@ terms-none2 : (k : Kind) (l : ℕ) (earlier s : List ℕ) (at : ℕ) (ts : List 
 unfolding terms_after terms_bytes2
 terms-none2 k l earlier s at ts end e = by (eqb at (length s)) refl e
   where
-    by : (b : Bool) → eqb at (length s) ≡ b → cond b (got [] at) (refused 7 at) ≡ got ts end → TermsRead2 0 k l earlier s at ts end
+    by : (b : Bool) → eqb at (length s) ≡ b → cond b (got [] at) (refused BadRoll at) ≡ got ts end → TermsRead2 0 k l earlier s at ts end
     by true t e =
         let none : [] ≡ ts = cc in
         let place : at ≡ length s = eqb-true at (length s) t in

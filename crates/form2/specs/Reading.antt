@@ -5,6 +5,7 @@ use Rattle.kind.specs.Limits.{most_scale}
 use Rattle.kind.specs.Kinds.{kind_of, number_of, table_of, most_prefactors}
 use Rattle.kind.specs.declared.Kind.{Kind}
 use Rattle.kind.specs.declared.Kind.TheVariants.{Coulomb}
+use Rattle.kind.specs.declared.refusals.Refusal.TheVariants.{BadRoll}
 use Rattle.term.specs.Terms.{Term}
 use Rattle.roll.specs.Reading.{Reading, got, refused, within_at, onward, and_then, before, Header, of_kind, most_boys, prefactors_at, Roll}
 use Rattle.form2.specs.Bytes.{form_two}
@@ -49,7 +50,7 @@ unfoldable pub further_at : List ℕ → ℕ → ℕ → ℕ → List ℕ → Re
 further_at s at zero table follow = got [] at
 further_at s at (suc count) table follow =
     onward (within_at s at 0 (table - 1)) (λ p next.
-    cond (goes_on follow p) (refused 7 at) (before (p ∷ []) (prefactors_at s next count table)))
+    cond (goes_on follow p) (refused BadRoll at) (before (p ∷ []) (prefactors_at s next count table)))
 
 unfoldable pub term_after : List ℕ → ℕ → Kind → ℕ → List ℕ → Reading Term
 term_after s at k l earlier =
@@ -59,7 +60,7 @@ term_after s at k l earlier =
 
 -- as many terms as the count says, and nothing follows
 unfoldable pub terms_after : List ℕ → ℕ → ℕ → Kind → ℕ → List ℕ → Reading (List Term)
-terms_after s at zero k l earlier = cond (eqb at (length s)) (got [] at) (refused 7 at)
+terms_after s at zero k l earlier = cond (eqb at (length s)) (got [] at) (refused BadRoll at)
 terms_after s at (suc left) k l earlier = and_then (term_after s at k l earlier) (λ t next. before (t ∷ []) (terms_after s next left k l t.prefactors))
 
 -- ---- the roll: nothing stands before the first term

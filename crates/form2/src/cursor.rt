@@ -1,15 +1,16 @@
 // The cursor over the terms of a form 2 roll: it goes in by value and comes back one term further on, with that term's prefactors.
-ghost use Rattle.std.specs.Prelude.{◌≡◌, ◌≤◌, take};
+ghost use Rattle.std.specs.Prelude.{◌≡◌, ◌≤◌, take, Some};
 ghost use Rattle.kind.specs.Limits.{most_l·any};
 ghost use Rattle.kind.specs.Kinds.{most_l};
 ghost use Rattle.form2.specs.Header.{first_cursor};
-ghost use Rattle.form2.specs.Cursor.{refused_step2, end_or2, some_above, forged_earlier, step_as2, step2_of};
-ghost use Rattle.form2.specs.inner.Held.{cleared_of, stepped_over2, StepMay, cursor2};
+ghost use Rattle.form2.specs.Cursor.{end_or2, some_above, forged_earlier, step_as2, step2_of};
+ghost use Rattle.form2.specs.inner.Held.{cleared_of, stepped_over2, StepMay};
 
+use crate::header::bad_roll;
 use crate::terms::{ReadAfter, term_after};
-use kind::{Kind, Named};
+use kind::{Fault, Kind};
 use number::wide;
-use roll::{Cursor, Field, Found, no_cursor};
+use roll::Cursor;
 use term::Term;
 
 // Where a reader of a form 2 roll stands, and the prefactors of the term before: the first `count` places.
@@ -20,10 +21,9 @@ pub struct Cursor2 {
     pub earlier: [u8; Kind::PREFACTORS],
 }
 
-// The term and the cursor one term further on; zeros beside the end and beside a refusal.
+// A term, and the cursor one term further on.
 #[derive(Clone, Copy)]
 pub struct Step2 {
-    pub found: Found,
     pub term: Term,
     pub next: Cursor2,
 }
@@ -39,33 +39,14 @@ pub(crate) fn first_cursor(cursor: Cursor) -> Cursor2
     }
 }
 
-// A refusal, with zeros beside it.
-fn refused_step(refusal: u8, place: usize) -> Step2
-    ensures { result ≡ refused_step2 refusal place }
-{
-    let term = Term::none();
-    let next = first_cursor(no_cursor());
-    Step2 {
-        found: Found::Refused(refusal, place),
-        term,
-        next,
-    }
-}
-
 // With no term left a roll ends here, or has a byte too many.
-fn end_step(roll: &[u8], place: usize) -> Step2
+fn end_step(roll: &[u8], place: usize) -> Result<Option<Step2>, Fault>
     ensures { result ≡ end_or2 roll.now place }
 {
     if place != roll.len() {
-        return refused_step(7, place);
+        return Err(bad_roll(place));
     }
-    let term = Term::none();
-    let next = first_cursor(no_cursor());
-    Step2 {
-        found: Found::End,
-        term,
-        next,
-    }
+    Ok(None)
 }
 
 // Whether one of the first `count` values is not below the table size.
@@ -73,12 +54,10 @@ fn some_above(table: u32, values: [u8; Kind::PREFACTORS], count: usize) -> bool
     requires { count ≤ most_l·any }
     ensures { result ≡ some_above table (take count values) }
 {
-    let mut i = 0;
-    while i < count {
+    for i in 0..count {
         if table <= wide(values[i]) {
             return true;
         }
-        i += 1;
     }
     false
 }
@@ -100,10 +79,8 @@ fn cleared(values: [u8; Kind::PREFACTORS], count: usize) -> [u8; Kind::PREFACTOR
     ensures { result ≡ cleared_of values count }
 {
     let mut held = [0; Kind::PREFACTORS];
-    let mut i = 0;
-    while i < count {
+    for i in 0..count {
         held[i] = values[i];
-        i += 1;
     }
     held
 }
@@ -113,73 +90,56 @@ fn term_step(c: Cursor, read: ReadAfter, values: [u8; Kind::PREFACTORS]) -> Step
     requires { StepMay c read }
     ensures { result ≡ stepped_over2 c read values }
 {
-    let found = read.found;
-    match found {
-        Field::Is(count, place) => {
-            let held = cleared(values, count as usize);
-            Step2 {
-                found: Found::Term,
-                term: Term {
-                    scale: read.scale,
-                    boys: read.boys as u8,
-                    count: count as u8,
-                    prefactors: held,
-                },
-                next: Cursor2 {
-                    cursor: Cursor {
-                        place,
-                        left: c.left - 1,
-                        kind: c.kind,
-                        l: c.l,
-                    },
-                    count: count as u8,
-                    earlier: held,
-                },
-            }
-        }
-        Field::Refused(refusal, place) => refused_step(refusal, place),
+    let held = cleared(values, read.count as usize);
+    Step2 {
+        term: Term {
+            scale: read.scale,
+            boys: read.boys as u8,
+            count: read.count as u8,
+            prefactors: held,
+        },
+        next: Cursor2 {
+            cursor: Cursor {
+                place: read.end,
+                left: c.left - 1,
+                kind: c.kind,
+                l: c.l,
+            },
+            count: read.count as u8,
+            earlier: held,
+        },
     }
-}
-
-// A step of a cursor whose kind has a name.
-fn next_of(
-    roll: &[u8],
-    kind: Kind,
-    cursor: Cursor,
-    count: u8,
-    earlier: [u8; Kind::PREFACTORS],
-) -> Step2
-    ensures { result ≡ step_as2 (Named.Is kind) (cursor2 cursor count earlier) roll.now }
-{
-    let place = cursor.place;
-    let l = cursor.l;
-    if kind.most_l() < l as usize {
-        return refused_step(7, place);
-    }
-    if roll.len() < place {
-        return refused_step(7, place);
-    }
-    if forged_earlier(kind, l, count, earlier) {
-        return refused_step(7, place);
-    }
-    if cursor.left == 0 {
-        return end_step(roll, place);
-    }
-    let mut values = earlier;
-    let read = term_after(roll, place, kind, l, &mut values, count as usize);
-    term_step(cursor, read, values)
 }
 
 impl Cursor2 {
-    // The next term and the cursor one term further on.
-    pub fn next(self, roll: &[u8]) -> Step2
+    // The next term and the cursor one term further on, or none at the end.
+    pub fn next(self, roll: &[u8]) -> Result<Option<Step2>, Fault>
         ensures { result ≡ step2_of self roll.now }
     {
-        let cursor = self.cursor;
-        let earlier = self.earlier;
-        match Kind::of(cursor.kind) {
-            Named::Is(kind) => next_of(roll, kind, cursor, self.count, earlier),
-            Named::Unknown => refused_step(7, cursor.place),
+        match Kind::of(self.cursor.kind) {
+            Some(kind) => self.next_of(roll, kind),
+            None => Err(bad_roll(self.cursor.place)),
         }
+    }
+
+    // The same, of a kind that has a name.
+    fn next_of(self, roll: &[u8], kind: Kind) -> Result<Option<Step2>, Fault>
+        ensures { result ≡ step_as2 (Some kind) self roll.now }
+    {
+        let cursor = self.cursor;
+        let place = cursor.place;
+        let l = cursor.l;
+        if kind.most_l() < l as usize || roll.len() < place {
+            return Err(bad_roll(place));
+        }
+        if forged_earlier(kind, l, self.count, self.earlier) {
+            return Err(bad_roll(place));
+        }
+        if cursor.left == 0 {
+            return end_step(roll, place);
+        }
+        let mut values = self.earlier;
+        let read = term_after(roll, place, kind, l, &mut values, self.count as usize)?;
+        Ok(Some(term_step(cursor, read, values)))
     }
 }

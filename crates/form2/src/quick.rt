@@ -9,7 +9,6 @@ ghost use Rattle.form2.specs.inner.Held.{ShortFront, short_front, ShortMay, Shor
 use crate::terms::{ReadFront, goes_on};
 use kind::Kind;
 use number::wide;
-use roll::Field;
 
 // Whether a Boys order, a shared length and a number of further prefactors stand here, one byte each and within their limits.
 pub(crate) fn is_short(roll: &[u8], at: usize, boys: u32, longest: u32, most: u32) -> bool
@@ -41,10 +40,11 @@ pub(crate) fn short_front(roll: &[u8], scale: u32, at: usize) -> ReadFront
     ensures { result ≡ short_front roll.now scale at }
 {
     ReadFront {
-        found: Field::Is(wide(roll[at + 2]), at + 3),
         scale,
         boys: wide(roll[at]),
         shared: wide(roll[at + 1]),
+        further: wide(roll[at + 2]),
+        next: at + 3,
     }
 }
 
@@ -53,12 +53,10 @@ fn all_small(roll: &[u8], at: usize, end: usize, last: u32) -> bool
     requires { end ≤ length roll.now }
     ensures { result ≡ true → SmallBytes roll.now at end last }
 {
-    let mut place = at;
-    while place < end {
+    for place in at..end {
         if last < wide(roll[place]) {
             return false;
         }
-        place += 1;
     }
     true
 }
@@ -76,14 +74,12 @@ fn place_bytes(
     requires small_bytes { SmallBytes roll.now at (at + count) last }
     ensures { values.new ≡ sets values.old from (between roll.now at (at + count)) }
 {
-    let mut i = 0;
-    while i < count {
+    for i in 0..count {
         let b = roll[at + i];
         if last < wide(b) {
             return;
         }
         values[from + i] = b;
-        i += 1;
     }
 }
 

@@ -1,28 +1,19 @@
 // From form 1 to form 2: a roll that has been judged is read again and written; it is measured first where room is short.
-ghost use Rattle.std.specs.Prelude.{◌+◌, ◌≤◌, min, ◌≡◌, true, [], leb, length};
+ghost use Rattle.std.specs.Prelude.{◌+◌, ◌≤◌, ◌≡◌, true, [], leb, length};
 ghost use Rattle.kind.specs.Limits.{most_l·any};
-ghost use Rattle.roll.specs.Header.{check_of};
 ghost use Rattle.roll.specs.Reading.{roll_at};
 ghost use Rattle.roll.specs.inner.Again.{between, head_at};
 ghost use Rattle.form2.specs.Bytes.{shared};
 ghost use Rattle.form2.specs.Moves.{in_form2, MoveTold, ToForm2Told};
 ghost use Rattle.form2.specs.inner.Puts.{Put, bytes_in, plain_length2, again_bytes2, AgainMay, ShortRest, short_head, PartsMay, May2};
 
+use crate::beside::least;
 use crate::header::FORM_TWO;
-use crate::moves::{Moved, has_room};
+use crate::moves::{Moved, has_room, no_room, start_beyond_end};
 use crate::puts::{put_head, put_term2};
-use number::{Number, one_byte, wide};
-use roll::{Head, Opened, Opening, head_at};
-
-// The smaller of two numbers.
-fn least(a: usize, b: usize) -> usize
-    ensures { result ≡ min a b }
-{
-    if a <= b {
-        return a;
-    }
-    b
-}
+use kind::Fault;
+use number::{one_byte, wide};
+use roll::{Head, Opened, head_at};
 
 // How many bytes two parts of a roll begin alike.
 fn alike(roll: &[u8], a: usize, b: usize, c: usize, d: usize) -> usize
@@ -30,14 +21,12 @@ fn alike(roll: &[u8], a: usize, b: usize, c: usize, d: usize) -> usize
     ensures { result ≡ shared (between roll.now a b) (between roll.now c d) }
 {
     let most = least(b - a, d - c);
-    let mut i = 0;
-    while i < most {
+    for i in 0..most {
         if roll[a + i] != roll[c + i] {
             return i;
         }
-        i += 1;
     }
-    i
+    most
 }
 
 // Whether a Boys order and a count stand here, one byte each, and the prefactors end inside the roll.
@@ -78,8 +67,7 @@ fn short_head(roll: &[u8], scale: u32, at: usize) -> Head
 fn head(roll: &[u8], at: usize) -> Head
     ensures { result ≡ head_at roll.now at }
 {
-    let read = number::read(roll, at);
-    if let Number::Is(scale, next) = read {
+    if let Ok((scale, next)) = number::read(roll, at) {
         if is_short(roll, next) {
             return short_head(roll, scale, next);
         }
@@ -104,9 +92,8 @@ fn terms_size(roll: &[u8], at: usize, terms: u32) -> usize
     let mut from = at;
     let mut end = at;
     let mut place = at;
-    let mut left = terms;
     let mut size = 0;
-    while 0 < left {
+    for done in 0..terms {
         let h = head_at(roll, place);
         let n = alike(roll, from, end, h.from, h.end);
         let further = h.end - h.from - n;
@@ -114,7 +101,6 @@ fn terms_size(roll: &[u8], at: usize, terms: u32) -> usize
         from = h.from;
         end = h.end;
         place = h.end;
-        left -= 1;
     }
     size
 }
@@ -128,16 +114,14 @@ fn put_terms(out: &mut [u8], start: usize, roll: &[u8], at: usize, terms: u32) -
     let mut from = at;
     let mut end = at;
     let mut place = at;
-    let mut left = terms;
     let mut to = start;
-    while 0 < left {
+    for done in 0..terms {
         let h = head(roll, place);
         let n = alike(roll, from, end, h.from, h.end);
         from = h.from;
         end = h.end;
         place = h.end;
         to = put_term2(out, to, h.scale, h.boys, n as u32, &roll[from + n..end]);
-        left -= 1;
     }
     to
 }
@@ -169,36 +153,25 @@ fn fits(roll: &[u8], opened: Opened, room: usize) -> bool
 }
 
 // Writes a judged roll in form 2 from a start place on, where it fits.
-fn write(roll: &[u8], opened: Opened, out: &mut [u8], start: usize) -> Moved
+fn write(roll: &[u8], opened: Opened, out: &mut [u8], start: usize) -> Result<Moved, Fault>
     requires { May2 opened roll.now }
     ensures { MoveTold in_form2 (roll_at roll.now) out.old start result out.new }
 {
     if out.len() < start {
-        return Moved::Refused(5, 0);
+        return Err(start_beyond_end());
     }
     if fits(roll, opened, out.len() - start) {
         let length = put_roll(&mut out[start..], roll, opened);
-        let cursor = opened.cursor;
-        return Moved::Roll(length, cursor.left);
+        let terms = opened.cursor.left;
+        return Ok(Moved { length, terms });
     }
-    Moved::Refused(6, 0)
-}
-
-// The whole roll is read before anything is written.
-fn judged(roll: &[u8]) -> Opened
-    ensures { result ≡ check_of roll.now }
-{
-    roll::check(roll)
+    Err(no_room())
 }
 
 // Moves a roll from form 1 to form 2: nothing is written before the whole roll has been judged and has room.
-pub fn to_form2(roll: &[u8], out: &mut [u8], start: usize) -> Moved
+pub fn to_form2(roll: &[u8], out: &mut [u8], start: usize) -> Result<Moved, Fault>
     ensures { ToForm2Told roll.now out.old start result out.new }
 {
-    let opened = judged(roll);
-    let found = opened.found;
-    match found {
-        Opening::Roll => write(roll, opened, out, start),
-        Opening::Refused(refusal, place) => Moved::Refused(refusal, place),
-    }
+    let opened = roll::check(roll)?;
+    write(roll, opened, out, start)
 }

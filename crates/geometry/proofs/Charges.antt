@@ -2,10 +2,9 @@
 use Prim.Native.Nat.{ℕ}
 use mathlib.Core.Path.{◌≡◌, refl}
 use mathlib.Core.Bool.{true, false}
+use Rattle.std.specs.Prelude.{Option, Some, None}
 use Rattle.kind.specs.declared.Kind.{Kind}
 use Rattle.kind.specs.declared.Kind.TheVariants.{Overlap, Kinetic, Nuclear, Moment, Coulomb}
-use Rattle.kind.specs.declared.Named.{Named}
-use Rattle.kind.specs.declared.Named.TheVariants.{Is, Unknown}
 use Rattle.kind.specs.Kinds.{kind_of}
 use Rattle.geometry.specs.declared.Centre.{Centre}
 use Rattle.geometry.specs.Charges.{charge_kept}
@@ -67,10 +66,10 @@ module _ (a b c d : Centre) (p q r s : ℕ) where
   unfolding checked_table
   checked-recharged k = rw (used-recharged k, exponents-recharged k, geometry-recharged k, prefac-recharged k)
 
-  named-recharged : (n : Named) → named_table_of n (recharged a p) (recharged b q) (recharged c r) (recharged d s) ≡ named_table_of n a b c d
+  named-recharged : (n : Option Kind) → named_table_of n (recharged a p) (recharged b q) (recharged c r) (recharged d s) ≡ named_table_of n a b c d
   unfolding named_table_of
-  named-recharged (Is k) = checked-recharged k
-  named-recharged Unknown = refl
+  named-recharged (Some k) = checked-recharged k
+  named-recharged None = refl
 
   -- the table that is handed out, and its refusals
   pub table-recharged : (kind : ℕ) → prefactor_table_of kind (recharged a p) (recharged b q) (recharged c r) (recharged d s) ≡ prefactor_table_of kind a b c d

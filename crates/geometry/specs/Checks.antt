@@ -1,17 +1,14 @@
 -- 01, "Limits and refusal numbers" and "Numbers": the checks 8, 9 and 11 of a kind's floats, and the prefactor table that is handed out.
-use Rattle.std.specs.Prelude.{ℕ, Bool, List, [], ◌∷◌, ◌++◌, Float, replicate}
+use Rattle.std.specs.Prelude.{ℕ, Bool, List, [], ◌∷◌, ◌++◌, Float, Option, Some, None, Result, Ok, Err}
 use Rattle.laws.specs.Unless.{unless}
 use Rattle.kind.specs.declared.Kind.{Kind}
 use Rattle.kind.specs.declared.Kind.TheVariants.{Overlap, Kinetic, Nuclear, Moment, Coulomb}
-use Rattle.kind.specs.declared.Named.{Named}
-use Rattle.kind.specs.declared.Named.TheVariants.{Is, Unknown}
+use Rattle.kind.specs.declared.refusals.Refusal.{Refusal}
+use Rattle.kind.specs.declared.refusals.Refusal.TheVariants.{WrongKind, InputNotFinite, Exponent, ResultNotFinite}
 use Rattle.kind.specs.Kinds.{kind_of}
 use Rattle.kind.specs.Limits.{table_places}
 use Rattle.geometry.specs.declared.Centre.{Centre}
-use Rattle.geometry.specs.declared.Tabled.{Tabled}
-use Rattle.geometry.specs.declared.Tabled.TheVariants.{Given, Refused}
-use Rattle.geometry.specs.declared.Table.{Table}
-use Rattle.geometry.specs.Floats.{zero, all_finite, all_above_zero, in_places}
+use Rattle.geometry.specs.Floats.{all_finite, all_above_zero, in_places}
 use Rattle.geometry.specs.Geometry.{point_of, coordinates, geometry_numbers}
 use Rattle.geometry.specs.Tables.{prefac}
 
@@ -50,29 +47,21 @@ finite_with k a b c d entries = all_finite (geometry_numbers k a b c d ++ entrie
 unfoldable pub geometry_finite : Kind → Centre → Centre → Centre → Centre → Bool
 geometry_finite k a b c d = finite_with k a b c d (prefac k a b c d)
 
--- the number that 01 gives each case; 0 is success
-abbrev pub refusal_of : Tabled → ℕ
-refusal_of Given = 0
-refusal_of (Refused n) = n
-
--- a table in its places, or a refusal with zeros beside it
-abbrev pub given : List Float → Table
-given xs = record { found = Given; entries = in_places table_places xs }
-
-abbrev pub refused : ℕ → Table
-refused n = record { found = Refused n; entries = replicate table_places zero }
+-- a table in its places, or why there is none
+abbrev pub Table : Type 0
+Table = Result (List Float) Refusal
 
 -- 8, 9, 11
 unfoldable pub checked_table : Kind → Centre → Centre → Centre → Centre → Table
 checked_table k a b c d =
-    unless (used_finite k a b c d) (refused 8)
-    (unless (exponents_above_zero k a b c d) (refused 9)
-    (unless (geometry_finite k a b c d) (refused 11)
-    (given (prefac k a b c d))))
+    unless (used_finite k a b c d) (Err InputNotFinite)
+    (unless (exponents_above_zero k a b c d) (Err Exponent)
+    (unless (geometry_finite k a b c d) (Err ResultNotFinite)
+    (Ok (in_places table_places (prefac k a b c d)))))
 
-unfoldable pub named_table_of : Named → Centre → Centre → Centre → Centre → Table
-named_table_of (Is k) a b c d = checked_table k a b c d
-named_table_of Unknown a b c d = refused 1
+unfoldable pub named_table_of : Option Kind → Centre → Centre → Centre → Centre → Table
+named_table_of (Some k) a b c d = checked_table k a b c d
+named_table_of None a b c d = Err WrongKind
 
 -- the prefactor table: 1, 8, 9, 11
 unfoldable pub prefactor_table_of : ℕ → Centre → Centre → Centre → Centre → Table

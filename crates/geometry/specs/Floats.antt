@@ -1,5 +1,6 @@
 -- Floats of binary64: each operation is rounded once, and reads from left to right as in the Rust.
-use Rattle.std.specs.Prelude.{ℕ, ◌-◌, Bool, true, ◌&&◌, List, [], ◌∷◌, ◌++◌, Float, length, replicate}
+use Rattle.std.specs.Prelude.{ℕ, ◌-◌, Bool, List, ◌++◌, Float, length, replicate}
+use Rattle.std.specs.List.{list_all}
 use Rattle.std.specs.Float.{binary64}
 use Rattle.std.specs.Float.Ieee.{add, sub, mul, div, lt, of_bits}
 use Rattle.std.specs.Float.Ieee.Scale.{finite}
@@ -43,12 +44,10 @@ abbrev pub above_zero : Float → Bool
 above_zero x = lt zero x
 
 unfoldable pub all_finite : List Float → Bool
-all_finite [] = true
-all_finite (x ∷ xs) = finite x && all_finite xs
+all_finite xs = list_all finite xs
 
 unfoldable pub all_above_zero : List Float → Bool
-all_above_zero [] = true
-all_above_zero (x ∷ xs) = above_zero x && all_above_zero xs
+all_above_zero xs = list_all above_zero xs
 
 -- a list by value in n places, the rest 0.0 (D-61)
 abbrev pub in_places : ℕ → List Float → List Float

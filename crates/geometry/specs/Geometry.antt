@@ -1,5 +1,5 @@
 -- 01, "Numbers": the geometry numbers, each as os86.rs writes it.
-use Rattle.std.specs.Prelude.{ℕ, List, [], ◌∷◌, ◌++◌, Float}
+use Rattle.std.specs.Prelude.{List, [], ◌∷◌, ◌++◌, Float}
 use Rattle.kind.specs.declared.Kind.{Kind}
 use Rattle.kind.specs.declared.Kind.TheVariants.{Overlap, Kinetic, Nuclear, Moment, Coulomb}
 use Rattle.geometry.specs.declared.Centre.{Centre}
@@ -80,7 +80,3 @@ geometry_numbers Kinetic a b c d = pair_numbers a b
 geometry_numbers Nuclear a b c d = nuclear_numbers a b c
 geometry_numbers Moment a b c d = moment_numbers a b
 geometry_numbers Coulomb a b c d = coulomb_numbers a b c d
-
--- room for the most geometry numbers of any kind, Coulomb's
-abbrev pub number_places : ℕ
-number_places = 14

@@ -1,7 +1,7 @@
 -- What is never refused is a grouping: where each number from 1 to the number of terms gives a term, the bytes begin with the grouping of just those terms.
 use Prim.Native.Nat.{ℕ, zero, suc, ◌+◌, ◌-◌, ◌≤◌, ◌<◌}
 use mathlib.Core.Path.{◌≡◌, refl, sym, ap, ap₂, ◌∙◌}
-use mathlib.Core.Bool.{Bool, true, false, cond, ◌&&◌, ◌||◌}
+use mathlib.Core.Bool.{Bool, true, false, cond, ◌&&◌}
 use mathlib.Core.List.{List, [], ◌∷◌, ◌++◌}
 use mathlib.Core.Logic.{◌⊎◌, inl, inr}
 use native.Mathlib.Omega.{arith}
@@ -9,137 +9,80 @@ use borrow.Author.Tests.{leb-true, le-leb, eq-eqb, ne_eqb, eqb-true, eqb-false, 
 use lib.Dec.{ltb, leb, eqb}
 use lib.ListN.{length, drop, get_or}
 use Rattle.laws.specs.Unless.{unless}
-use Rattle.laws.proofs.Cases.{clash, tested, and-true-both, false-not-true}
+use Rattle.laws.proofs.Cases.{tested, and-true-both, false-not-true}
 use Rattle.laws.proofs.Lists.{drop-then}
-use Rattle.kind.specs.Limits.{most_scale}
-use Rattle.kind.specs.Kinds.{most_l, table_of, most_prefactors}
+use Rattle.kind.specs.Kinds.{most_l}
 use Rattle.kind.specs.declared.Kind.TheVariants.{Coulomb}
-use Rattle.number.specs.declared.Number.{Number}
-use Rattle.number.specs.declared.Number.TheVariants as number
-use Rattle.number.specs.Numbers.{Bytes, bytes_of, read_at}
+use Rattle.number.specs.Numbers.{Bytes, bytes_of}
 use Rattle.term.specs.Terms.{Term, held}
-use Rattle.roll.specs.declared.field.Field.{Field}
-use Rattle.roll.specs.declared.field.Field.TheVariants as field
+use Rattle.roll.specs.Field as field
+use Rattle.std.specs.Prelude.{None, Ok, is_some, is_ok}
+use Rattle.kind.specs.declared.refusals.Refusal.{Refusal}
+use Rattle.kind.specs.declared.refusals.Refusal.TheVariants.{BadRoll, ComponentNumber}
 use Rattle.roll.specs.Bytes.{term_bytes}
 use Rattle.roll.specs.Fits.{TermFits, TermsFit}
-use Rattle.roll.specs.Reading.{Reading, got, refused, wrong_place, opened, onward, and_then, before, within_at, prefactors_at, most_boys, count_at, boys_at, term_at}
+use Rattle.roll.specs.Reading.{Reading, got, refused, and_then, before, within_at, term_at}
 use Rattle.roll.proofs.FieldLaws.{taken}
 use Rattle.roll.proofs.Filling.{onward-is, and_then-is}
 use Rattle.roll.proofs.Written.{taken-bytes, term-bytes}
 use Rattle.grouping.specs.declared.restoring.Passed.{Passed}
-use Rattle.grouping.specs.declared.restoring.Restored.{Restored}
 use Rattle.grouping.specs.Grouping.{Entry, grouping, entry_bytes, entries_bytes}
-use Rattle.grouping.specs.Restoring.{refused_term, restored_term, entry_at, none_passed, passed_on, behind, is_second, next_at, on_entry, restored_from, restored_of}
+use Rattle.grouping.specs.Restoring.{Restored, refused_term, entry_at, none_passed, passed_on, behind, is_second, next_at, on_entry, restored_from, restored_of}
 use Rattle.grouping.proofs.GroupedLaws.{fit-orders}
 use Rattle.grouping.proofs.InOrder.{after, after-higher, after_same, Ordered, grouping-ordered, picked, each-once, NumbersWithin, grouping-within}
 use Rattle.grouping.proofs.OwnList.{EntriesAt, run-sought}
 
--- ---- a refusal of reading is never 0
-
-abbrev Numbered : {A : Type 0} → Reading A → Type 0
-Numbered x = (p : ℕ) → x ≡ refused 0 p → ⊥
-
-field-numbered : (s : List ℕ) (at low high p : ℕ) → within_at s at low high ≡ field.Refused 0 p → ⊥
-unfolding within_at
-field-numbered s at low high p e = by (read_at s at) e
-  where
-    limit : (n next : ℕ) (b : Bool) → cond b (field.Refused 7 (wrong_place at next)) (field.Is n next) ≡ field.Refused 0 p → ⊥
-    limit n next true e = let same : ◌≡◌ {A = ℕ} 7 0 = cc in omega arith
-    limit n next false e = clash (cc)
-
-    by : (q : Number) → opened q at low high ≡ field.Refused 0 p → ⊥
-    by (number.Is n next) e = limit n next (ltb n low || ltb high n) e
-    by number.Ended e = let same : ◌≡◌ {A = ℕ} 14 0 = cc in omega arith
-    by number.NotShortest e = let same : ◌≡◌ {A = ℕ} 7 0 = cc in omega arith
-    by number.TooLarge e = let same : ◌≡◌ {A = ℕ} 7 0 = cc in omega arith
-
-onward-numbered : {A : Type 0} (x : Field) (f : ℕ → ℕ → Reading A) → ((p : ℕ) → x ≡ field.Refused 0 p → ⊥) → ((n next : ℕ) → Numbered (f n next)) → Numbered (onward x f)
-onward-numbered (field.Is n next) f first rest = rest n next
-onward-numbered (field.Refused r place) f first rest = λ p e. let none : r ≡ 0 = cc in first place (ap (λ (r : ℕ). field.Refused r place) none)
-
-and_then-numbered : {A B : Type 0} (x : Reading A) (f : A → ℕ → Reading B) → Numbered x → ((a : A) (next : ℕ) → Numbered (f a next)) → Numbered (and_then x f)
-and_then-numbered (got a next) f first rest = rest a next
-and_then-numbered (refused r place) f first rest = λ p e. let none : r ≡ 0 = cc in first place (ap (λ (r : ℕ). refused r place) none)
-
-got-numbered : {A : Type 0} (a : A) (next : ℕ) → Numbered (got a next)
-got-numbered a next p e = clash (cc)
-
-module _ (s : List ℕ) (l : ℕ) where
-  prefactors-numbered : (count table at : ℕ) → Numbered (prefactors_at s at count table)
-  unfolding prefactors_at
-  prefactors-numbered zero table at = got-numbered [] at
-  prefactors-numbered (suc count) table at =
-      onward-numbered
-      (within_at s at 0 (table - 1))
-      (λ p next. before (p ∷ []) (prefactors_at s next count table))
-      (field-numbered s at 0 (table - 1))
-      (λ p next. and_then-numbered (prefactors_at s next count table) (λ ys end. got ((p ∷ []) ++ ys) end) (prefactors-numbered count table next) (λ ys end. got-numbered ((p ∷ []) ++ ys) end))
-
-  term-numbered : (at : ℕ) → Numbered (term_at s at Coulomb l)
-  unfolding term_at boys_at count_at
-  term-numbered at =
-      onward-numbered (within_at s at 1 most_scale) (λ scale next. boys_at s next Coulomb l scale) (field-numbered s at 1 most_scale) (λ scale a.
-      onward-numbered (within_at s a 0 (most_boys Coulomb l)) (λ boys next. count_at s next Coulomb l scale boys) (field-numbered s a 0 (most_boys Coulomb l)) (λ boys b.
-      onward-numbered (within_at s b 0 (most_prefactors Coulomb l)) (λ count next. and_then (prefactors_at s next count (table_of Coulomb)) (λ ps end. got (record { scale = scale; boys = boys; prefactors = ps }) end)) (field-numbered s b 0 (most_prefactors Coulomb l)) (λ count c.
-      and_then-numbered (prefactors_at s c count (table_of Coulomb)) (λ ps end. got (record { scale = scale; boys = boys; prefactors = ps }) end) (prefactors-numbered count (table_of Coulomb) c) (λ ps end. got-numbered (record { scale = scale; boys = boys; prefactors = ps }) end))))
-
-  entry-numbered : (terms at : ℕ) → Numbered (entry_at s l terms at)
-  unfolding entry_at
-  entry-numbered terms at =
-      onward-numbered (within_at s at 1 terms) (λ number next. and_then (term_at s next Coulomb l) (λ t end. got (record { number = number; term = t }) end)) (field-numbered s at 1 terms) (λ number next.
-      and_then-numbered (term_at s next Coulomb l) (λ t end. got (record { number = number; term = t }) end) (term-numbered next) (λ t end. got-numbered (record { number = number; term = t }) end))
-
 -- ---- what is not refused stands in order, and the number asked stands there once
 
 module _ (b : List ℕ) (l terms asked : ℕ) where
-  stood : (e : Entry) (p : Passed) (at next : ℕ) (rest : Entry → ℕ → Restored) → entry_at b l terms at ≡ got e next → (on_entry (next_at b l terms asked p at) rest).refusal ≡ 0 → (behind p e.number e.term.boys ≡ true) × (is_second p asked e.number ≡ false) × ((rest e next).refusal ≡ 0)
+  stood : (e : Entry) (p : Passed) (at next : ℕ) (rest : Entry → ℕ → Restored) → entry_at b l terms at ≡ got e next → is_ok (on_entry (next_at b l terms asked p at) rest) ≡ true → (behind p e.number e.term.boys ≡ true) × (is_second p asked e.number ≡ false) × (is_ok (rest e next) ≡ true)
   unfolding next_at
   stood e p at next rest is none = by (behind p e.number e.term.boys) (is_second p asked e.number) refl refl (rw is at none)
     where
-      by : (x y : Bool) → behind p e.number e.term.boys ≡ x → is_second p asked e.number ≡ y → (on_entry (cond x (cond y (refused 7 at) (got e next)) (refused 7 at)) rest).refusal ≡ 0 → (behind p e.number e.term.boys ≡ true) × (is_second p asked e.number ≡ false) × ((rest e next).refusal ≡ 0)
-      by true true x y none = absurd (omega arith)
+      by : (x y : Bool) → behind p e.number e.term.boys ≡ x → is_second p asked e.number ≡ y → is_ok (on_entry (cond x (cond y (refused BadRoll at) (got e next)) (refused BadRoll at)) rest) ≡ true → (behind p e.number e.term.boys ≡ true) × (is_second p asked e.number ≡ false) × (is_ok (rest e next) ≡ true)
+      by true true x y none = false-not-true none
       by true false x y none = (x, y, none)
-      by false y x z none = absurd (omega arith)
+      by false y x z none = false-not-true none
 
-  unread : (p : Passed) (at n place : ℕ) (rest : Entry → ℕ → Restored) → entry_at b l terms at ≡ refused n place → (on_entry (next_at b l terms asked p at) rest).refusal ≡ 0 → n ≡ 0
+  unread : (p : Passed) (at : ℕ) (n : Refusal) (place : ℕ) (rest : Entry → ℕ → Restored) → entry_at b l terms at ≡ refused n place → is_ok (on_entry (next_at b l terms asked p at) rest) ≡ true → ⊥
   unfolding next_at
-  unread p at n place rest is none = rw is at none
+  unread p at n place rest is none = false-not-true (rw is at none)
 
-  accepted-entries : (left : ℕ) (p : Passed) (at : ℕ) → (restored_from b l terms asked p at left).refusal ≡ 0 → (es : List Entry) × (length es ≡ left) × EntriesAt b l terms at es × Ordered p.boys p.number es
+  accepted-entries : (left : ℕ) (p : Passed) (at : ℕ) → is_ok (restored_from b l terms asked p at left) ≡ true → (es : List Entry) × (length es ≡ left) × EntriesAt b l terms at es × Ordered p.boys p.number es
   unfolding restored_from
   accepted-entries zero p at none = ([], refl, tt, tt)
   accepted-entries (suc left) p at none = by (entry_at b l terms at) refl (λ q next. accepted-entries left q next)
     where
-      by : (x : Reading Entry) → entry_at b l terms at ≡ x → ((q : Passed) (next : ℕ) → (restored_from b l terms asked q next left).refusal ≡ 0 → (es : List Entry) × (length es ≡ left) × EntriesAt b l terms next es × Ordered q.boys q.number es) → (es : List Entry) × (length es ≡ suc left) × EntriesAt b l terms at es × Ordered p.boys p.number es
+      by : (x : Reading Entry) → entry_at b l terms at ≡ x → ((q : Passed) (next : ℕ) → is_ok (restored_from b l terms asked q next left) ≡ true → (es : List Entry) × (length es ≡ left) × EntriesAt b l terms next es × Ordered q.boys q.number es) → (es : List Entry) × (length es ≡ suc left) × EntriesAt b l terms at es × Ordered p.boys p.number es
       by (got e next) is go =
           let s = stood e p at next (λ e next. restored_from b l terms asked (passed_on p asked e.number (held e.term)) next left) is none in
           let r = go (passed_on p asked e.number (held e.term)) next s.2 in
           (e ∷ r.0, ap suc r.1, (next, is, r.2), (s.0, r.3))
-      by (refused n place) is go = absurd (entry-numbered b l terms at place (is ∙ ap (λ (n : ℕ). refused n place) (unread p at n place (λ e next. restored_from b l terms asked (passed_on p asked e.number (held e.term)) next left) is none)))
+      by (refused n place) is go = absurd (unread p at n place (λ e next. restored_from b l terms asked (passed_on p asked e.number (held e.term)) next left) is none)
 
-  accepted-found : (es : List Entry) (p : Passed) (at : ℕ) → EntriesAt b l terms at es → p.found ≡ true → (restored_from b l terms asked p at (length es)).refusal ≡ 0 → picked asked es ≡ []
+  accepted-found : (es : List Entry) (p : Passed) (at : ℕ) → EntriesAt b l terms at es → is_some p.found ≡ true → is_ok (restored_from b l terms asked p at (length es)) ≡ true → picked asked es ≡ []
   unfolding restored_from picked
   accepted-found [] p at reads found none = refl
   accepted-found (e ∷ es) p at reads found none =
       let s = stood e p at reads.0 (λ e next. restored_from b l terms asked (passed_on p asked e.number (held e.term)) next (length es)) reads.1 none in
       let other : eqb e.number asked ≡ false = rw found at s.1 in
-      let kept : (passed_on p asked e.number (held e.term)).found ≡ true = rw other found in
+      let kept : is_some (passed_on p asked e.number (held e.term)).found ≡ true = rw other found in
       rw other (accepted-found es (passed_on p asked e.number (held e.term)) reads.0 reads.2 kept s.2)
 
-  accepted-once : (es : List Entry) (p : Passed) (at : ℕ) → EntriesAt b l terms at es → p.found ≡ false → (restored_from b l terms asked p at (length es)).refusal ≡ 0 → (t : Term) × (picked asked es ≡ t ∷ [])
+  accepted-once : (es : List Entry) (p : Passed) (at : ℕ) → EntriesAt b l terms at es → p.found ≡ None → is_ok (restored_from b l terms asked p at (length es)) ≡ true → (t : Term) × (picked asked es ≡ t ∷ [])
   unfolding restored_from picked
-  accepted-once [] p at reads sought none = let seven : ◌≡◌ {A = ℕ} 7 0 = rw sought at none in absurd (omega arith)
+  accepted-once [] p at reads sought none = false-not-true (rw sought at none)
   accepted-once (e ∷ es) p at reads sought none =
       let on : Passed = passed_on p asked e.number (held e.term) in
       let s = stood e p at reads.0 (λ e next. restored_from b l terms asked (passed_on p asked e.number (held e.term)) next (length es)) reads.1 none in
       by (eqb e.number asked) refl (λ f. accepted-once es on reads.0 reads.2 f s.2) s.2
     where
-      by : (y : Bool) → eqb e.number asked ≡ y → ((passed_on p asked e.number (held e.term)).found ≡ false → (t : Term) × (picked asked es ≡ t ∷ [])) → (restored_from b l terms asked (passed_on p asked e.number (held e.term)) reads.0 (length es)).refusal ≡ 0 → (t : Term) × (cond y (e.term ∷ picked asked es) (picked asked es) ≡ t ∷ [])
+      by : (y : Bool) → eqb e.number asked ≡ y → ((passed_on p asked e.number (held e.term)).found ≡ None → (t : Term) × (picked asked es ≡ t ∷ [])) → is_ok (restored_from b l terms asked (passed_on p asked e.number (held e.term)) reads.0 (length es)) ≡ true → (t : Term) × (cond y (e.term ∷ picked asked es) (picked asked es) ≡ t ∷ [])
       by true same go none =
           let on : Passed = passed_on p asked e.number (held e.term) in
-          let now-found : on.found ≡ true = rw same in
+          let now-found : is_some on.found ≡ true = rw same in
           (e.term, ap (λ (l : List Term). e.term ∷ l) (accepted-found es on reads.0 reads.2 now-found none))
-      by false other go none = let not_yet : (passed_on p asked e.number (held e.term)).found ≡ false = rw other sought in go not_yet
+      by false other go none = let not_yet : (passed_on p asked e.number (held e.term)).found ≡ None = rw other sought in go not_yet
 
 -- ---- what is read is bytes within the limits
 
@@ -315,14 +258,14 @@ entries-grouped l terms es ts d ordered within long fit once = same_lists es (gr
         picked_none terms n es within out ∙ sym (picked_none terms n (grouping l ts) inside out))
 
 -- L and the number are in order where nothing is refused, and the entries tell
-accepted-start : (b : List ℕ) (l terms n : ℕ) → (restored_of b l terms n).refusal ≡ 0 → (l ≤ most_l Coulomb) × (restored_of b l terms n ≡ restored_from b l terms n none_passed 0 terms)
+accepted-start : (b : List ℕ) (l terms n : ℕ) → is_ok (restored_of b l terms n) ≡ true → (l ≤ most_l Coulomb) × (restored_of b l terms n ≡ restored_from b l terms n none_passed 0 terms)
 unfolding restored_of unless
 accepted-start b l terms n none = by (leb l (most_l Coulomb)) (leb 1 n && leb n terms) refl none
   where
-    by : (x y : Bool) → leb l (most_l Coulomb) ≡ x → (unless x (refused_term 7 0) (unless y (refused_term 13 0) (restored_from b l terms n none_passed 0 terms))).refusal ≡ 0 → (l ≤ most_l Coulomb) × (unless x (refused_term 7 0) (unless y (refused_term 13 0) (restored_from b l terms n none_passed 0 terms)) ≡ restored_from b l terms n none_passed 0 terms)
+    by : (x y : Bool) → leb l (most_l Coulomb) ≡ x → is_ok (unless x (refused_term BadRoll 0) (unless y (refused_term ComponentNumber 0) (restored_from b l terms n none_passed 0 terms))) ≡ true → (l ≤ most_l Coulomb) × (unless x (refused_term BadRoll 0) (unless y (refused_term ComponentNumber 0) (restored_from b l terms n none_passed 0 terms)) ≡ restored_from b l terms n none_passed 0 terms)
     by true true e none = (leb-true l (most_l Coulomb) e, refl)
-    by true false e none = absurd (omega arith)
-    by false y e none = absurd (omega arith)
+    by true false e none = false-not-true none
+    by false y e none = false-not-true none
 
 -- what a host has that asks for each number and is never refused: these terms, told by number, and their grouping in the front of the bytes
 pub record Accepted (b : List ℕ) (l terms : ℕ) (d : Term) : Type 0 where
@@ -331,15 +274,15 @@ pub record Accepted (b : List ℕ) (l terms : ℕ) (d : Term) : Type 0 where
   pub small : l ≤ most_l Coulomb
   pub long : length ts ≡ terms
   pub fit : TermsFit Coulomb l ts
-  pub told : (n : ℕ) → 1 ≤ n → n ≤ terms → restored_of b l terms n ≡ restored_term (held (get_or ts (n - 1) d))
+  pub told : (n : ℕ) → 1 ≤ n → n ≤ terms → restored_of b l terms n ≡ Ok (held (get_or ts (n - 1) d))
   pub bytes : b ≡ entries_bytes (grouping l ts) ++ rest
 
-of-entries : (b : List ℕ) (l terms : ℕ) (d : Term) → Bytes b → l ≤ most_l Coulomb → ((n : ℕ) → 1 ≤ n → n ≤ terms → (restored_of b l terms n).refusal ≡ 0) → ((n : ℕ) → 1 ≤ n → n ≤ terms → (restored_from b l terms n none_passed 0 terms).refusal ≡ 0) → (es : List Entry) → length es ≡ terms → EntriesAt b l terms 0 es → Ordered 0 0 es → Accepted b l terms d
+of-entries : (b : List ℕ) (l terms : ℕ) (d : Term) → Bytes b → l ≤ most_l Coulomb → ((n : ℕ) → 1 ≤ n → n ≤ terms → is_ok (restored_of b l terms n) ≡ true) → ((n : ℕ) → 1 ≤ n → n ≤ terms → is_ok (restored_from b l terms n none_passed 0 terms) ≡ true) → (es : List Entry) → length es ≡ terms → EntriesAt b l terms 0 es → Ordered 0 0 es → Accepted b l terms d
 of-entries b l terms d bytes small never start es count reads ordered =
     let read = entries-bytes b l terms bytes es 0 reads in
     let each : (m : ℕ) → 1 ≤ m → m < 1 + terms → (t : Term) × Picked m t =
     λ m above below.
-    let none : (restored_from b l terms m none_passed 0 (length es)).refusal ≡ 0 = rw count (start m above (omega arith)) in
+    let none : is_ok (restored_from b l terms m none_passed 0 (length es)) ≡ true = rw count (start m above (omega arith)) in
     let one = accepted-once b l terms m es none_passed 0 reads refl none in
     (one.0, (one.1, picked_fits l m es one.0 [] read.2 one.1)) in
     let list = listed Picked d terms 1 each in
@@ -363,8 +306,8 @@ of-entries b l terms d bytes small never start es count reads ordered =
     Picked : ℕ → Term → Type 0
     Picked n t = (picked n es ≡ t ∷ []) × TermFits Coulomb l t
 
-pub accepted : (b : List ℕ) (l terms : ℕ) (d : Term) → Bytes b → 1 ≤ terms → ((n : ℕ) → 1 ≤ n → n ≤ terms → (restored_of b l terms n).refusal ≡ 0) → Accepted b l terms d
+pub accepted : (b : List ℕ) (l terms : ℕ) (d : Term) → Bytes b → 1 ≤ terms → ((n : ℕ) → 1 ≤ n → n ≤ terms → is_ok (restored_of b l terms n) ≡ true) → Accepted b l terms d
 accepted b l terms d bytes some never =
-    let start : (n : ℕ) → 1 ≤ n → n ≤ terms → (restored_from b l terms n none_passed 0 terms).refusal ≡ 0 = λ n above below. ap (λ (r : Restored). r.refusal) (sym (accepted-start b l terms n (never n above below)).1) ∙ never n above below in
+    let start : (n : ℕ) → 1 ≤ n → n ≤ terms → is_ok (restored_from b l terms n none_passed 0 terms) ≡ true = λ n above below. ap (λ (r : Restored). is_ok r) (sym (accepted-start b l terms n (never n above below)).1) ∙ never n above below in
     let x = accepted-entries b l terms 1 terms none_passed 0 (start 1 (omega arith) some) in
     of-entries b l terms d bytes (accepted-start b l terms 1 (never 1 (omega arith) some)).0 never start x.0 x.1 x.2 x.3

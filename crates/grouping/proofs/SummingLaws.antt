@@ -8,11 +8,14 @@ use borrow.Author.Tests.{eqb-true, ltb-true, ltb-false}
 use lib.Dec.{eqb}
 use lib.Ieee.{Float}
 use lib.ListN.{length, get_or, drop}
+use Rattle.std.specs.Prelude.{Option, Some, None}
+use Rattle.laws.proofs.Cases.{clash}
+use Rattle.laws.proofs.Counting.{left_one, left-none}
 use Rattle.laws.proofs.Lists.{drop-after}
 use Rattle.kind.specs.Kinds.{most_l}
 use Rattle.kind.specs.declared.Kind.TheVariants.{Coulomb}
 use Rattle.number.specs.Numbers.{Bytes, one_byte, bytes_of, length_of, higher, read_at}
-use Rattle.number.specs.declared.Number.TheVariants.{Is}
+use Rattle.number.specs.Read.{Is}
 use Rattle.number.proofs.Laws.{reads-back-from}
 use Rattle.number.proofs.Reading.{read_one, read_more, higher-last, higher-more}
 use Rattle.term.specs.Terms.{Term}
@@ -32,25 +35,28 @@ use Rattle.grouping.specs.inner.Laying.{entry_head, entries_again, ShortTold}
 -- ---- one entry after the other
 
 -- a number of one, two or three bytes, by its bytes
-pub short-not : (b : List ℕ) (at : ℕ) → ShortTold b at 0
-short-not b at = record { end = λ some. absurd (some refl) }
+pub short-not : (b : List ℕ) (at : ℕ) → ShortTold b at None
+short-not b at = record { end = λ n none. absurd (clash (cc)) }
+
+told : (b : List ℕ) (at n : ℕ) → (seen_at b at).next ≡ n → ShortTold b at (Some n)
+told b at n e = record { end = λ m same. let is : n ≡ m = cc in e ∙ is }
 
 module _ (b : List ℕ) (at x : ℕ) (inside : at < length b) (first : x ≡ get_or b at 0) where
   seen-is : (n next : ℕ) → Is n next ≡ read_at b at → (seen_at b at).next ≡ next
   unfolding seen_at seen_of
   seen-is n next e = rw (← e)
 
-  pub short-one : (t : Bool) → t ≡ one_byte x → t ≡ true → ShortTold b at 1
-  short-one t e p = record { end = λ some. (seen-is x (at + 1) (read_one b at x inside first (ltb-true x 128 (sym e ∙ p))), omega arith) }
+  pub short-one : (t : Bool) → t ≡ one_byte x → t ≡ true → ShortTold b at (Some (at + 1))
+  short-one t e p = told b at (at + 1) (seen-is x (at + 1) (read_one b at x inside first (ltb-true x 128 (sym e ∙ p))))
 
   module _ (t : Bool) (e : t ≡ one_byte x) (p : t ≡ false) (room : 3 ≤ length b - at) (y : ℕ) (second : y ≡ get_or b (at + 1) 0) (some : y ≡ 0 → ⊥) where
-    pub short-two : (u : Bool) → u ≡ one_byte y → u ≡ true → ShortTold b at 2
+    pub short-two : (u : Bool) → u ≡ one_byte y → u ≡ true → ShortTold b at (Some (at + 2))
     short-two u f q =
         let more : Is y (at + 1 + 1) ≡ higher (drop (at + 1) b) (at + 1) 3 = higher-last b (at + 1) 3 y (omega arith) second (λ z. omega (arith, z)) some (ltb-true y 128 (sym f ∙ q)) in
         let two : at + 1 + 1 ≡ at + 2 = omega arith in
-        record { end = λ z. (seen-is (x % 128 + 128 * y) (at + 1 + 1) (read_more b at x (at + 1) t (Is (x % 128 + 128 * y) (at + 1 + 1)) (Is y (at + 1 + 1)) inside first refl e p more refl) ∙ two, omega arith) }
+        told b at (at + 2) (seen-is (x % 128 + 128 * y) (at + 1 + 1) (read_more b at x (at + 1) t (Is (x % 128 + 128 * y) (at + 1 + 1)) (Is y (at + 1 + 1)) inside first refl e p more refl) ∙ two)
 
-    pub short-three : (u : Bool) (w : ℕ) (v : Bool) → w ≡ get_or b (at + 2) 0 → u ≡ one_byte y → u ≡ false → (w ≡ 0 → ⊥) → v ≡ one_byte w → v ≡ true → ShortTold b at 3
+    pub short-three : (u : Bool) (w : ℕ) (v : Bool) → w ≡ get_or b (at + 2) 0 → u ≡ one_byte y → u ≡ false → (w ≡ 0 → ⊥) → v ≡ one_byte w → v ≡ true → ShortTold b at (Some (at + 3))
     short-three u w v third f q some-too g r =
         let two : at + 1 + 1 ≡ at + 2 = omega arith in
         let here : w ≡ get_or b (at + 1 + 1) 0 = third ∙ ap (λ (n : ℕ). get_or b n 0) (sym two) in
@@ -58,33 +64,34 @@ module _ (b : List ℕ) (at x : ℕ) (inside : at < length b) (first : x ≡ get
         let high : 128 ≤ y = ltb-false y 128 (sym f ∙ q) in
         let more : Is (y % 128 + 128 * w) (at + 1 + 1 + 1) ≡ higher (drop (at + 1) b) (at + 1) 3 = higher-more b (at + 1) 3 2 y (Is (y % 128 + 128 * w) (at + 1 + 1 + 1)) (Is w (at + 1 + 1 + 1)) (omega arith) second (λ z. omega (arith, z)) refl high last refl in
         let three : at + 1 + 1 + 1 ≡ at + 3 = omega arith in
-        record { end = λ z. (seen-is (x % 128 + 128 * (y % 128 + 128 * w)) (at + 1 + 1 + 1) (read_more b at x (at + 1) t (Is (x % 128 + 128 * (y % 128 + 128 * w)) (at + 1 + 1 + 1)) (Is (y % 128 + 128 * w) (at + 1 + 1 + 1)) inside first refl e p more refl) ∙ three, omega arith) }
+        told b at (at + 3) (seen-is (x % 128 + 128 * (y % 128 + 128 * w)) (at + 1 + 1 + 1) (read_more b at x (at + 1) t (Is (x % 128 + 128 * (y % 128 + 128 * w)) (at + 1 + 1 + 1)) (Is (y % 128 + 128 * w) (at + 1 + 1 + 1)) inside first refl e p more refl) ∙ three)
 
 pub end_seen : (b : List ℕ) (at : ℕ) (n : Seen) → n ≡ seen_at b at → n.next ≡ (seen_at b at).next
 end_seen b at n e = ap (λ (s : Seen). s.next) e
 
-pub end_short : (b : List ℕ) (at r : ℕ) → ShortTold b at r → (r ≡ 0 → ⊥) → at + r ≡ (seen_at b at).next
-end_short b at r told some = sym (told.end some).0
-
-pub end-inside : (b : List ℕ) (at r : ℕ) → ShortTold b at r → (r ≡ 0 → ⊥) → at + r ≤ length b
-end-inside b at r told some = (told.end some).1
+pub end_short : (b : List ℕ) (at n : ℕ) (r : Option ℕ) → ShortTold b at r → r ≡ Some n → n ≡ (seen_at b at).next
+end_short b at n r told is = sym (told.end n is)
 
 pub entry-is : (b : List ℕ) (at n : ℕ) (h : Head) → n ≡ (seen_at b at).next → h ≡ head_at b n → h ≡ entry_head b at
 unfolding entry_head
 entry-is b at n h e f = f ∙ ap (head_at b) e
 
-entries-turn : (b : List ℕ) (at left : ℕ) → 0 < left → entries_again b at left ≡ head_term b (entry_head b at) ∷ entries_again b (entry_head b at).end (left - 1)
+entries-turn : (b : List ℕ) (at terms done : ℕ) → done < terms → entries_again b at (terms - done) ≡ head_term b (entry_head b at) ∷ entries_again b (entry_head b at).end (terms - (done + 1))
 unfolding entries_again
-entries-turn b at left some = let more : left ≡ suc (left - 1) = omega arith in ap (λ (n : ℕ). entries_again b at n) more
+entries-turn b at terms done some = rw (left_one terms done some)
 
-module _ (b : List ℕ) (at left : ℕ) (table : List Float) (s : Float) (boys : List Float) (sum whole : Float) where
-  pub sum_more : (h : Head) (v : Float) → 0 < left → h ≡ entry_head b at → v ≡ own_order_of table s boys (head_term b h) → sum_from (own_order_of table s boys) (entries_again b at left) sum ≡ whole → sum_from (own_order_of table s boys) (entries_again b h.end (left - 1)) (sum ⊕ v) ≡ whole
+entries_none : (b : List ℕ) (at terms done : ℕ) → terms ≤ done → entries_again b at (terms - done) ≡ []
+unfolding entries_again
+entries_none b at terms done none = rw (left-none terms done none)
+
+module _ (b : List ℕ) (at terms done : ℕ) (table : List Float) (s : Float) (boys : List Float) (sum whole : Float) where
+  pub sum_more : (h : Head) (v : Float) → done < terms → h ≡ entry_head b at → v ≡ own_order_of table s boys (head_term b h) → sum_from (own_order_of table s boys) (entries_again b at (terms - done)) sum ≡ whole → sum_from (own_order_of table s boys) (entries_again b h.end (terms - (done + 1))) (sum ⊕ v) ≡ whole
   unfolding sum_from
-  sum_more h v p e f q = rw (f, e) (rw (entries-turn b at left p) at q)
+  sum_more h v p e f q = rw (f, e) (rw (entries-turn b at terms done p) at q)
 
-  pub sum_done : left ≤ 0 → sum_from (own_order_of table s boys) (entries_again b at left) sum ≡ whole → sum ≡ whole
-  unfolding sum_from entries_again
-  sum_done p q = let none : left ≡ 0 = omega arith in rw none at q
+  pub sum_done : terms ≤ done → sum_from (own_order_of table s boys) (entries_again b at (terms - done)) sum ≡ whole → sum ≡ whole
+  unfolding sum_from
+  sum_done p q = rw (entries_none b at terms done p) at q
 
 -- ---- the groups one after the other
 

@@ -1,22 +1,25 @@
 -- 02, Q-9: "Each grouped entry keeps its number, so that history order can be restored": the term with a number, told from a grouping that may be anything.
 -- Of a grouping that is none, the first fault in reading order is told.
-use Rattle.std.specs.Prelude.{ℕ, zero, suc, Bool, true, false, cond, ◌&&◌, ◌||◌, List, ltb, leb, eqb}
+use Rattle.std.specs.Prelude.{ℕ, zero, suc, Bool, cond, is_some, ◌&&◌, ◌||◌, List, ltb, leb, eqb, Option, Some, None, Result, Ok, Err}
 use Rattle.laws.specs.Unless.{unless}
 use Rattle.kind.specs.Kinds.{most_l}
 use Rattle.kind.specs.declared.Kind.TheVariants.{Coulomb}
+use Rattle.kind.specs.declared.refusals.Refusal.{Refusal}
+use Rattle.kind.specs.declared.refusals.Refusal.TheVariants.{BadRoll, ComponentNumber}
+use Rattle.kind.specs.declared.refusals.Fault.{Fault}
 use Rattle.term.specs.declared.Term.{Term as Held}
-use Rattle.term.specs.Terms.{held, no_term}
+use Rattle.term.specs.Terms.{held}
+use Rattle.roll.specs.Field.{fault}
 use Rattle.roll.specs.Reading.{Reading, got, refused, onward, and_then, within_at, term_at}
-use Rattle.grouping.specs.declared.restoring.Restored.{Restored}
 use Rattle.grouping.specs.declared.restoring.Passed.{Passed}
 use Rattle.grouping.specs.Grouping.{Entry}
 
--- zeros beside a refusal, and place 0 beside a term
-abbrev pub refused_term : ℕ → ℕ → Restored
-refused_term r place = record { refusal = r; place = place; term = no_term }
+-- the term with a number, or why there is none, with its place
+abbrev pub Restored : Type 0
+Restored = Result Held Fault
 
-abbrev pub restored_term : Held → Restored
-restored_term t = record { refusal = 0; place = 0; term = t }
+abbrev pub refused_term : Refusal → ℕ → Restored
+refused_term r place = Err (fault r place)
 
 -- ---- an entry
 
@@ -31,11 +34,11 @@ entry_at b l terms at =
 
 -- the first entry follows Boys order 0 and number 0; the number asked has not come up
 abbrev pub none_passed : Passed
-none_passed = record { boys = 0; number = 0; found = false; term = no_term }
+none_passed = record { boys = 0; number = 0; found = None }
 
 -- the last one's Boys order and number, and the term with the number asked
 abbrev pub passed_on : Passed → ℕ → ℕ → Held → Passed
-passed_on p asked number t = record { boys = t.boys; number = number; found = cond (eqb number asked) true p.found; term = cond (eqb number asked) t p.term }
+passed_on p asked number t = record { boys = t.boys; number = number; found = cond (eqb number asked) (Some t) p.found }
 
 -- an entry stands behind the one before: its Boys order is higher, or the same and its number higher
 abbrev pub behind : Passed → ℕ → ℕ → Bool
@@ -43,11 +46,11 @@ behind p number boys = ltb p.boys boys || (eqb p.boys boys && ltb p.number numbe
 
 -- a second entry with the number asked
 abbrev pub is_second : Passed → ℕ → ℕ → Bool
-is_second p asked number = p.found && eqb number asked
+is_second p asked number = is_some p.found && eqb number asked
 
 -- both are 7 where the entry begins
 abbrev pub standing : Passed → ℕ → ℕ → Entry → ℕ → Reading Entry
-standing p asked at e end = cond (behind p e.number e.term.boys) (cond (is_second p asked e.number) (refused 7 at) (got e end)) (refused 7 at)
+standing p asked at e end = cond (behind p e.number e.term.boys) (cond (is_second p asked e.number) (refused BadRoll at) (got e end)) (refused BadRoll at)
 
 unfoldable pub next_at : List ℕ → ℕ → ℕ → ℕ → Passed → ℕ → Reading Entry
 next_at b l terms asked p at = and_then (entry_at b l terms at) (λ e end. standing p asked at e end)
@@ -59,8 +62,12 @@ on_entry (got e next) rest = rest e next
 on_entry (refused r place) rest = refused_term r place
 
 -- after all entries the term with the number asked; where none had it, 7 at the place after the last. What follows is not looked at
+abbrev pub found_or : Option Held → ℕ → Restored
+found_or (Some t) at = Ok t
+found_or None at = refused_term BadRoll at
+
 abbrev pub ended : Passed → ℕ → Restored
-ended p at = cond p.found (restored_term p.term) (refused_term 7 at)
+ended p at = found_or p.found at
 
 unfoldable pub restored_from : List ℕ → ℕ → ℕ → ℕ → Passed → ℕ → ℕ → Restored
 restored_from b l terms asked p at zero = ended p at
@@ -69,6 +76,6 @@ restored_from b l terms asked p at (suc left) = on_entry (next_at b l terms aske
 -- 7 at 0 for L above Coulomb's, then 13 for a number that is not from 1 to the number of terms; then so many entries are read from place 0 on (D-98)
 unfoldable pub restored_of : List ℕ → ℕ → ℕ → ℕ → Restored
 restored_of b l terms number =
-    unless (leb l (most_l Coulomb)) (refused_term 7 0)
-    (unless (leb 1 number && leb number terms) (refused_term 13 0)
+    unless (leb l (most_l Coulomb)) (refused_term BadRoll 0)
+    (unless (leb 1 number && leb number terms) (refused_term ComponentNumber 0)
     (restored_from b l terms number none_passed 0 terms))

@@ -7,17 +7,17 @@ ghost use Rattle.grouping.specs.inner.Grouped.{table_of, bars_of, factor_of, sum
 ghost use Rattle.grouping.specs.inner.Laying.{entries_again};
 
 use geometry::Centre;
-use integrals::{Terms, Value};
-use kind::Kind;
+use integrals::Terms;
+use kind::{Fault, Kind, Refusal};
 use laying::group;
-use roll::{Cursor, Opening};
+use roll::Cursor;
 use summing::sum;
 
 mod laying;
 mod restoring;
 mod summing;
 
-pub use restoring::{Restored, grouped_term};
+pub use restoring::grouped_term;
 
 // Bytes of the buffer for each term.
 pub const ENTRY: usize = 40;
@@ -33,50 +33,52 @@ struct Given {
 }
 
 // The sum of the entries in the buffer, after the checks before it.
-fn summed(buffer: &[u8], cursor: Cursor, given: Given, boys: &[f64]) -> Value
+fn summed(buffer: &[u8], cursor: Cursor, given: Given, boys: &[f64]) -> Result<f64, Refusal>
     ensures { result ≡ summed_of (bars_of cursor.l given boys.now) (table_of given) (factor_of given) boys.now (entries_again buffer.now 0 cursor.left) }
 {
-    let a = given.a;
-    let b = given.b;
-    let c = given.c;
-    let d = given.d;
-    let aux = given.aux;
+    let Given { a, b, c, d, aux } = given;
     let kind = Kind::Coulomb;
     let table = geometry::prefac(kind, a, b, c, d);
-    let refusal = integrals::barred(Terms { kind, cursor }, a, b, c, d, aux, boys, &table);
-    if refusal != 0 {
-        return Value::Refused(refusal, 0);
-    }
+    integrals::barred(Terms { kind, cursor }, a, b, c, d, aux, boys, &table)?;
     let s = integrals::factor(kind, a, b, c, d, aux);
     integrals::result(sum(buffer, cursor.left, &table, s, boys))
 }
 
 // A judged Coulomb roll: 6 where the buffer has no room, else the grouping is laid and summed.
-fn in_groups(roll: &[u8], cursor: Cursor, given: Given, boys: &[f64], buffer: &mut [u8]) -> Value
+fn in_groups(
+    roll: &[u8],
+    cursor: Cursor,
+    given: Given,
+    boys: &[f64],
+    buffer: &mut [u8],
+) -> Result<f64, Refusal>
     requires { GroupsMay roll.now cursor }
     ensures { InGroupsTold roll.now cursor given boys.now buffer.old result buffer.new }
 {
     let terms = cursor.left;
     if buffer.len() < ENTRY * terms as usize {
-        return Value::Refused(6, 0);
+        return Err(Refusal::NoRoom);
     }
     group(buffer, roll, cursor.place, terms);
     summed(buffer, cursor, given, boys)
 }
 
 // A judged roll: only Coulomb rolls are grouped.
-fn by_kind(roll: &[u8], cursor: Cursor, given: Given, boys: &[f64], buffer: &mut [u8]) -> Value
+fn by_kind(
+    roll: &[u8],
+    cursor: Cursor,
+    given: Given,
+    boys: &[f64],
+    buffer: &mut [u8],
+) -> Result<f64, Refusal>
     requires { CursorMay roll.now cursor }
     ensures { CursorTold roll.now cursor given boys.now buffer.old result buffer.new }
 {
     if cursor.kind == Kind::Coulomb.number() {
         return in_groups(roll, cursor, given, boys, buffer);
     }
-    let a = given.a;
-    let b = given.b;
-    let c = given.c;
-    let d = given.d;
-    integrals::from_cursor(cursor, a, b, c, d, given.aux, boys, roll)
+    let Given { a, b, c, d, aux } = given;
+    integrals::from_cursor(cursor, a, b, c, d, aux, boys, roll)
 }
 
 // The integral of a roll, as `integrals::evaluate` gives it. A Coulomb roll is grouped in the buffer, or refused 6 right after it is read
@@ -90,14 +92,9 @@ pub fn evaluate_grouped(
     aux: f64,
     boys: &[f64],
     buffer: &mut [u8],
-) -> Value
+) -> Result<f64, Fault>
     ensures { GroupedTold roll.now a b c d aux boys.now buffer.old result buffer.new }
 {
-    let opened = roll::check(roll);
-    let found = opened.found;
-    let cursor = opened.cursor;
-    match found {
-        Opening::Roll => by_kind(roll, cursor, Given { a, b, c, d, aux }, boys, buffer),
-        Opening::Refused(number, place) => Value::Refused(number, place),
-    }
+    let opened = roll::check(roll)?;
+    Ok(by_kind(roll, opened.cursor, Given { a, b, c, d, aux }, boys, buffer)?)
 }

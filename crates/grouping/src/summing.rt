@@ -9,46 +9,44 @@ ghost use Rattle.grouping.specs.inner.Laying.{entry_head, entries_again, ShortTo
 use number::{one_byte, wide};
 use roll::{Head, head_at, number_at};
 
-// How many bytes the number at a place has, where these are one, two or three and it reads; else 0.
-fn short_bytes(buffer: &[u8], at: usize) -> usize
+// The place after the number at a place, where it has one, two or three bytes and reads.
+fn short_end(buffer: &[u8], at: usize) -> Option<usize>
     ensures { ShortTold buffer.now at result }
 {
     if buffer.len() <= at {
-        return 0;
+        return None;
     }
     if one_byte(wide(buffer[at])) {
-        return 1;
+        return Some(at + 1);
     }
     if buffer.len() - at < 3 {
-        return 0;
+        return None;
     }
     let second = wide(buffer[at + 1]);
     let third = wide(buffer[at + 2]);
     if second == 0 {
-        return 0;
+        return None;
     }
     if one_byte(second) {
-        return 2;
+        return Some(at + 2);
     }
     if third == 0 {
-        return 0;
+        return None;
     }
     if one_byte(third) {
-        return 3;
+        return Some(at + 3);
     }
-    0
+    None
 }
 
 // The place after the number at a place.
 fn number_end(buffer: &[u8], at: usize) -> usize
     ensures { result ≡ (seen_at buffer.now at).next }
 {
-    let bytes = short_bytes(buffer, at);
-    if bytes == 0 {
-        let number = number_at(buffer, at);
-        return number.next;
+    match short_end(buffer, at) {
+        Some(end) => end,
+        None => number_at(buffer, at).next,
     }
-    at + bytes
 }
 
 // The term of an entry, behind its number.
@@ -64,12 +62,10 @@ pub(crate) fn sum(buffer: &[u8], terms: u32, table: &[f64], s: f64, boys: &[f64]
 {
     let mut sum = 0.0;
     let mut at = 0;
-    let mut left = terms;
-    while 0 < left {
+    for done in 0..terms {
         let h = entry_at(buffer, at);
         sum = sum + integrals::coulomb_term(table, s, boys, buffer, h);
         at = h.end;
-        left -= 1;
     }
     sum
 }

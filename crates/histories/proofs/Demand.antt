@@ -7,12 +7,9 @@ use native.Mathlib.Omega.{arith}
 use borrow.Author.Tests.{eq-eqb, ne_eqb}
 use lib.Dec.{eqb}
 use lib.ListN.{length, length-map}
+use Rattle.std.specs.Prelude.{Option, Some, None}
 use Rattle.steps.specs.declared.CentreName.{CentreName}
 use Rattle.steps.specs.declared.Axis.{Axis}
-use Rattle.steps.specs.declared.Fun.{Fun}
-use Rattle.steps.specs.declared.Fun.TheVariants.{Lower, Nothing}
-use Rattle.steps.specs.declared.AxisChoice.{AxisChoice}
-use Rattle.steps.specs.declared.AxisChoice.TheVariants.{Along, Nowhere}
 use Rattle.steps.specs.Choice.{chosen, first_axis}
 use Rattle.steps.specs.Steps.{Branch, branches, times}
 use Rattle.laws.specs.Total.{total}
@@ -39,13 +36,13 @@ pub nexts-numbered : (s : State) → Numbered (nexts s)
 unfolding nexts
 nexts-numbered s = on-fun (chosen s.kind s.left)
   where
-    on-axis : (c : CentreName) (v : AxisChoice) → Numbered (on_axis c v s)
-    on-axis c Nowhere = no-next
-    on-axis c (Along x) = turns-numbered c x 0 s (branches s.kind c x)
+    on-axis : (c : CentreName) (v : Option Axis) → Numbered (on_axis c v s)
+    on-axis c None = no-next
+    on-axis c (Some x) = turns-numbered c x 0 s (branches s.kind c x)
 
-    on-fun : (v : Fun) → Numbered (on_fun v s)
-    on-fun Nothing = no-next
-    on-fun (Lower c) = on-axis c (first_axis s.left c)
+    on-fun : (v : Option CentreName) → Numbered (on_fun v s)
+    on-fun None = no-next
+    on-fun (Some c) = on-axis c (first_axis s.left c)
 
 led-back : (s : State) (ns : List Next) → Numbered ns → (n : Next) → Memᴰ n ns → led n.number s ns ≡ n.state
 led-back s [] _ n x3 = elim x3 [ ]

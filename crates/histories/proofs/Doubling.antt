@@ -8,6 +8,7 @@ use native.Mathlib.Omega.{arith}
 use native.Mathlib.Nat.{pow-suc}
 use native.Mathlib.Numerals.{add-one}
 use lib.ListN.{length, drop, length-append}
+use Rattle.std.specs.Prelude.{Option, Some}
 use Rattle.laws.proofs.Cases.{clash}
 use Rattle.laws.specs.Total.{total}
 use Rattle.laws.proofs.Totals.{total-less}
@@ -17,10 +18,6 @@ use Rattle.kind.specs.Kinds.{orders_of, uses_boys}
 use Rattle.term.specs.Terms.{Term}
 use Rattle.steps.specs.declared.CentreName.{CentreName}
 use Rattle.steps.specs.declared.Axis.{Axis}
-use Rattle.steps.specs.declared.Fun.{Fun}
-use Rattle.steps.specs.declared.Fun.TheVariants.{Lower}
-use Rattle.steps.specs.declared.AxisChoice.{AxisChoice}
-use Rattle.steps.specs.declared.AxisChoice.TheVariants.{Along}
 use Rattle.steps.specs.Choice.{order_place, order_of, chosen, first_axis}
 use Rattle.steps.specs.Steps.{a, ◌adds◌, ◌adds-and-raises◌, Branch, branches, times, lowered}
 use Rattle.steps.specs.States.{State, Next, start, step, turns, on_axis, on_fun, nexts}
@@ -75,8 +72,8 @@ twice s boys u some =
     subst (Twice s) (sym (at l.centre l.axis l.picked l.along ∙ ap (turns l.centre l.axis 0 s) b.3))
     (two-turns s l.centre l.axis b.0 b.1 b.2 (axis-positive s.left l.centre l.axis l.along))
   where
-    at : (c : CentreName) (x : Axis) → chosen s.kind s.left ≡ Lower c → first_axis s.left c ≡ Along x → nexts s ≡ turns c x 0 s (branches s.kind c x)
-    at c x e f = ap (λ (v : Fun). on_fun v s) e ∙ ap (λ (v : AxisChoice). on_axis c v s) f
+    at : (c : CentreName) (x : Axis) → chosen s.kind s.left ≡ Some c → first_axis s.left c ≡ Some x → nexts s ≡ turns c x 0 s (branches s.kind c x)
+    at c x e f = ap (λ (v : Option CentreName). on_fun v s) e ∙ ap (λ (v : Option Axis). on_axis c v s) f
 
 abbrev below : Next → List Term
 below n = expand n.state

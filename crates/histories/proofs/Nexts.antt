@@ -3,12 +3,9 @@ use Prim.Native.Nat.{ℕ, zero, suc, ◌≤◌, ◌<◌}
 use mathlib.Core.Path.{◌≡◌, refl, ap}
 use mathlib.Core.List.{List, [], ◌∷◌, Memᴰ}
 use native.Mathlib.Omega.{arith}
+use Rattle.std.specs.Prelude.{Option, Some, None}
 use Rattle.steps.specs.declared.CentreName.{CentreName}
 use Rattle.steps.specs.declared.Axis.{Axis}
-use Rattle.steps.specs.declared.Fun.{Fun}
-use Rattle.steps.specs.declared.Fun.TheVariants.{Lower, Nothing}
-use Rattle.steps.specs.declared.AxisChoice.{AxisChoice}
-use Rattle.steps.specs.declared.AxisChoice.TheVariants.{Along, Nowhere}
 use Rattle.steps.specs.Choice.{chosen, first_axis}
 use Rattle.steps.specs.Steps.{Branch, branches, times}
 use Rattle.steps.specs.States.{State, Next, step, if_legal, turns, on_axis, on_fun, nexts}
@@ -38,18 +35,18 @@ turn-of c x k s (b ∷ bs) n m = go (times b.falls c x s.left) refl m (λ (m' : 
 pub record Legal (s : State) (n : Next) : Type 0 where
   pub centre : CentreName
   pub axis : Axis
-  pub picked : chosen s.kind s.left ≡ Lower centre
-  pub along : first_axis s.left centre ≡ Along axis
+  pub picked : chosen s.kind s.left ≡ Some centre
+  pub along : first_axis s.left centre ≡ Some axis
   pub turn : TurnOf centre axis 0 s (branches s.kind centre axis) n
 
 pub legal : (s : State) (n : Next) → Memᴰ n (nexts s) → Legal s n
 unfolding nexts
 legal s n m = fun (chosen s.kind s.left) refl m
   where
-    axis : (c : CentreName) (v : AxisChoice) → chosen s.kind s.left ≡ Lower c → first_axis s.left c ≡ v → Memᴰ n (on_axis c v s) → Legal s n
-    axis c Nowhere p e m' = elim m' [ ]
-    axis c (Along x) p e m' = record { centre = c; axis = x; picked = p; along = e; turn = turn-of c x 0 s (branches s.kind c x) n m' }
+    axis : (c : CentreName) (v : Option Axis) → chosen s.kind s.left ≡ Some c → first_axis s.left c ≡ v → Memᴰ n (on_axis c v s) → Legal s n
+    axis c None p e m' = elim m' [ ]
+    axis c (Some x) p e m' = record { centre = c; axis = x; picked = p; along = e; turn = turn-of c x 0 s (branches s.kind c x) n m' }
 
-    fun : (v : Fun) → chosen s.kind s.left ≡ v → Memᴰ n (on_fun v s) → Legal s n
-    fun Nothing e m' = elim m' [ ]
-    fun (Lower c) e m' = axis c (first_axis s.left c) e refl m'
+    fun : (v : Option CentreName) → chosen s.kind s.left ≡ v → Memᴰ n (on_fun v s) → Legal s n
+    fun None e m' = elim m' [ ]
+    fun (Some c) e m' = axis c (first_axis s.left c) e refl m'

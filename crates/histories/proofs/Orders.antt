@@ -1,19 +1,18 @@
 -- Orders and their total: what one step takes away.
 use Prim.Native.Nat.{ℕ, ◌+◌, ◌-◌, ◌<◌}
-use mathlib.Core.Path.{◌≡◌, refl}
-use mathlib.Core.Bool.{Bool, true, false, cond}
+use mathlib.Core.Path.{◌≡◌, subst}
+use mathlib.Core.Bool.{Bool, true, false}
 use mathlib.Core.Logic.{◌≢◌}
 use mathlib.Core.List.{List}
 use native.Mathlib.Omega.{arith}
-use borrow.Author.Tests.{ltb-true}
-use lib.Dec.{ltb}
 use lib.Seq.{get_or-set_same, get_or-set_other}
+use Rattle.std.specs.Prelude.{Option, Some}
 use Rattle.laws.proofs.Cases.{clash}
 use Rattle.steps.specs.declared.CentreName.{CentreName}
 use Rattle.steps.specs.declared.CentreName.TheVariants.{A, B, C, D}
 use Rattle.steps.specs.declared.Axis.{Axis}
-use Rattle.steps.specs.declared.Axis.TheVariants.{X, Y, Z}
-use Rattle.steps.specs.declared.AxisChoice.TheVariants.{Along, Nowhere}
+use Rattle.steps.specs.Chosen.{RightAxis, along, no-axis}
+use Rattle.steps.proofs.Rightly.{axis-rightly}
 use Rattle.steps.specs.Choice.{order_place, order_of, operator, first_axis}
 use Rattle.steps.specs.Steps.{Falls, a, a-twice, a-and-b, a-and-c, a-and-d, a-and-o, nothing, times, lowered, less, partner, other-c, other-d}
 use Rattle.laws.specs.Total.{total}
@@ -98,22 +97,9 @@ lowered-total a-and-o c x left p h l = apart-total left c operator x h (operator
 lowered-total nothing c x left p h l = omega arith
 
 -- the axis found has an order left
-pub axis-positive : (left : List ℕ) (c : CentreName) (x : Axis) → first_axis left c ≡ Along x → 0 < order_of left c x
-unfolding first_axis
-axis-positive left c x e = first (ltb 0 (order_of left c X)) refl e
+pub axis-positive : (left : List ℕ) (c : CentreName) (x : Axis) → first_axis left c ≡ Some x → 0 < order_of left c x
+axis-positive left c x = by (first_axis left c) (axis-rightly left c)
   where
-    found : (y : Axis) → ltb 0 (order_of left c y) ≡ true → Along y ≡ Along x → 0 < order_of left c x
-    found y t f = let same : y ≡ x = cc in
-        rw same at (ltb-true 0 (order_of left c y) t)
-
-    third : (v : Bool) → ltb 0 (order_of left c Z) ≡ v → cond v (Along Z) Nowhere ≡ Along x → 0 < order_of left c x
-    third true t f = found Z t f
-    third false t f = absurd (clash (cc))
-
-    second : (v : Bool) → ltb 0 (order_of left c Y) ≡ v → cond v (Along Y) (cond (ltb 0 (order_of left c Z)) (Along Z) Nowhere) ≡ Along x → 0 < order_of left c x
-    second true t f = found Y t f
-    second false t f = third (ltb 0 (order_of left c Z)) refl f
-
-    first : (v : Bool) → ltb 0 (order_of left c X) ≡ v → cond v (Along X) (cond (ltb 0 (order_of left c Y)) (Along Y) (cond (ltb 0 (order_of left c Z)) (Along Z) Nowhere)) ≡ Along x → 0 < order_of left c x
-    first true t f = found X t f
-    first false t f = second (ltb 0 (order_of left c Y)) refl f
+    by : (v : Option Axis) → RightAxis left c v → v ≡ Some x → 0 < order_of left c x
+    by v (along y h before) e = let same : y ≡ x = cc in subst (λ (z : Axis). 0 < order_of left c z) same h
+    by v (no-axis all) e = absurd (clash (cc))

@@ -1,14 +1,13 @@
 -- A list is never empty: where orders are left that the kind uses, branch 0 is legal.
 use Prim.Native.Nat.{ℕ, zero, suc, ◌+◌, ◌-◌, ◌≤◌, ◌<◌}
 use mathlib.Core.Path.{◌≡◌, refl, sym, ap, subst, ◌∙◌}
-use mathlib.Core.Bool.{Bool, true, false, cond}
+use mathlib.Core.Bool.{true, cond}
 use mathlib.Core.List.{List, [], ◌∷◌, Memᴰ}
 use native.Mathlib.Omega.{arith}
 use native.Mathlib.Nat.{add-zero}
-use borrow.Author.Tests.{ltb-true, ltb-false}
-use lib.Dec.{ltb}
 use lib.ListN.{length, get_or, set, drop, length-append}
 use lib.Seq.{get_or-drop}
+use Rattle.std.specs.Prelude.{Option, Some, None}
 use Rattle.laws.proofs.Cases.{clash}
 use Rattle.laws.proofs.Totals.{get_or-le-total}
 use Rattle.kind.specs.declared.Kind.{Kind}
@@ -19,18 +18,16 @@ use Rattle.steps.specs.declared.CentreName.{CentreName}
 use Rattle.steps.specs.declared.CentreName.TheVariants.{A, B, C, D}
 use Rattle.steps.specs.declared.Axis.{Axis}
 use Rattle.steps.specs.declared.Axis.TheVariants.{X, Y, Z}
-use Rattle.steps.specs.declared.Fun.{Fun}
-use Rattle.steps.specs.declared.Fun.TheVariants.{Lower, Nothing}
-use Rattle.steps.specs.declared.AxisChoice.{AxisChoice}
-use Rattle.steps.specs.declared.AxisChoice.TheVariants.{Along, Nowhere}
-use Rattle.steps.specs.Choice.{operator, order_place, order_of, sum_of, or_before, smallest, once_exhausted, chosen, first_axis}
+use Rattle.steps.specs.Choice.{operator, order_place, sum_of, chosen, first_axis}
+use Rattle.steps.specs.Chosen.{centres_of, operator_of, Exhausted, RightCentre, a-centre, the-operator, no-centre, RightAxis, along, no-axis}
+use Rattle.steps.proofs.Rightly.{chosen-rightly, axis-rightly}
 use Rattle.steps.specs.Steps.{Falls, a, a-twice, a-and-b, a-and-c, a-and-d, a-and-o, nothing, Branch, branches, times, less, lowered, partner, other-c, other-d}
 use Rattle.laws.specs.Total.{total}
 use Rattle.steps.specs.States.{State, Next, step, if_legal, turns, on_axis, on_fun, nexts}
 use Rattle.histories.specs.History.{in_turn, expand}
 use Rattle.histories.proofs.Nexts.{legal}
 use Rattle.histories.specs.inner.OnTheWay.{follows, own}
-use Rattle.histories.proofs.Choices.{chosen-own, none-is-none}
+use Rattle.histories.proofs.Choices.{chosen-own}
 use Rattle.histories.proofs.Walk.{follows_itself, fair-step, expand-done, expand-more}
 use Rattle.histories.proofs.Demand.{by-depth}
 
@@ -49,88 +46,34 @@ unused-zero k left none i h =
     back : orders_of k + (i - orders_of k) ≡ i
     back = omega arith
 
-some-is-some : (c : CentreName) → Lower c ≡ Nothing → ⊥
-some-is-some c e = none-is-none c (sym e)
-
--- no centre is chosen only where every sum looked at is 0
-record Best0 (left : List ℕ) (cs : List CentreName) : Type 0 where
-  sums : (smallest left cs).fun ≡ Nothing → (c : CentreName) → Memᴰ c cs → sum_of left c ≡ 0
-  none : (smallest left cs).fun ≡ Nothing → (smallest left cs).sum ≡ 0
-  some : (c : CentreName) → (smallest left cs).fun ≡ Lower c → 0 < sum_of left c
-
-module _ (left : List ℕ) (d : CentreName) (cs : List CentreName) (later : Best0 left cs) where
-  here : (n : ℕ) → sum_of left d ≡ suc n → (c : CentreName) → Lower d ≡ Lower c → 0 < sum_of left c
-  here n s c e = let same : d ≡ c = cc in subst (λ (b : CentreName). 0 < sum_of left b) same (omega arith)
-
-  tested : (n : ℕ) → sum_of left d ≡ suc n → (v w : Bool) → ltb 0 (smallest left cs).sum ≡ v → (cond v (cond w (smallest left cs) (record { fun = Lower d; sum = suc n })) (record { fun = Lower d; sum = suc n })).fun ≡ Nothing → ⊥
-  tested n s true true t e = let h = ltb-true 0 (smallest left cs).sum t in let z = later.none e in omega arith
-  tested n s true false t e = some-is-some d e
-  tested n s false w t e = some-is-some d e
-
-  impossible : (n : ℕ) → sum_of left d ≡ suc n → (or_before (smallest left cs) d (suc n)).fun ≡ Nothing → ⊥
-  impossible n s e = tested n s (ltb 0 (smallest left cs).sum) (ltb (smallest left cs).sum (suc n)) refl e
-
-  all : (n : ℕ) → sum_of left d ≡ n → (or_before (smallest left cs) d n).fun ≡ Nothing → (c : CentreName) → Memᴰ c (d ∷ cs) → sum_of left c ≡ 0
-  all zero s e c (Memᴰ.head f) = ap (sum_of left) f ∙ s
-  all zero s e c (Memᴰ.tail m) = later.sums e c m
-  all (suc n) s e c m = absurd (impossible n s e)
-
-  zero-sum : (n : ℕ) → sum_of left d ≡ n → (or_before (smallest left cs) d n).fun ≡ Nothing → (or_before (smallest left cs) d n).sum ≡ 0
-  zero-sum zero s e = later.none e
-  zero-sum (suc n) s e = absurd (impossible n s e)
-
-  chosen_at : (n : ℕ) → sum_of left d ≡ suc n → (c : CentreName) (v w : Bool) → (cond v (cond w (smallest left cs) (record { fun = Lower d; sum = suc n })) (record { fun = Lower d; sum = suc n })).fun ≡ Lower c → 0 < sum_of left c
-  chosen_at n s c true true e = later.some c e
-  chosen_at n s c true false e = here n s c e
-  chosen_at n s c false w e = here n s c e
-
-  positive : (n : ℕ) → sum_of left d ≡ n → (c : CentreName) → (or_before (smallest left cs) d n).fun ≡ Lower c → 0 < sum_of left c
-  positive zero s c e = later.some c e
-  positive (suc n) s c e = chosen_at n s c (ltb 0 (smallest left cs).sum) (ltb (smallest left cs).sum (suc n)) e
-
-  before : Best0 left (d ∷ cs)
-  before =
-      record {
-        sums = λ (e : (or_before (smallest left cs) d (sum_of left d)).fun ≡ Nothing) (c : CentreName) (m : Memᴰ c (d ∷ cs)). all (sum_of left d) refl e c m;
-        none = λ (e : (or_before (smallest left cs) d (sum_of left d)).fun ≡ Nothing). zero-sum (sum_of left d) refl e;
-        some = λ (c : CentreName) (e : (or_before (smallest left cs) d (sum_of left d)).fun ≡ Lower c). positive (sum_of left d) refl c e;
-      }
-
-best : (left : List ℕ) (cs : List CentreName) → Best0 left cs
-best left [] = record { sums = λ (e : Nothing ≡ Nothing) (c : CentreName) (m : Memᴰ c []). elim m [ ]; none = λ (e : Nothing ≡ Nothing). refl; some = λ (c : CentreName) (e : Nothing ≡ Lower c). absurd (none-is-none c e) }
-best left (d ∷ cs) = before left d cs (best left cs)
-
 -- the centre chosen has an order left
-chosen-positive : (k : Kind) (left : List ℕ) (c : CentreName) → chosen k left ≡ Lower c → 0 < sum_of left c
-unfolding chosen
-chosen-positive Overlap left c e = (best left (A ∷ B ∷ [])).some c e
-chosen-positive Kinetic left c e = (best left (A ∷ B ∷ [])).some c e
-chosen-positive Nuclear left c e = (best left (A ∷ B ∷ [])).some c e
-chosen-positive Moment left c e = exhausted (smallest left (A ∷ B ∷ [])).fun refl e
+chosen-positive : (k : Kind) (left : List ℕ) (c : CentreName) → chosen k left ≡ Some c → 0 < sum_of left c
+chosen-positive k left c = by (chosen k left) (chosen-rightly left k)
   where
-    exhausted : (v : Fun) → (smallest left (A ∷ B ∷ [])).fun ≡ v → once_exhausted v (smallest left (C ∷ [])).fun ≡ Lower c → 0 < sum_of left c
-    exhausted Nothing f g = (best left (C ∷ [])).some c g
-    exhausted (Lower d) f g = (best left (A ∷ B ∷ [])).some c (f ∙ g)
-chosen-positive Coulomb left c e = (best left (A ∷ B ∷ C ∷ D ∷ [])).some c e
+    by : (v : Option CentreName) → RightCentre k left v → v ≡ Some c → 0 < sum_of left c
+    by v (a-centre d s) e = let same : d ≡ c = cc in subst (λ (b : CentreName). 0 < sum_of left b) same s.positive
+    by v (the-operator o out s) e = let same : o ≡ c = cc in subst (λ (b : CentreName). 0 < sum_of left b) same s.positive
+    by v (no-centre out rest) e = absurd (clash (cc))
 
-axis-there : (left : List ℕ) (c : CentreName) → 0 < sum_of left c → first_axis left c ≡ Nowhere → ⊥
-unfolding first_axis
-axis-there left c h e = first (ltb 0 (order_of left c X)) refl e
+-- none is chosen only where no order is left on any
+record AllOut (k : Kind) (left : List ℕ) : Type 0 where
+  centres : Exhausted left (centres_of k)
+  operator : Exhausted left (operator_of k)
+
+all_out : (k : Kind) (left : List ℕ) → chosen k left ≡ None → AllOut k left
+all_out k left = by (chosen k left) (chosen-rightly left k)
   where
-    no : (y : Axis) → Along y ≡ Nowhere → ⊥
-    no y f = clash (cc)
+    by : (v : Option CentreName) → RightCentre k left v → v ≡ None → AllOut k left
+    by v (a-centre c s) e = absurd (clash (cc))
+    by v (the-operator o out s) e = absurd (clash (cc))
+    by v (no-centre out rest) e = record { centres = out; operator = rest }
 
-    third : order_of left c X ≤ 0 → order_of left c Y ≤ 0 → (v : Bool) → ltb 0 (order_of left c Z) ≡ v → cond v (Along Z) Nowhere ≡ Nowhere → ⊥
-    third x y true t f = no Z f
-    third x y false t f = let z = ltb-false 0 (order_of left c Z) t in omega arith
-
-    second : order_of left c X ≤ 0 → (v : Bool) → ltb 0 (order_of left c Y) ≡ v → cond v (Along Y) (cond (ltb 0 (order_of left c Z)) (Along Z) Nowhere) ≡ Nowhere → ⊥
-    second x true t f = no Y f
-    second x false t f = third x (ltb-false 0 (order_of left c Y) t) (ltb 0 (order_of left c Z)) refl f
-
-    first : (v : Bool) → ltb 0 (order_of left c X) ≡ v → cond v (Along X) (cond (ltb 0 (order_of left c Y)) (Along Y) (cond (ltb 0 (order_of left c Z)) (Along Z) Nowhere)) ≡ Nowhere → ⊥
-    first true t f = no X f
-    first false t f = second (ltb-false 0 (order_of left c X) t) (ltb 0 (order_of left c Y)) refl f
+axis-there : (left : List ℕ) (c : CentreName) → 0 < sum_of left c → first_axis left c ≡ None → ⊥
+axis-there left c h = by (first_axis left c) (axis-rightly left c)
+  where
+    by : (v : Option Axis) → RightAxis left c v → v ≡ None → ⊥
+    by v (along x p before) e = clash (cc)
+    by v (no-axis all) e = let x = all X in let y = all Y in let z = all Z in omega arith
 
 -- zeros from a centre's last order on, and its sum 0, are zeros from its first order on
 from-centre : (left : List ℕ) (m : ℕ) → get_or left m 0 + get_or left (m + 1) 0 + get_or left (m + 2) 0 ≡ 0 → ((i : ℕ) → m + 3 ≤ i → get_or left i 0 ≡ 0) → (i : ℕ) → m ≤ i → get_or left i 0 ≡ 0
@@ -144,27 +87,21 @@ from-centre left m s u i h = at (i - m) (omega arith)
 
 -- where no centre is chosen, no order is left
 module _ (left : List ℕ) where
-  two-zero : ((i : ℕ) → 6 ≤ i → get_or left i 0 ≡ 0) → (smallest left (A ∷ B ∷ [])).fun ≡ Nothing → (i : ℕ) → get_or left i 0 ≡ 0
-  two-zero u e i =
-      from-centre left 0 ((best left (A ∷ B ∷ [])).sums e A (Memᴰ.head refl))
-      (from-centre left 3 ((best left (A ∷ B ∷ [])).sums e B (Memᴰ.tail (Memᴰ.head refl))) u) i (omega arith)
+  two-zero : ((i : ℕ) → 6 ≤ i → get_or left i 0 ≡ 0) → Exhausted left (A ∷ B ∷ []) → (i : ℕ) → get_or left i 0 ≡ 0
+  two-zero u out i =
+      from-centre left 0 (out A (Memᴰ.head refl))
+      (from-centre left 3 (out B (Memᴰ.tail (Memᴰ.head refl))) u) i (omega arith)
 
-  all-zero : (k : Kind) → ((i : ℕ) → orders_of k ≤ i → get_or left i 0 ≡ 0) → chosen k left ≡ Nothing → (i : ℕ) → get_or left i 0 ≡ 0
-  unfolding chosen
-  all-zero Overlap u e i = two-zero u e i
-  all-zero Kinetic u e i = two-zero u e i
-  all-zero Nuclear u e i = two-zero u e i
-  all-zero Moment u e i = exhausted (smallest left (A ∷ B ∷ [])).fun refl e i
-    where
-      exhausted : (v : Fun) → (smallest left (A ∷ B ∷ [])).fun ≡ v → once_exhausted v (smallest left (C ∷ [])).fun ≡ Nothing → (i : ℕ) → get_or left i 0 ≡ 0
-      exhausted Nothing f g = two-zero (from-centre left 6 ((best left (C ∷ [])).sums g C (Memᴰ.head refl)) u) f
-      exhausted (Lower d) f g = absurd (some-is-some d g)
-  all-zero Coulomb u e i =
-      let b = (best left (A ∷ B ∷ C ∷ D ∷ [])).sums e in
-      from-centre left 0 (b A (Memᴰ.head refl))
-      (from-centre left 3 (b B (Memᴰ.tail (Memᴰ.head refl)))
-      (from-centre left 6 (b C (Memᴰ.tail (Memᴰ.tail (Memᴰ.head refl))))
-      (from-centre left 9 (b D (Memᴰ.tail (Memᴰ.tail (Memᴰ.tail (Memᴰ.head refl))))) u))) i (omega arith)
+  all-zero : (k : Kind) → ((i : ℕ) → orders_of k ≤ i → get_or left i 0 ≡ 0) → AllOut k left → (i : ℕ) → get_or left i 0 ≡ 0
+  all-zero Overlap u out i = two-zero u out.centres i
+  all-zero Kinetic u out i = two-zero u out.centres i
+  all-zero Nuclear u out i = two-zero u out.centres i
+  all-zero Moment u out i = two-zero (from-centre left 6 (out.operator C (Memᴰ.head refl)) u) out.centres i
+  all-zero Coulomb u out i =
+      from-centre left 0 (out.centres A (Memᴰ.head refl))
+      (from-centre left 3 (out.centres B (Memᴰ.tail (Memᴰ.head refl)))
+      (from-centre left 6 (out.centres C (Memᴰ.tail (Memᴰ.tail (Memᴰ.head refl))))
+      (from-centre left 9 (out.centres D (Memᴰ.tail (Memᴰ.tail (Memᴰ.tail (Memᴰ.head refl))))) u))) i (omega arith)
 
 zero-total : (left : List ℕ) → ((i : ℕ) → get_or left i 0 ≡ 0) → total left ≡ 0
 unfolding total
@@ -264,13 +201,13 @@ some_next s u some = by-fun (chosen s.kind s.left) refl
     on-branches : (c : CentreName) (x : Axis) → own s.kind c ≡ true → (n : Next) × Memᴰ n (turns c x 0 s (branches s.kind c x))
     on-branches c x o = let f = first-branch s.kind c x o in subst (λ (bs : List Branch). (n : Next) × Memᴰ n (turns c x 0 s bs)) (sym f.2) (first-turn s c x f.0 f.1 f.3)
 
-    by-axis : (c : CentreName) → chosen s.kind s.left ≡ Lower c → (v : AxisChoice) → first_axis s.left c ≡ v → (n : Next) × Memᴰ n (on_axis c v s)
-    by-axis c e Nowhere f = absurd (axis-there s.left c (chosen-positive s.kind s.left c e) f)
-    by-axis c e (Along x) f = on-branches c x (chosen-own s.kind s.left c e)
+    by-axis : (c : CentreName) → chosen s.kind s.left ≡ Some c → (v : Option Axis) → first_axis s.left c ≡ v → (n : Next) × Memᴰ n (on_axis c v s)
+    by-axis c e None f = absurd (axis-there s.left c (chosen-positive s.kind s.left c e) f)
+    by-axis c e (Some x) f = on-branches c x (chosen-own s.kind s.left c e)
 
-    by-fun : (v : Fun) → chosen s.kind s.left ≡ v → (n : Next) × Memᴰ n (on_fun v s)
-    by-fun Nothing e = absurd (some (zero-total s.left (all-zero s.left s.kind u e)))
-    by-fun (Lower c) e = by-axis c e (first_axis s.left c) refl
+    by-fun : (v : Option CentreName) → chosen s.kind s.left ≡ v → (n : Next) × Memᴰ n (on_fun v s)
+    by-fun None e = absurd (some (zero-total s.left (all-zero s.left s.kind u (all_out s.kind s.left e))))
+    by-fun (Some c) e = by-axis c e (first_axis s.left c) refl
 
 over-longer : (f : Next → List Term) (ns : List Next) (n : Next) → Memᴰ n ns → length (f n) ≤ length (in_turn f ns)
 unfolding in_turn

@@ -8,11 +8,10 @@ use lib.Dec.{eqb}
 use lib.ListN.{length, get_or, take, drop, length-append}
 use Rattle.laws.specs.Total.{total}
 use Rattle.laws.proofs.Cases.{clash}
+use Rattle.laws.proofs.Pairs.{some-both}
 use Rattle.kind.specs.Limits.{most_order}
 use Rattle.kind.specs.Kinds.{kind_of, number_of, orders_of}
 use Rattle.kind.specs.declared.Kind.{Kind}
-use Rattle.kind.specs.declared.Named.{Named}
-use Rattle.kind.specs.declared.Named.TheVariants as named
 use Rattle.kind.proofs.Within.{number-within}
 use Rattle.number.specs.Numbers.{bytes_of, length_of}
 use Rattle.number.proofs.Writing.{length_last}
@@ -20,11 +19,11 @@ use Rattle.term.specs.Terms.{Term}
 use Rattle.roll.specs.Bytes.{numbers_bytes, terms_bytes, roll_bytes}
 use Rattle.roll.specs.Reading.{Header, Roll}
 use Rattle.roll.specs.Fits.{CentresFit}
-use Rattle.importing.specs.declared.Imported.{Imported}
-use Rattle.importing.specs.declared.Imported.TheVariants as imported
-use Rattle.importing.specs.declared.numerals.Head.{Head}
-use Rattle.importing.specs.declared.lines.Shape.{Shape}
-use Rattle.importing.specs.declared.lines.Shape.TheVariants as shape
+use Rattle.importing.specs.Answer.{Answer}
+use Rattle.importing.specs.Answer as imported
+use Rattle.importing.specs.inner.FirstLine.{FirstLine}
+use Rattle.importing.specs.inner.Shape.{Shape}
+use Rattle.importing.specs.inner.Shape as shape
 use Rattle.importing.specs.Lines.{Line, line, broken, line_on}
 use Rattle.importing.specs.Import.{Judged, taken, refused, and_then, first_count, head_keeps, head_as, head_of, terms_from, roll_of}
 use Rattle.importing.specs.inner.Places.{shape_at, on_head, head_line_at, measured, terms_at}
@@ -34,6 +33,8 @@ use Rattle.importing.proofs.Numbers.{orders-room}
 use Rattle.importing.proofs.Keeping.{shape-line, shape-broken, line-rest, totalled, terms-stand}
 use Rattle.importing.proofs.FirstLines.{headed, head-stands}
 use Rattle.importing.proofs.Trips.{head-taken, head-fits, terms-taken}
+use Rattle.std.specs.Prelude.{Option, Some, None}
+use Rattle.kind.specs.declared.refusals.Refusal.TheVariants.{LineShape, LineNumbers}
 
 -- ---- how long a roll is
 
@@ -76,14 +77,14 @@ measured-terms h (taken ts) f count =
 measured-terms h (refused r n) f count = refl
 
 -- a head is taken, or 22 at line 1
-head-either : (m : Named) (ns : List ℕ) (X : Judged Header → Type 0) → ((h : Header) → head_as m ns ≡ taken h → X (taken h)) → X (refused 22 1) → X (head_as m ns)
-head-either named.Unknown ns X t f = f
-head-either (named.Is k) ns X t f = by (eqb (length ns) (orders_of k + 1) && head_keeps made) refl
+head-either : (m : Option Kind) (ns : List ℕ) (X : Judged Header → Type 0) → ((h : Header) → head_as m ns ≡ taken h → X (taken h)) → X (refused LineNumbers 1) → X (head_as m ns)
+head-either None ns X t f = f
+head-either (Some k) ns X t f = by (eqb (length ns) (orders_of k + 1) && head_keeps made) refl
   where
     made : Header
     made = record { kind = k; orders = take (orders_of k) ns; terms = get_or ns (orders_of k) 0 }
 
-    by : (b : Bool) → (eqb (length ns) (orders_of k + 1) && head_keeps made) ≡ b → X (cond b (taken made) (refused 22 1))
+    by : (b : Bool) → (eqb (length ns) (orders_of k + 1) && head_keeps made) ≡ b → X (cond b (taken made) (refused LineNumbers 1))
     by true y = t made (rw y)
     by false y = f
 
@@ -110,36 +111,37 @@ line-judged s (n ∷ ns) rest e count =
     let x = line_reads s (n ∷ ns) rest e in
     let inside : 0 < length s = line-inside s 0 n ns rest x.text in
     rw (e, count)
-    (ap (λ (h : Head). on_head h (λ k l terms. terms_at s (length s - length rest) 2 terms k l (1 + orders_of k + length_of terms) terms)) (head-stands n ns s rest x.text)
+    (ap (λ (h : FirstLine). on_head h (λ k l terms. terms_at s (length s - length rest) 2 terms k l (1 + orders_of k + length_of terms) terms)) (head-stands n ns s rest x.text)
     ∙ head-judged s (length s - length rest) n ns rest (line-rest s 0 (n ∷ ns) rest inside e))
 
-pub judged-line : (s : List ℕ) (n next : ℕ) (q : Shape) (t : Bool) (r : Imported) → q ≡ shape_at s 0 → q ≡ shape.Line n next → t ≡ first_count n → t ≡ true → r ≡ head_line_at s n next → r ≡ measured (roll_of s)
+pub judged-line : (s : List ℕ) (n next : ℕ) (q : Shape) (t : Bool) (r : Answer) → q ≡ shape_at s 0 → q ≡ shape.Line n next → t ≡ first_count n → t ≡ true → r ≡ head_line_at s n next → r ≡ measured (roll_of s)
 judged-line s n next q t r is made count right e = by (line_on s) refl
   where
     by : (x : Line) → line_on s ≡ x → r ≡ measured (roll_of s)
     by (line ns rest) l =
         let same : shape.Line n next ≡ shape.Line (length ns) (length s - length rest) = sym made ∙ is ∙ shape-line s 0 ns rest l in
-        let ends : n ≡ length ns = cc same in
-        let nexts : next ≡ length s - length rest = cc same in
+        let both = some-both same in
+        let ends : n ≡ length ns = both.0 in
+        let nexts : next ≡ length s - length rest = both.1 in
         e ∙ ap (λ (x : ℕ). head_line_at s x next) ends ∙ ap (head_line_at s (length ns)) nexts ∙ line-judged s ns rest l (sym (ap first_count ends) ∙ sym count ∙ right)
     by broken l = absurd (clash (let g : shape.Line n next ≡ shape.Broken = sym made ∙ is ∙ shape-broken s 0 l in cc g))
 
-pub judged-other : (s : List ℕ) (n next : ℕ) (q : Shape) (t : Bool) → q ≡ shape_at s 0 → q ≡ shape.Line n next → t ≡ first_count n → t ≡ false → imported.Refused 21 1 ≡ measured (roll_of s)
+pub judged-other : (s : List ℕ) (n next : ℕ) (q : Shape) (t : Bool) → q ≡ shape_at s 0 → q ≡ shape.Line n next → t ≡ first_count n → t ≡ false → imported.Refused LineShape 1 ≡ measured (roll_of s)
 unfolding roll_of
 judged-other s n next q t is made count wrong = by (line_on s) refl
   where
-    by : (x : Line) → line_on s ≡ x → imported.Refused 21 1 ≡ measured (roll_of s)
+    by : (x : Line) → line_on s ≡ x → imported.Refused LineShape 1 ≡ measured (roll_of s)
     by (line ns rest) l =
         let same : shape.Line n next ≡ shape.Line (length ns) (length s - length rest) = sym made ∙ is ∙ shape-line s 0 ns rest l in
-        let ends : n ≡ length ns = cc same in
+        let ends : n ≡ length ns = (some-both same).0 in
         let other : first_count (length ns) ≡ false = sym (ap first_count ends) ∙ sym count ∙ wrong in
         rw (l, other)
     by broken l = rw l
 
-pub judged-broken : (s : List ℕ) (q : Shape) → q ≡ shape_at s 0 → q ≡ shape.Broken → imported.Refused 21 1 ≡ measured (roll_of s)
+pub judged-broken : (s : List ℕ) (q : Shape) → q ≡ shape_at s 0 → q ≡ shape.Broken → imported.Refused LineShape 1 ≡ measured (roll_of s)
 unfolding roll_of
 judged-broken s q is made = by (line_on s) refl
   where
-    by : (x : Line) → line_on s ≡ x → imported.Refused 21 1 ≡ measured (roll_of s)
+    by : (x : Line) → line_on s ≡ x → imported.Refused LineShape 1 ≡ measured (roll_of s)
     by (line ns rest) l = absurd (clash (let g : shape.Broken ≡ shape.Line (length ns) (length s - length rest) = sym made ∙ is ∙ shape-line s 0 ns rest l in cc g))
     by broken l = rw l

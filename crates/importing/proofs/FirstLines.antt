@@ -14,17 +14,17 @@ use Rattle.kind.specs.Limits.{most_order, most_terms}
 use Rattle.kind.specs.Kinds.{kind_of, number_of, orders_of}
 use Rattle.kind.specs.declared.Kind.{Kind}
 use Rattle.kind.specs.declared.Kind.TheVariants.{Overlap, Kinetic, Nuclear, Moment, Coulomb}
-use Rattle.kind.specs.declared.Named.{Named}
-use Rattle.kind.specs.declared.Named.TheVariants as named
 use Rattle.roll.specs.Reading.{sum_after, Header}
 use Rattle.roll.specs.Fits.{CentresFit}
 use Rattle.roll.proofs.HeaderLaws.{sum-small}
-use Rattle.importing.specs.declared.numerals.Numeral.TheVariants as numeral
-use Rattle.importing.specs.declared.numerals.Head.{Head}
-use Rattle.importing.specs.declared.numerals.Head.TheVariants as head
+use Rattle.importing.specs.inner.Numeral as numeral
+use Rattle.importing.specs.inner.FirstLine.{FirstLine}
+use Rattle.importing.specs.inner.FirstLine as head
 use Rattle.importing.specs.Import.{Judged, taken, refused, centres_keep, head_keeps, head_as, head_of}
 use Rattle.importing.specs.inner.Places.{within_at, orders_at, counted_head, head_orders_at, named_head, head_at}
 use Rattle.importing.proofs.Standing.{standing, next_place, stands-next, stands-in, stands-under, stands-over}
+use Rattle.std.specs.Prelude.{Option, Some, None}
+use Rattle.kind.specs.declared.refusals.Refusal.TheVariants.{LineNumbers}
 
 -- ---- order sums
 
@@ -100,7 +100,7 @@ orders-stand (o ∷ os) ns s at rest i sum l stands small =
 
 -- ---- the head
 
-unfoldable pub headed : Judged Header → Head
+unfoldable pub headed : Judged Header → FirstLine
 headed (taken h) = head.Is h.kind (total h.orders) h.terms
 headed (refused r n) = head.Wrong
 
@@ -115,7 +115,7 @@ pub split-last : (m : ℕ) (ns : List ℕ) → length ns ≡ m + 1 → ns ≡ ta
 split-last m ns e = sym (take_all (suc m) ns (omega arith)) ∙ take-suc ns m 0 (omega arith)
 
 count-stands : (k : Kind) (os s : List ℕ) (at count : ℕ) (rest : List ℕ) → drop at s ≡ standing (count ∷ []) ++ rest
-    → counted_head k (total os) (within_at s at 1 most_terms) ≡ headed (cond (leb 1 count && leb count most_terms) (taken (record { kind = k; orders = os; terms = count })) (refused 22 1))
+    → counted_head k (total os) (within_at s at 1 most_terms) ≡ headed (cond (leb 1 count && leb count most_terms) (taken (record { kind = k; orders = os; terms = count })) (refused LineNumbers 1))
 unfolding headed
 count-stands k os s at count rest stands =
     tested (leb 1 count)
@@ -126,7 +126,7 @@ count-stands k os s at count rest stands =
     (λ a. rw (a, stands-under s at count [] rest stands 1 most_terms (omega arith) (leb-false 1 count a)))
 
 head-orders : (k : Kind) (os s : List ℕ) (at count : ℕ) (rest : List ℕ) → length os ≡ orders_of k → drop at s ≡ standing (os ++ (count ∷ [])) ++ rest
-    → head_orders_at s at k ≡ headed (cond (head_keeps (record { kind = k; orders = os; terms = count })) (taken (record { kind = k; orders = os; terms = count })) (refused 22 1))
+    → head_orders_at s at k ≡ headed (cond (head_keeps (record { kind = k; orders = os; terms = count })) (taken (record { kind = k; orders = os; terms = count })) (refused LineNumbers 1))
 unfolding head_orders_at head_keeps headed
 head-orders k os s at count rest long stands =
     let same : keeps 0 0 os ≡ centres_keep os = keeps-centres 0 os refl (ap (λ (n : ℕ). n % 3) long ∙ whole-orders k) in
@@ -138,10 +138,10 @@ head-orders k os s at count rest long stands =
     (λ y. rw (read, y, eq-eqb (length os) (orders_of k) long, zero-total) (count-stands k os s (place_after at os) count rest (after-stands os (count ∷ []) s at rest stands)))
     (λ y. rw (read, y, eq-eqb (length os) (orders_of k) long))
 
-named-stands : (m : Named) (ns s : List ℕ) (at : ℕ) (rest : List ℕ) → drop at s ≡ standing ns ++ rest → named_head s (suc (length ns)) at m ≡ headed (head_as m ns)
+named-stands : (m : Option Kind) (ns s : List ℕ) (at : ℕ) (rest : List ℕ) → drop at s ≡ standing ns ++ rest → named_head s (suc (length ns)) at m ≡ headed (head_as m ns)
 unfolding headed
-named-stands named.Unknown ns s at rest stands = refl
-named-stands (named.Is k) ns s at rest stands =
+named-stands None ns s at rest stands = refl
+named-stands (Some k) ns s at rest stands =
     tested (eqb (length ns) (orders_of k + 1))
     (λ y.
     let long : length ns ≡ orders_of k + 1 = eqb-true (length ns) (orders_of k + 1) y in
@@ -154,7 +154,7 @@ named-stands (named.Is k) ns s at rest stands =
     let other : suc (length ns) ≡ orders_of k + 2 → ⊥ = λ q. eqb-false (length ns) (orders_of k + 1) y (omega arith) in
     rw (y, ne_eqb (suc (length ns)) (orders_of k + 2) other))
 
-kind-none : (n : ℕ) → 4 < n → kind_of n ≡ named.Unknown
+kind-none : (n : ℕ) → 4 < n → kind_of n ≡ None
 kind-none zero h = absurd (omega arith)
 kind-none (suc zero) h = absurd (omega arith)
 kind-none (suc (suc zero)) h = absurd (omega arith)

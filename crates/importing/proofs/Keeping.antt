@@ -22,16 +22,17 @@ use Rattle.roll.specs.Reading.{most_boys}
 use Rattle.roll.specs.Fits.{Below, TermFits}
 use Rattle.roll.proofs.Back.{most-boys}
 use Rattle.exporting.specs.Text.{line_of}
-use Rattle.importing.specs.declared.Imported.{Imported}
-use Rattle.importing.specs.declared.Imported.TheVariants as imported
-use Rattle.importing.specs.declared.judge.Size.TheVariants as size
-use Rattle.importing.specs.declared.lines.Shape.TheVariants as shape
+use Rattle.importing.specs.Answer.{Answer}
+use Rattle.importing.specs.Answer as imported
+use Rattle.importing.specs.inner.Size as size
+use Rattle.importing.specs.inner.Shape as shape
 use Rattle.importing.specs.Lines.{Line, line, broken, line_on}
 use Rattle.importing.specs.Import.{Judged, taken, refused, and_then, other_count, on_line, below, term_keeps, term_of, terms_from}
 use Rattle.importing.specs.inner.Places.{counted, shape_at, each_at, boys_at, term_at, sized, term_line_at, end_at, on_size, terms_at}
 use Rattle.importing.proofs.Numbers.{prefactors-most}
 use Rattle.importing.proofs.Standing.{standing, line_reads, next_place, stands-next, stands-in, stands-under, stands-over}
 use Rattle.importing.proofs.Judging.{line-missing, line-short, line-broken, line-long, end-right, end_short, end-many, end-broken}
+use Rattle.kind.specs.declared.refusals.Refusal.TheVariants.{LineShape, LineNumbers}
 
 -- ---- prefactors and terms: tests and limits
 
@@ -86,7 +87,7 @@ term-length k l t small f =
 -- ---- a term's line
 
 each_stands : (ps s : List ℕ) (at : ℕ) (rest : List ℕ) (table z next : ℕ) → drop at s ≡ standing ps ++ rest → 1 ≤ table → table ≤ table_places
-    → sized next (each_at s at (length ps) (table - 1) z) ≡ cond (below table ps) (size.Is z next) (size.Refused 22)
+    → sized next (each_at s at (length ps) (table - 1) z) ≡ cond (below table ps) (size.Is z next) (size.Refused LineNumbers)
 unfolding each_at
 each_stands [] s at rest table z next stands some few = refl
 each_stands (p ∷ ps) s at rest table z next stands some few =
@@ -110,7 +111,7 @@ term_on scale boys ps = record { scale = scale; boys = boys; prefactors = ps }
 
 -- from the Boys order on
 boys-stands : (k : Kind) (l boys : ℕ) (ps s : List ℕ) (at : ℕ) (rest : List ℕ) (z next : ℕ) → l ≤ 100 → drop at s ≡ standing (boys ∷ ps) ++ rest
-    → sized next (boys_at s at (length ps) k l z) ≡ cond (leb boys (most_boys k l) && below (table_of k) ps) (size.Is z next) (size.Refused 22)
+    → sized next (boys_at s at (length ps) k l z) ≡ cond (leb boys (most_boys k l) && below (table_of k) ps) (size.Is z next) (size.Refused LineNumbers)
 unfolding boys_at
 boys-stands k l boys ps s at rest z next small stands =
     tested (leb boys (most_boys k l))
@@ -123,7 +124,7 @@ boys-stands k l boys ps s at rest z next small stands =
     rw (wrong, y))
 
 term-stands : (k : Kind) (l scale boys : ℕ) (ps s : List ℕ) (at : ℕ) (rest : List ℕ) (next : ℕ) → l ≤ 100 → drop at s ≡ standing (scale ∷ boys ∷ ps) ++ rest
-    → sized next (term_at s at (suc (suc (length ps))) k l) ≡ cond (term_keeps k l (term_on scale boys ps)) (size.Is (length_of scale + suc (suc (length ps))) next) (size.Refused 22)
+    → sized next (term_at s at (suc (suc (length ps))) k l) ≡ cond (term_keeps k l (term_on scale boys ps)) (size.Is (length_of scale + suc (suc (length ps))) next) (size.Refused LineNumbers)
 unfolding term_at term_keeps
 term-stands k l scale boys ps s at rest next small stands =
     let less : suc (suc (length ps)) - 2 ≡ length ps = omega arith in
@@ -158,7 +159,7 @@ line-rest s at ns rest inside e =
     (omega (arith, length-drop at s, ap length x.text, length-append (line_of ns) rest))
 
 -- the answer that the lines of terms give, after bytes of a size
-abbrev pub totalled : ℕ → ℕ → Judged (List Term) → Imported
+abbrev pub totalled : ℕ → ℕ → Judged (List Term) → Answer
 totalled z count (taken ts) = imported.Roll (z + length (terms_bytes ts)) count
 totalled z count (refused r n) = imported.Refused r n
 
@@ -185,7 +186,7 @@ line_kept s at k l scale boys ps rest inside small e keeps =
     ∙ rw keeps (ap (λ (z : ℕ). size.Is z next) (term-length k l (term_on scale boys ps) small (keeps-fits k l (term_on scale boys ps) keeps)))
 
 line-not-kept : (s : List ℕ) (at : ℕ) (k : Kind) (l scale boys : ℕ) (ps rest : List ℕ) → at < length s → l ≤ 100 → line_on (drop at s) ≡ line (scale ∷ boys ∷ ps) rest → term_keeps k l (term_on scale boys ps) ≡ false
-    → term_line_at s at k l ≡ size.Refused 22
+    → term_line_at s at k l ≡ size.Refused LineNumbers
 line-not-kept s at k l scale boys ps rest inside small e keeps =
     let next = length s - length rest in
     sym (line-long s at l (suc (suc (length ps))) next k (shape_at s at) (term_at s at (suc (suc (length ps))) k l) inside refl (shape-line s at (scale ∷ boys ∷ ps) rest e) (omega arith) refl)
@@ -200,7 +201,7 @@ module _ (s : List ℕ) (k : Kind) (l count : ℕ) (small : l ≤ 100) where
   abbrev after_term : ℕ → ℕ → List ℕ → Term → Judged (List Term)
   after_term number left rest t = and_then (terms_from k l (number + 1) left rest) (λ ts. taken (t ∷ ts))
 
-  abbrev sizes : ℕ → ℕ → ℕ → ℕ → ℕ → Imported
+  abbrev sizes : ℕ → ℕ → ℕ → ℕ → ℕ → Answer
   sizes number left z more next = terms_at s next (number + 1) left k l (z + more) count
 
   terms-line : (at number left z : ℕ) (ns rest : List ℕ) → at < length s → line_on (drop at s) ≡ line ns rest → 2 ≤ length ns → Later number left
@@ -224,25 +225,25 @@ module _ (s : List ℕ) (k : Kind) (l count : ℕ) (small : l ≤ 100) where
       tested (leb 2 (length ns))
       (λ y. rw y (terms-line at number left z ns rest inside e (leb-true 2 (length ns) y) later))
       (λ y.
-      let short : size.Refused 21 ≡ term_line_at s at k l = line-short s at l (length ns) (length s - length rest) k (shape_at s at) inside refl (shape-line s at ns rest e) (leb-false 2 (length ns) y) in
+      let short : size.Refused LineShape ≡ term_line_at s at k l = line-short s at l (length ns) (length s - length rest) k (shape_at s at) inside refl (shape-line s at ns rest e) (leb-false 2 (length ns) y) in
       rw (y, ← short))
   terms-step at number left z broken inside e later =
-      let none : size.Refused 21 ≡ term_line_at s at k l = line-broken s at l k (shape_at s at) inside refl (shape-broken s at e) in
+      let none : size.Refused LineShape ≡ term_line_at s at k l = line-broken s at l k (shape_at s at) inside refl (shape-broken s at e) in
       rw (← none)
 
   terms-end : (at number z : ℕ) (x : Line) → at < length s → line_on (drop at s) ≡ x
-      → end_at s at number z count ≡ totalled z count (on_line other_count x number (λ ns rest. refused 22 number))
+      → end_at s at number z count ≡ totalled z count (on_line other_count x number (λ ns rest. refused LineNumbers number))
   terms-end at number z (line ns rest) inside e =
       tested (leb 2 (length ns))
       (λ y. rw y (sym (end-many s at number z count (length ns) (length s - length rest) (shape_at s at) inside refl (shape-line s at ns rest e) (leb-true 2 (length ns) y))))
       (λ y. rw y (sym (end_short s at number z count (length ns) (length s - length rest) (shape_at s at) inside refl (shape-line s at ns rest e) (leb-false 2 (length ns) y))))
   terms-end at number z broken inside e = sym (end-broken s at number z count (shape_at s at) inside refl (shape-broken s at e))
 
-  from_end : (at number : ℕ) → at < length s → terms_from k l number 0 (drop at s) ≡ on_line other_count (line_on (drop at s)) number (λ ns rest. refused 22 number)
+  from_end : (at number : ℕ) → at < length s → terms_from k l number 0 (drop at s) ≡ on_line other_count (line_on (drop at s)) number (λ ns rest. refused LineNumbers number)
   unfolding terms_from
   from_end at number inside =
       let c = drop-cons s at 0 inside in
-      ap (terms_from k l number 0) c ∙ ap (λ (x : List ℕ). on_line {A = List Term} other_count (line_on x) number (λ ns rest. refused 22 number)) (sym c)
+      ap (terms_from k l number 0) c ∙ ap (λ (x : List ℕ). on_line {A = List Term} other_count (line_on x) number (λ ns rest. refused LineNumbers number)) (sym c)
 
   from-line : (at number left : ℕ) → at < length s → terms_from k l number (suc left) (drop at s) ≡ on_line other_count (line_on (drop at s)) number (λ ns rest. and_then (term_of k l number ns) (after_term number left rest))
   unfolding terms_from
@@ -268,5 +269,5 @@ module _ (s : List ℕ) (k : Kind) (l count : ℕ) (small : l ≤ 100) where
       terms-step at number left z (line_on (drop at s)) inside refl (λ next z. terms-stand left next (number + 1) z) ∙ ap (totalled z count) (sym (from-line at number left inside)))
       (λ y.
       let past = ltb-false at (length s) y in
-      let missing : size.Refused 22 ≡ term_line_at s at k l = line-missing s at l k past in
+      let missing : size.Refused LineNumbers ≡ term_line_at s at k l = line-missing s at l k past in
       rw (drop_of_length-le s past, ← missing))

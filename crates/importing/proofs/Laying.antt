@@ -23,7 +23,9 @@ use Rattle.roll.specs.Fits.{CentresFit, Below, TermFits, TermsFit, RollFits}
 use Rattle.roll.proofs.Back.{most-boys}
 use Rattle.exporting.specs.Text.{head_numbers, term_numbers, term_lines, text_of}
 use Rattle.importing.specs.declared.Imported.{Imported}
-use Rattle.importing.specs.declared.Imported.TheVariants as imported
+use Rattle.importing.specs.declared.ImportFault.{ImportFault}
+use Rattle.importing.specs.Answer.{Answer}
+use Rattle.importing.specs.Answer as imported
 use Rattle.importing.specs.Lines.{line, line_on}
 use Rattle.importing.specs.Import.{Judged, taken, refused, roll_of, imported_of, imported_out, ImportTold}
 use Rattle.importing.specs.inner.Places.{most_word, copied_at, past_at, further, term_put, terms_put, roll_put, measured}
@@ -32,6 +34,9 @@ use Rattle.importing.proofs.Numbers.{orders-room, prefactors-most}
 use Rattle.importing.proofs.Keeping.{shape-line, line-rest}
 use Rattle.importing.proofs.Answers.{centres-length}
 use Rattle.importing.proofs.Trips.{import-export}
+use Rattle.importing.proofs.Parts.{roll-both}
+use Rattle.std.specs.Prelude.{Ok, Err}
+use Rattle.kind.specs.declared.refusals.Refusal.TheVariants.{StartBeyondEnd, NoRoom}
 
 -- ---- numbers of 32 bits
 
@@ -140,7 +145,7 @@ measured-is : (s : List ℕ) (n terms : ℕ) → imported.Roll n terms ≡ measu
 measured-is s n terms e = by (roll_of s) refl e
   where
     by : (j : Judged Roll) → roll_of s ≡ j → imported.Roll n terms ≡ measured j → Measured s n terms
-    by (taken r) is e = record { roll = r; is = is; long = cc; count = cc }
+    by (taken r) is e = let both = roll-both e in record { roll = r; is = is; long = sym both.0; count = sym both.1 }
     by (refused x y) is e = absurd (clash (cc))
 
 laid-bytes : (s : List ℕ) (n terms : ℕ) (m : Measured s n terms) → roll_put s terms ≡ roll_bytes m.roll.kind m.roll.orders m.roll.terms
@@ -148,7 +153,7 @@ laid-bytes s n terms m =
     let t = import-export s m.roll m.is in
     ap (roll_put s) (sym m.count) ∙ roll-laid s m.roll t.fits t.text
 
-pub lay-beyond : (s out : List ℕ) (n terms start : ℕ) → imported.Roll n terms ≡ measured (roll_of s) → length out < start → ImportTold s out start (imported.Refused 5 0) out
+pub lay-beyond : (s out : List ℕ) (n terms start : ℕ) → imported.Roll n terms ≡ measured (roll_of s) → length out < start → ImportTold s out start (imported.Refused StartBeyondEnd 0) out
 unfolding imported_of imported_out
 lay-beyond s out n terms start e beyond =
     let m = measured-is s n terms e in
@@ -158,7 +163,7 @@ lay-beyond s out n terms start e beyond =
       out = rw (m.is, lt-leb (start + size) (length out) (omega arith));
     }
 
-pub lay-full : (s out : List ℕ) (n terms start : ℕ) → imported.Roll n terms ≡ measured (roll_of s) → start ≤ length out → length out - start < n → ImportTold s out start (imported.Refused 6 0) out
+pub lay-full : (s out : List ℕ) (n terms start : ℕ) → imported.Roll n terms ≡ measured (roll_of s) → start ≤ length out → length out - start < n → ImportTold s out start (imported.Refused NoRoom 0) out
 unfolding imported_of imported_out
 lay-full s out n terms start e inside full =
     let m = measured-is s n terms e in
@@ -187,15 +192,15 @@ lay-told s out after n terms start e inside room put =
       out = put ∙ ap (sets out start) (laid-bytes s n terms m) ∙ room-placed bytes out start fits ∙ rw m.is;
     }
 
-pub import-refused : (s out : List ℕ) (start refusal number : ℕ) (q : Imported) → q ≡ measured (roll_of s) → q ≡ imported.Refused refusal number → ImportTold s out start (imported.Refused refusal number) out
+pub import-refused : (s out : List ℕ) (start : ℕ) (why : ImportFault) (q : Answer) → q ≡ measured (roll_of s) → q ≡ Err why → ImportTold s out start (Err why) out
 unfolding imported_of imported_out
-import-refused s out start refusal number q is made = by (roll_of s) refl
+import-refused s out start why q is made = by (roll_of s) refl
   where
-    by : (j : Judged Roll) → roll_of s ≡ j → ImportTold s out start (imported.Refused refusal number) out
-    by (taken r) e = absurd (clash (let g : imported.Refused refusal number ≡ measured (taken r) = sym made ∙ is ∙ ap measured e in cc g))
+    by : (j : Judged Roll) → roll_of s ≡ j → ImportTold s out start (Err why) out
+    by (taken r) e = absurd (clash (let g : Err why ≡ measured (taken r) = sym made ∙ is ∙ ap measured e in cc g))
     by (refused x y) e =
-        let g : imported.Refused refusal number ≡ imported.Refused x y = sym made ∙ is ∙ ap measured e in
+        let g : Err why ≡ imported.Refused x y = sym made ∙ is ∙ ap measured e in
         record { answer = rw e g; out = rw e }
 
-pub import-laid : (s : List ℕ) (n terms : ℕ) (q : Imported) → q ≡ measured (roll_of s) → q ≡ imported.Roll n terms → imported.Roll n terms ≡ measured (roll_of s)
-import-laid s n terms q is made = sym made ∙ is
+pub import-laid : (s : List ℕ) (roll : Imported) (q : Answer) → q ≡ measured (roll_of s) → q ≡ Ok roll → Ok roll ≡ measured (roll_of s)
+import-laid s roll q is made = sym made ∙ is

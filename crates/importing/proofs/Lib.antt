@@ -6,6 +6,7 @@ pub mod Keeping
 pub mod Laying
 pub mod Numbers
 pub mod Only
+pub mod Parts
 pub mod Putting
 pub mod Refusals
 pub mod Shaping

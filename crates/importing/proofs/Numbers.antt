@@ -8,44 +8,43 @@ use borrow.Author.Tests.{lt-ltb, le-ltb, eq-eqb, ne_eqb}
 use lib.Dec.{eqb}
 use Rattle.laws.proofs.Cases.{clash}
 use Rattle.laws.proofs.Counting.{left_one, left-none}
+use Rattle.laws.proofs.Pairs.{some-both}
 use Rattle.kind.specs.Limits.{most_order, most_terms, most_scale, request_orders}
 use Rattle.kind.specs.Kinds.{kind_of, number_of, orders_of, table_of, most_prefactors, uses_boys}
 use Rattle.kind.specs.declared.Kind.{Kind}
 use Rattle.kind.specs.declared.Kind.TheVariants.{Overlap, Kinetic, Nuclear, Moment, Coulomb}
-use Rattle.kind.specs.declared.Named.{Named}
-use Rattle.kind.specs.declared.Named.TheVariants as named
 use Rattle.kind.proofs.Within.{some-entries, table-within}
 use Rattle.number.specs.Numbers.{length_of}
 use Rattle.number.proofs.Writing.{length-few}
 use Rattle.roll.specs.Reading.{most_boys, sum_after}
 use Rattle.roll.proofs.HeaderLaws.{sum-small}
-use Rattle.importing.specs.declared.numerals.Numeral.{Numeral}
-use Rattle.importing.specs.declared.numerals.Numeral.TheVariants as numeral
-use Rattle.importing.specs.declared.numerals.Head.{Head}
-use Rattle.importing.specs.declared.numerals.Head.TheVariants as head
+use Rattle.importing.specs.inner.Numeral.{Numeral}
+use Rattle.importing.specs.inner.Numeral as numeral
+use Rattle.importing.specs.inner.FirstLine.{FirstLine}
+use Rattle.importing.specs.inner.FirstLine as head
 use Rattle.importing.specs.inner.Places.{within_at, onward, orders_at, each_at, boys_at, term_at, counted_head, ordered_head, head_orders_at, named_head, numbered_head, head_at}
 use Rattle.importing.proofs.Within.{within-below}
+use Rattle.std.specs.Prelude.{Option, Some, None}
 
 -- ---- numbers that are gone over
 
-pub each_more : (s : List ℕ) (place left high size v next : ℕ) (r whole : Numeral) → each_at s place left high size ≡ whole → 0 < left
-    → r ≡ within_at s place 0 high → r ≡ numeral.Is v next → each_at s next (left - 1) high size ≡ whole
+pub each_more : (s : List ℕ) (place n i high size v next : ℕ) (r whole : Numeral) → each_at s place (n - i) high size ≡ whole → i < n
+    → r ≡ within_at s place 0 high → r ≡ numeral.Is v next → each_at s next (n - (i + 1)) high size ≡ whole
 unfolding each_at
-each_more s place zero high size v next r whole e some is made = absurd (omega arith)
-each_more s place (suc left) high size v next r whole e some is made =
-    let less : suc left - 1 ≡ left = omega arith in
-    rw less (sym (ap (λ (x : Numeral). onward x (λ p next. each_at s next left high size)) (sym is ∙ made)) ∙ e)
+each_more s place n i high size v next r whole e inside is made =
+    let one = left_one n i inside in
+    sym (ap (λ (x : Numeral). onward x (λ p next. each_at s next (n - (i + 1)) high size)) (sym is ∙ made)) ∙ sym (ap (λ (k : ℕ). each_at s place k high size) one) ∙ e
 
-pub each-wrong : (s : List ℕ) (place left high size : ℕ) (r whole : Numeral) → each_at s place left high size ≡ whole → 0 < left
+pub each-wrong : (s : List ℕ) (place n i high size : ℕ) (r whole : Numeral) → each_at s place (n - i) high size ≡ whole → i < n
     → r ≡ within_at s place 0 high → r ≡ numeral.Wrong → numeral.Wrong ≡ whole
 unfolding each_at
-each-wrong s place zero high size r whole e some is made = absurd (omega arith)
-each-wrong s place (suc left) high size r whole e some is made = sym (ap (λ (x : Numeral). onward x (λ p next. each_at s next left high size)) (sym is ∙ made)) ∙ e
+each-wrong s place n i high size r whole e inside is made =
+    let one = left_one n i inside in
+    sym (ap (λ (x : Numeral). onward x (λ p next. each_at s next (n - (i + 1)) high size)) (sym is ∙ made)) ∙ sym (ap (λ (k : ℕ). each_at s place k high size) one) ∙ e
 
-pub each-done : (s : List ℕ) (place left high size : ℕ) (whole : Numeral) → each_at s place left high size ≡ whole → left ≤ 0 → numeral.Is size place ≡ whole
+pub each-done : (s : List ℕ) (place n i high size : ℕ) (whole : Numeral) → each_at s place (n - i) high size ≡ whole → n ≤ i → numeral.Is size place ≡ whole
 unfolding each_at
-each-done s place zero high size whole e none = e
-each-done s place (suc left) high size whole e none = absurd (omega arith)
+each-done s place n i high size whole e past = sym (ap (λ (k : ℕ). each_at s place k high size) (left-none n i past)) ∙ e
 
 -- ---- orders
 
@@ -98,7 +97,7 @@ onward-is numeral.Wrong rest n next e = absurd (clash (cc))
 
 pub orders-few : (n : ℕ) (s : List ℕ) (at i sum l : ℕ) (m next : ℕ) → orders_at s at n i sum l ≡ numeral.Is m next → m ≤ l + most_order * n
 unfolding orders_at
-orders-few zero s at i sum l m next e = let same : l ≡ m = cc in omega arith
+orders-few zero s at i sum l m next e = let same : l ≡ m = (some-both e).0 in omega arith
 orders-few (suc n) s at i sum l m next e =
     let o = onward-is (within_at s at 0 (most_order - sum)) (λ o next. orders_at s next n (i + 1) (sum_after i sum o) (l + o)) m next e in
     let below = within-below s at 0 (most_order - sum) o.0 o.1 o.2 in
@@ -144,24 +143,24 @@ head-unordered s at n k r e is made = ap (ordered_head s k) (sym made ∙ is ∙
 pub kind-byte : (s : List ℕ) (at number next high : ℕ) (r : Numeral) → r ≡ within_at s at 0 high → r ≡ numeral.Is number next → high ≡ number_of Coulomb → number < 256
 kind-byte s at number next high r is made few = omega (arith, few, within-below s at 0 high number next (sym is ∙ made))
 
-pub first_made : (s : List ℕ) (n number next high places : ℕ) (k : Kind) (r : Numeral) (m : Named) (h : Head) → high ≡ number_of Coulomb → r ≡ within_at s 0 0 high → r ≡ numeral.Is number next
-    → m ≡ kind_of number → m ≡ named.Is k → places ≡ orders_of k → n ≡ places + 2 → h ≡ head_orders_at s next k → h ≡ head_at s n
+pub first_made : (s : List ℕ) (n number next high places : ℕ) (k : Kind) (r : Numeral) (m : Option Kind) (h : FirstLine) → high ≡ number_of Coulomb → r ≡ within_at s 0 0 high → r ≡ numeral.Is number next
+    → m ≡ kind_of number → m ≡ Some k → places ≡ orders_of k → n ≡ places + 2 → h ≡ head_orders_at s next k → h ≡ head_at s n
 unfolding head_at
 first_made s n number next high places k r m h hi is made of kind p count e =
     let counts : eqb n (orders_of k + 2) ≡ true = eq-eqb n (orders_of k + 2) (omega arith) in
-    let step : named_head s n next (named.Is k) ≡ head_orders_at s next k = rw counts in
+    let step : named_head s n next (Some k) ≡ head_orders_at s next k = rw counts in
     e ∙ sym step ∙ ap (named_head s n next) (sym kind ∙ of) ∙ ap (numbered_head s n) (sym made ∙ is ∙ ap (within_at s 0 0) hi)
 
-pub first-other : (s : List ℕ) (n number next high places : ℕ) (k : Kind) (r : Numeral) (m : Named) → high ≡ number_of Coulomb → r ≡ within_at s 0 0 high → r ≡ numeral.Is number next
-    → m ≡ kind_of number → m ≡ named.Is k → places ≡ orders_of k → (n ≡ places + 2 → ⊥) → head.Wrong ≡ head_at s n
+pub first-other : (s : List ℕ) (n number next high places : ℕ) (k : Kind) (r : Numeral) (m : Option Kind) → high ≡ number_of Coulomb → r ≡ within_at s 0 0 high → r ≡ numeral.Is number next
+    → m ≡ kind_of number → m ≡ Some k → places ≡ orders_of k → (n ≡ places + 2 → ⊥) → head.Wrong ≡ head_at s n
 unfolding head_at
 first-other s n number next high places k r m hi is made of kind p count =
     let counts : eqb n (orders_of k + 2) ≡ false = ne_eqb n (orders_of k + 2) (λ q. count (omega arith)) in
-    let step : named_head s n next (named.Is k) ≡ head.Wrong = rw counts in
+    let step : named_head s n next (Some k) ≡ head.Wrong = rw counts in
     sym step ∙ ap (named_head s n next) (sym kind ∙ of) ∙ ap (numbered_head s n) (sym made ∙ is ∙ ap (within_at s 0 0) hi)
 
-pub first-unknown : (s : List ℕ) (n number next high : ℕ) (r : Numeral) (m : Named) → high ≡ number_of Coulomb → r ≡ within_at s 0 0 high → r ≡ numeral.Is number next
-    → m ≡ kind_of number → m ≡ named.Unknown → head.Wrong ≡ head_at s n
+pub first-unknown : (s : List ℕ) (n number next high : ℕ) (r : Numeral) (m : Option Kind) → high ≡ number_of Coulomb → r ≡ within_at s 0 0 high → r ≡ numeral.Is number next
+    → m ≡ kind_of number → m ≡ None → head.Wrong ≡ head_at s n
 unfolding head_at
 first-unknown s n number next high r m hi is made of kind = ap (named_head s n next) (sym kind ∙ of) ∙ ap (numbered_head s n) (sym made ∙ is ∙ ap (within_at s 0 0) hi)
 

@@ -1,55 +1,38 @@
 -- What is written, number after number and line after line: what is still to be written, put down here, is the whole put down at the start.
-use Prim.Native.Nat.{ℕ, zero, suc, ◌+◌, ◌-◌, ◌≤◌, ◌<◌}
+use Prim.Native.Nat.{ℕ, ◌+◌, ◌-◌, ◌≤◌, ◌<◌}
 use mathlib.Core.Path.{◌≡◌, refl, sym, ap, subst, ◌∙◌}
 use mathlib.Core.List.{List, [], ◌++◌}
 use native.Mathlib.Omega.{arith}
 use borrow.Author.Tests.{le-leb}
 use lib.ListN.{length, length-append}
 use lib.Seq.{sets, length-sets}
-use Rattle.laws.proofs.Cases.{clash}
+use Rattle.std.specs.Option.{unwrap_or}
+use Rattle.laws.proofs.Counting.{left_one, left-none}
 use Rattle.laws.proofs.Lists.{sets-append}
 use Rattle.laws.proofs.Parts.{room-placed}
 use Rattle.number.specs.Numbers.{bytes_of, length_of, written_at, WriteTold}
-use Rattle.number.specs.declared.Written.{Written}
-use Rattle.number.specs.declared.Written.TheVariants as written
-use Rattle.importing.specs.declared.lines.Shape.{Shape}
-use Rattle.importing.specs.declared.lines.Shape.TheVariants as shape
-use Rattle.importing.specs.declared.numerals.Numeral.{Numeral}
-use Rattle.importing.specs.declared.numerals.Numeral.TheVariants as numeral
+use Rattle.importing.specs.inner.Shape.{Shape}
+use Rattle.importing.specs.inner.Shape as shape
+use Rattle.importing.specs.inner.Numeral.{Numeral}
+use Rattle.importing.specs.inner.Numeral as numeral
 use Rattle.importing.specs.declared.writing.Spot.{Spot}
 use Rattle.importing.specs.inner.Places.{shape_at, within_at, most_word, copied_at, past_at, Copied, further, term_put, terms_put, roll_put, Wrote}
+use Rattle.std.specs.Prelude.{Option, Some}
 
 -- ---- a number
 
-wrote-room : (before after : List ℕ) (at n : ℕ) (w : Written) → at + length_of n ≤ length before → WriteTold before at (bytes_of n) w after
-    → (w ≡ written.Next (at + length (bytes_of n))) × (after ≡ sets before at (bytes_of n))
+wrote-room : (before after : List ℕ) (at n : ℕ) (w : Option ℕ) → at + length_of n ≤ length before → WriteTold before at (bytes_of n) w after
+    → (w ≡ Some (at + length (bytes_of n))) × (after ≡ sets before at (bytes_of n))
 unfolding length_of written_at
 wrote-room before after at n w room told =
     let fits = le-leb (at + length (bytes_of n)) (length before) room in
     (told.answer ∙ rw fits, told.out ∙ sym (room-placed (bytes_of n) before at fits))
 
-pub put_next : (before after : List ℕ) (at n next : ℕ) (w : Written) → at + length_of n ≤ length before → WriteTold before at (bytes_of n) w after → w ≡ written.Next next
-    → Wrote (bytes_of n) before at next after
-put_next before after at n next w room told made =
-    let r = wrote-room before after at n w room told in
-    let same : written.Next next ≡ written.Next (at + length (bytes_of n)) = sym made ∙ r.0 in
-    record { answer = cc same; out = r.1 }
-
-pub put-none : (before after : List ℕ) (at n : ℕ) (w : Written) → at + length_of n ≤ length before → WriteTold before at (bytes_of n) w after → w ≡ written.NoRoom
-    → Wrote (bytes_of n) before at at after
-put-none before after at n w room told made =
-    let r = wrote-room before after at n w room told in
-    let same : written.NoRoom ≡ written.Next (at + length (bytes_of n)) = sym made ∙ r.0 in
-    absurd (clash (cc same))
-
-pub further-none : (n : ℕ) → n < 2 → 0 ≡ further n
-further-none n h = omega arith
-
-pub further-most : (n : ℕ) → 2 ≤ n → 4294967295 < n - 2 → 4294967295 ≡ further n
-further-most n h k = omega arith
-
-pub further-is : (n : ℕ) → 2 ≤ n → n - 2 ≤ 4294967295 → n - 2 ≡ further n
-further-is n h k = omega arith
+pub put-written : (before after : List ℕ) (at n r : ℕ) (w : Option ℕ) → at + length_of n ≤ length before → WriteTold before at (bytes_of n) w after → r ≡ unwrap_or w at
+    → Wrote (bytes_of n) before at r after
+put-written before after at n r w room told is =
+    let made = wrote-room before after at n w room told in
+    record { answer = is ∙ ap (λ (w : Option ℕ). unwrap_or w at) made.0; out = made.1 }
 
 -- ---- one after the other
 
@@ -69,77 +52,72 @@ wrote-long xs before after p r w = ap length w.out ∙ length-sets before p xs
 
 -- ---- the numbers of a line
 
-pub record Copying (s : List ℕ) (at n : ℕ) (out₀ : List ℕ) (place : ℕ) (out : List ℕ) (from to left : ℕ) : Type 0 where
+pub record Copying (s : List ℕ) (at n : ℕ) (out₀ : List ℕ) (place : ℕ) (out : List ℕ) (from to i : ℕ) : Type 0 where
   pub long : length out ≡ length out₀
-  pub room : to + length (copied_at s from left) ≤ length out
-  pub end : to + length (copied_at s from left) ≡ place + length (copied_at s at n)
-  pub text : past_at s from left ≡ past_at s at n
-  pub puts : sets out to (copied_at s from left) ≡ sets out₀ place (copied_at s at n)
+  pub room : to + length (copied_at s from (n - i)) ≤ length out
+  pub end : to + length (copied_at s from (n - i)) ≡ place + length (copied_at s at n)
+  pub text : past_at s from (n - i) ≡ past_at s at n
+  pub puts : sets out to (copied_at s from (n - i)) ≡ sets out₀ place (copied_at s at n)
 
-pub copying-first : (s : List ℕ) (at n : ℕ) (out : List ℕ) (place : ℕ) → place + length (copied_at s at n) ≤ length out → Copying s at n out place out at place n
-copying-first s at n out place room = record { long = refl; room = room; end = refl; text = refl; puts = refl }
+pub copying-first : (s : List ℕ) (at n : ℕ) (out : List ℕ) (place : ℕ) → place + length (copied_at s at n) ≤ length out → Copying s at n out place out at place 0
+copying-first s at n out place room = let all : n - 0 ≡ n = omega arith in record { long = refl; room = rw all room; end = rw all; text = rw all; puts = rw all }
 
-record Next (s : List ℕ) (from left v next : ℕ) : Type 0 where
-  pub bytes : copied_at s from left ≡ bytes_of v ++ copied_at s next (left - 1)
-  pub text : past_at s from left ≡ past_at s next (left - 1)
+record Next (s : List ℕ) (from n i v next : ℕ) : Type 0 where
+  pub bytes : copied_at s from (n - i) ≡ bytes_of v ++ copied_at s next (n - (i + 1))
+  pub text : past_at s from (n - i) ≡ past_at s next (n - (i + 1))
 
-next-is : (s : List ℕ) (from left v next : ℕ) (r : Numeral) → 0 < left → r ≡ within_at s from 0 most_word → r ≡ numeral.Is v next → Next s from left v next
+next-is : (s : List ℕ) (from n i v next : ℕ) (r : Numeral) → i < n → r ≡ within_at s from 0 most_word → r ≡ numeral.Is v next → Next s from n i v next
 unfolding copied_at past_at
-next-is s from zero v next r some is made = absurd (omega arith)
-next-is s from (suc left) v next r some is made =
-    let less : suc left - 1 ≡ left = omega arith in
+next-is s from n i v next r inside is made =
+    let one = left_one n i inside in
     let e : within_at s from 0 most_word ≡ numeral.Is v next = sym is ∙ made in
-    record {
-      bytes = rw e (ap (λ (n : ℕ). bytes_of v ++ copied_at s next n) (sym less));
-      text = rw e (ap (past_at s next) (sym less));
-    }
+    record { bytes = rw (one, e); text = rw (one, e) }
 
-pub copying-room : (s : List ℕ) (at n : ℕ) (out₀ : List ℕ) (place : ℕ) (out : List ℕ) (from to left v next : ℕ) (r : Numeral) → Copying s at n out₀ place out from to left → 0 < left
+pub copying-room : (s : List ℕ) (at n : ℕ) (out₀ : List ℕ) (place : ℕ) (out : List ℕ) (from to i v next : ℕ) (r : Numeral) → Copying s at n out₀ place out from to i → i < n
     → r ≡ within_at s from 0 most_word → r ≡ numeral.Is v next → to + length_of v ≤ length out
 unfolding length_of
-copying-room s at n out₀ place out from to left v next r c some is made =
-    let x = next-is s from left v next r some is made in
-    omega (arith, c.room, ap length x.bytes, length-append (bytes_of v) (copied_at s next (left - 1)))
+copying-room s at n out₀ place out from to i v next r c inside is made =
+    let x = next-is s from n i v next r inside is made in
+    omega (arith, c.room, ap length x.bytes, length-append (bytes_of v) (copied_at s next (n - (i + 1))))
 
-pub copying-more : (s : List ℕ) (at n : ℕ) (out₀ : List ℕ) (place : ℕ) (out after : List ℕ) (from to left v next to' : ℕ) (r : Numeral) → Copying s at n out₀ place out from to left → 0 < left
-    → r ≡ within_at s from 0 most_word → r ≡ numeral.Is v next → Wrote (bytes_of v) out to to' after → Copying s at n out₀ place after next to' (left - 1)
-copying-more s at n out₀ place out after from to left v next to' r c some is made w =
-    let x = next-is s from left v next r some is made in
-    let long = ap length x.bytes ∙ length-append (bytes_of v) (copied_at s next (left - 1)) in
+pub copying-more : (s : List ℕ) (at n : ℕ) (out₀ : List ℕ) (place : ℕ) (out after : List ℕ) (from to i v next to' : ℕ) (r : Numeral) → Copying s at n out₀ place out from to i → i < n
+    → r ≡ within_at s from 0 most_word → r ≡ numeral.Is v next → Wrote (bytes_of v) out to to' after → Copying s at n out₀ place after next to' (i + 1)
+copying-more s at n out₀ place out after from to i v next to' r c inside is made w =
+    let x = next-is s from n i v next r inside is made in
+    let long = ap length x.bytes ∙ length-append (bytes_of v) (copied_at s next (n - (i + 1))) in
     record {
       long = wrote-long (bytes_of v) out after to to' w ∙ c.long;
       room = omega (arith, c.room, long, w.answer, wrote-long (bytes_of v) out after to to' w);
       end = omega (arith, c.end, long, w.answer);
       text = sym x.text ∙ c.text;
-      puts = ap (λ (n : ℕ). sets after n (copied_at s next (left - 1))) w.answer
-          ∙ ap (λ (l : List ℕ). sets l (to + length (bytes_of v)) (copied_at s next (left - 1))) w.out
-          ∙ sym (sets-append out to (bytes_of v) (copied_at s next (left - 1)))
+      puts = ap (λ (m : ℕ). sets after m (copied_at s next (n - (i + 1)))) w.answer
+          ∙ ap (λ (l : List ℕ). sets l (to + length (bytes_of v)) (copied_at s next (n - (i + 1)))) w.out
+          ∙ sym (sets-append out to (bytes_of v) (copied_at s next (n - (i + 1))))
           ∙ ap (sets out to) (sym x.bytes)
           ∙ c.puts;
     }
 
-copying-end : (s : List ℕ) (at n : ℕ) (out₀ : List ℕ) (place : ℕ) (out : List ℕ) (from to left : ℕ) → Copying s at n out₀ place out from to left → copied_at s from left ≡ [] → past_at s from left ≡ from
+copying-end : (s : List ℕ) (at n : ℕ) (out₀ : List ℕ) (place : ℕ) (out : List ℕ) (from to i : ℕ) → Copying s at n out₀ place out from to i → copied_at s from (n - i) ≡ [] → past_at s from (n - i) ≡ from
     → Copied s at n out₀ place (record { text = from; roll = to }) out
-copying-end s at n out₀ place out from to left c none text =
+copying-end s at n out₀ place out from to i c none text =
     record {
       text = sym text ∙ c.text;
       roll = omega (arith, c.end, ap length none);
       out = sym (ap (sets out to) none) ∙ c.puts;
     }
 
-pub copying-wrong : (s : List ℕ) (at n : ℕ) (out₀ : List ℕ) (place : ℕ) (out : List ℕ) (from to left : ℕ) (r : Numeral) → Copying s at n out₀ place out from to left → 0 < left
+pub copying-wrong : (s : List ℕ) (at n : ℕ) (out₀ : List ℕ) (place : ℕ) (out : List ℕ) (from to i : ℕ) (r : Numeral) → Copying s at n out₀ place out from to i → i < n
     → r ≡ within_at s from 0 most_word → r ≡ numeral.Wrong → Copied s at n out₀ place (record { text = from; roll = to }) out
 unfolding copied_at past_at
-copying-wrong s at n out₀ place out from to zero r c some is made = absurd (omega arith)
-copying-wrong s at n out₀ place out from to (suc left) r c some is made =
+copying-wrong s at n out₀ place out from to i r c inside is made =
+    let one = left_one n i inside in
     let e : within_at s from 0 most_word ≡ numeral.Wrong = sym is ∙ made in
-    copying-end s at n out₀ place out from to (suc left) c (rw e) (rw e)
+    copying-end s at n out₀ place out from to i c (rw (one, e)) (rw (one, e))
 
-pub copying-done : (s : List ℕ) (at n : ℕ) (out₀ : List ℕ) (place : ℕ) (out : List ℕ) (from to left : ℕ) → Copying s at n out₀ place out from to left → left ≤ 0
+pub copying-done : (s : List ℕ) (at n : ℕ) (out₀ : List ℕ) (place : ℕ) (out : List ℕ) (from to i : ℕ) → Copying s at n out₀ place out from to i → n ≤ i
     → Copied s at n out₀ place (record { text = from; roll = to }) out
 unfolding copied_at past_at
-copying-done s at n out₀ place out from to zero c none = copying-end s at n out₀ place out from to zero c refl refl
-copying-done s at n out₀ place out from to (suc left) c none = absurd (omega arith)
+copying-done s at n out₀ place out from to i c past = let none = left-none n i past in copying-end s at n out₀ place out from to i c (rw none) (rw none)
 
 -- ---- a term
 
@@ -188,55 +166,55 @@ term-put s at n place count to out mid low after h e is c w d =
 
 -- ---- the terms
 
-pub record Terms (s : List ℕ) (at terms : ℕ) (out₀ : List ℕ) (place : ℕ) (out : List ℕ) (from to left : ℕ) : Type 0 where
+pub record Terms (s : List ℕ) (at terms : ℕ) (out₀ : List ℕ) (place : ℕ) (out : List ℕ) (from to i : ℕ) : Type 0 where
   pub long : length out ≡ length out₀
-  pub room : to + length (terms_put s from left) ≤ length out
-  pub puts : sets out to (terms_put s from left) ≡ sets out₀ place (terms_put s at terms)
+  pub room : to + length (terms_put s from (terms - i)) ≤ length out
+  pub puts : sets out to (terms_put s from (terms - i)) ≡ sets out₀ place (terms_put s at terms)
 
-pub terms-first : (s : List ℕ) (at terms : ℕ) (out : List ℕ) (place : ℕ) → place + length (terms_put s at terms) ≤ length out → Terms s at terms out place out at place terms
-terms-first s at terms out place room = record { long = refl; room = room; puts = refl }
+pub terms-first : (s : List ℕ) (at terms : ℕ) (out : List ℕ) (place : ℕ) → place + length (terms_put s at terms) ≤ length out → Terms s at terms out place out at place 0
+terms-first s at terms out place room = let all : terms - 0 ≡ terms = omega arith in record { long = refl; room = rw all room; puts = rw all }
 
-terms-next : (s : List ℕ) (from left n next : ℕ) (r : Shape) → 0 < left → r ≡ shape_at s from → r ≡ shape.Line n next → terms_put s from left ≡ term_put s from n ++ terms_put s next (left - 1)
+terms-next : (s : List ℕ) (from terms i n next : ℕ) (r : Shape) → i < terms → r ≡ shape_at s from → r ≡ shape.Line n next → terms_put s from (terms - i) ≡ term_put s from n ++ terms_put s next (terms - (i + 1))
 unfolding terms_put
-terms-next s from zero n next r some is made = absurd (omega arith)
-terms-next s from (suc left) n next r some is made =
-    let less : suc left - 1 ≡ left = omega arith in
+terms-next s from terms i n next r inside is made =
+    let one = left_one terms i inside in
     let e : shape_at s from ≡ shape.Line n next = sym is ∙ made in
-    rw less (rw e)
+    rw (one, e)
 
-pub terms-room : (s : List ℕ) (at terms : ℕ) (out₀ : List ℕ) (place : ℕ) (out : List ℕ) (from to left n next : ℕ) (r : Shape) → Terms s at terms out₀ place out from to left → 0 < left
+pub terms-room : (s : List ℕ) (at terms : ℕ) (out₀ : List ℕ) (place : ℕ) (out : List ℕ) (from to i n next : ℕ) (r : Shape) → Terms s at terms out₀ place out from to i → i < terms
     → r ≡ shape_at s from → r ≡ shape.Line n next → to + length (term_put s from n) ≤ length out
-terms-room s at terms out₀ place out from to left n next r t some is made =
-    omega (arith, t.room, ap length (terms-next s from left n next r some is made), length-append (term_put s from n) (terms_put s next (left - 1)))
+terms-room s at terms out₀ place out from to i n next r t inside is made =
+    omega (arith, t.room, ap length (terms-next s from terms i n next r inside is made), length-append (term_put s from n) (terms_put s next (terms - (i + 1))))
 
-pub terms-more : (s : List ℕ) (at terms : ℕ) (out₀ : List ℕ) (place : ℕ) (out after : List ℕ) (from to left n next to' : ℕ) (r : Shape) → Terms s at terms out₀ place out from to left → 0 < left
-    → r ≡ shape_at s from → r ≡ shape.Line n next → Wrote (term_put s from n) out to to' after → Terms s at terms out₀ place after next to' (left - 1)
-terms-more s at terms out₀ place out after from to left n next to' r t some is made w =
-    let x = terms-next s from left n next r some is made in
-    let long = ap length x ∙ length-append (term_put s from n) (terms_put s next (left - 1)) in
+pub terms-more : (s : List ℕ) (at terms : ℕ) (out₀ : List ℕ) (place : ℕ) (out after : List ℕ) (from to i n next to' : ℕ) (r : Shape) → Terms s at terms out₀ place out from to i → i < terms
+    → r ≡ shape_at s from → r ≡ shape.Line n next → Wrote (term_put s from n) out to to' after → Terms s at terms out₀ place after next to' (i + 1)
+terms-more s at terms out₀ place out after from to i n next to' r t inside is made w =
+    let x = terms-next s from terms i n next r inside is made in
+    let long = ap length x ∙ length-append (term_put s from n) (terms_put s next (terms - (i + 1))) in
     record {
       long = wrote-long (term_put s from n) out after to to' w ∙ t.long;
       room = omega (arith, t.room, long, w.answer, wrote-long (term_put s from n) out after to to' w);
-      puts = ap (λ (n : ℕ). sets after n (terms_put s next (left - 1))) w.answer
-          ∙ ap (λ (l : List ℕ). sets l (to + length (term_put s from n)) (terms_put s next (left - 1))) w.out
-          ∙ sym (sets-append out to (term_put s from n) (terms_put s next (left - 1)))
+      puts = ap (λ (m : ℕ). sets after m (terms_put s next (terms - (i + 1)))) w.answer
+          ∙ ap (λ (l : List ℕ). sets l (to + length (term_put s from n)) (terms_put s next (terms - (i + 1)))) w.out
+          ∙ sym (sets-append out to (term_put s from n) (terms_put s next (terms - (i + 1))))
           ∙ ap (sets out to) (sym x)
           ∙ t.puts;
     }
 
-pub terms-broken : (s : List ℕ) (at terms : ℕ) (out₀ : List ℕ) (place : ℕ) (out : List ℕ) (from to left : ℕ) (r : Shape) → Terms s at terms out₀ place out from to left → 0 < left
+pub terms-broken : (s : List ℕ) (at terms : ℕ) (out₀ : List ℕ) (place : ℕ) (out : List ℕ) (from to i : ℕ) (r : Shape) → Terms s at terms out₀ place out from to i → i < terms
     → r ≡ shape_at s from → r ≡ shape.Broken → out ≡ sets out₀ place (terms_put s at terms)
 unfolding terms_put
-terms-broken s at terms out₀ place out from to zero r t some is made = absurd (omega arith)
-terms-broken s at terms out₀ place out from to (suc left) r t some is made =
+terms-broken s at terms out₀ place out from to i r t inside is made =
+    let one = left_one terms i inside in
     let e : shape_at s from ≡ shape.Broken = sym is ∙ made in
-    let none : terms_put s from (suc left) ≡ [] = rw e in
+    let none : terms_put s from (terms - i) ≡ [] = rw (one, e) in
     sym (ap (sets out to) none) ∙ t.puts
 
-pub terms-done : (s : List ℕ) (at terms : ℕ) (out₀ : List ℕ) (place : ℕ) (out : List ℕ) (from to left : ℕ) → Terms s at terms out₀ place out from to left → left ≤ 0 → out ≡ sets out₀ place (terms_put s at terms)
+pub terms-done : (s : List ℕ) (at terms : ℕ) (out₀ : List ℕ) (place : ℕ) (out : List ℕ) (from to i : ℕ) → Terms s at terms out₀ place out from to i → terms ≤ i → out ≡ sets out₀ place (terms_put s at terms)
 unfolding terms_put
-terms-done s at terms out₀ place out from to zero t none = t.puts
-terms-done s at terms out₀ place out from to (suc left) t none = absurd (omega arith)
+terms-done s at terms out₀ place out from to i t past =
+    let none : terms_put s from (terms - i) ≡ [] = rw (left-none terms i past) in
+    sym (ap (sets out to) none) ∙ t.puts
 
 -- ---- the roll
 

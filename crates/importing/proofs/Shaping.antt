@@ -4,17 +4,20 @@ use mathlib.Core.Path.{◌≡◌, refl, sym, ap, ◌∙◌}
 use mathlib.Core.Bool.{Bool, true, false}
 use mathlib.Core.List.{List, [], ◌∷◌, ◌++◌, append_assoc, append-nil}
 use native.Mathlib.Omega.{arith}
-use borrow.Author.Tests.{ltb-true, ltb-false, eq-eqb, ne_eqb}
-use lib.Dec.{ltb}
-use lib.ListN.{length, get_or, drop, length-drop, drop_of_length-le}
+use borrow.Author.Tests.{lt-ltb, le-ltb, ltb-true, ltb-false, leb-true, leb-false, eq-eqb, ne_eqb}
+use lib.Dec.{ltb, leb}
+use lib.ListN.{length, get_or, take, drop, length-drop, drop_of_length-le}
 use lib.Seq.{drop-cons, drop-drop}
+use Rattle.std.specs.Char.{is_ascii_digit}
+use Rattle.std.specs.List.{prefix_len}
 use Rattle.laws.proofs.Cases.{tested}
 use Rattle.laws.proofs.Lists.{drop_head}
+use Rattle.laws.proofs.Parts.{part-all}
 use Rattle.text.specs.Digits.{worth, value_from}
 use Rattle.text.specs.Reading.{run_of}
 use Rattle.text.proofs.Digits.{worth-below, worth-figure, worth-between, worth-letter, worth-above}
-use Rattle.text.proofs.Reading.{run_more, run_end, run_past}
-use Rattle.importing.specs.declared.lines.Shape.TheVariants as shape
+use Rattle.text.proofs.Reading.{run_past}
+use Rattle.importing.specs.inner.Shape as shape
 use Rattle.importing.specs.Lines.{is_number, Line, line, broken, before, after, line_from, line_on}
 use Rattle.importing.specs.inner.Places.{counted, shape_at}
 
@@ -36,20 +39,26 @@ digit-high b h =
 pub digit-is : (b : ℕ) → 48 ≤ b → b ≤ 57 → worth b < 10
 digit-is b h k = omega (arith, worth-figure b h (omega arith))
 
--- the digits gone over, and those that are left
-pub digits_more : (s : List ℕ) (i end : ℕ) → i < length s → 48 ≤ get_or s i 0 → get_or s i 0 ≤ 57 → i + length (run_of (drop i s) 10) ≡ end
-    → i + 1 + length (run_of (drop (i + 1) s) 10) ≡ end
-digits_more s i end inside low high e =
-    omega (arith, e, ap length (run_more s 10 i (worth (get_or s i 0)) inside refl (digit-is (get_or s i 0) low high)))
+digit-test : (b : ℕ) → ltb (worth b) 10 ≡ is_ascii_digit b
+digit-test b =
+    tested (leb 48 b)
+    (λ y.
+    let low = leb-true 48 b y in
+    tested (leb b 57)
+    (λ z. rw (y, z) (lt-ltb (worth b) 10 (digit-is b low (leb-true b 57 z))))
+    (λ z. rw (y, z) (le-ltb (worth b) 10 (digit-high b (leb-false b 57 z)))))
+    (λ y. rw y (le-ltb (worth b) 10 (digit_low b (leb-false 48 b y))))
 
-pub digits_low : (s : List ℕ) (i end : ℕ) → i < length s → get_or s i 0 < 48 → i + length (run_of (drop i s) 10) ≡ end → i ≡ end
-digits_low s i end inside low e = omega (arith, e, ap length (run_end s 10 i (worth (get_or s i 0)) inside refl (digit_low (get_or s i 0) low)))
+-- as many digits as the run has
+run-prefix : (s : List ℕ) → length (run_of s 10) ≡ prefix_len is_ascii_digit s
+run-prefix [] = refl
+run-prefix (b ∷ s) =
+    tested (ltb (worth b) 10)
+    (λ y. let t : is_ascii_digit b ≡ true = sym (digit-test b) ∙ y in rw (y, run_of, t) (let h = run-prefix s in omega arith))
+    (λ y. let t : is_ascii_digit b ≡ false = sym (digit-test b) ∙ y in rw (y, run_of, t))
 
-pub digits-high : (s : List ℕ) (i end : ℕ) → i < length s → 57 < get_or s i 0 → i + length (run_of (drop i s) 10) ≡ end → i ≡ end
-digits-high s i end inside high e = omega (arith, e, ap length (run_end s 10 i (worth (get_or s i 0)) inside refl (digit-high (get_or s i 0) high)))
-
-pub digits-past : (s : List ℕ) (i end : ℕ) → length s ≤ i → i + length (run_of (drop i s) 10) ≡ end → i ≡ end
-digits-past s i end past e = omega (arith, e, ap length (run_past s 10 i past))
+pub digits-end : (s : List ℕ) (place n : ℕ) → n ≡ prefix_len is_ascii_digit (take (length s - place) (drop place s)) → place + n ≡ place + length (run_of (drop place s) 10)
+digits-end s place n e = ap (λ (m : ℕ). place + m) (e ∙ ap (prefix_len is_ascii_digit) (part-all s place) ∙ sym (run-prefix (drop place s)))
 
 -- ---- a number
 
@@ -181,9 +190,10 @@ counted-more size n v (line ns rest) = ap (λ (k : ℕ). shape.Line k (size - le
 counted-more size n v broken = refl
 
 pub counting_more : (s : List ℕ) (at place n end : ℕ) (t : Bool) → Counting s at place n → end ≡ place + length (run_of (drop place s) 10) → end < length s
-    → t ≡ is_number (run_of (drop place s) 10) → t ≡ true → (get_or s end 0 ≡ 10 → ⊥) → get_or s end 0 ≡ 44 → Counting s at (end + 1) (n + 1)
-counting_more s at place n end t c e inside is holds no-feed comma =
+    → t ≡ is_number (run_of (drop place s) 10) → t ≡ true → get_or s end 0 ≡ 44 → Counting s at (end + 1) (n + 1)
+counting_more s at place n end t c e inside is holds comma =
     let few = c.few in
+    let no-feed : get_or s end 0 ≡ 10 → ⊥ = λ q. omega arith in
     let made : line_on (drop place s) ≡ before (value_from 10 0 (run_of (drop place s) 10)) (line_on (drop (end + 1) s)) =
     line_after s place end e inside ∙ rw (sym is ∙ holds, ne_eqb (get_or s end 0) 10 no-feed, eq-eqb (get_or s end 0) 44 comma) in
     record {

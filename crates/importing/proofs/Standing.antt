@@ -12,10 +12,11 @@ use Rattle.laws.proofs.Cases.{clash, tested}
 use Rattle.laws.proofs.Lists.{drop-after}
 use Rattle.text.specs.Digits.{worth, decimal_of, value_from}
 use Rattle.text.specs.Reading.{run_of, value_at, decimal_at}
-use Rattle.text.specs.declared.Parsed.TheVariants as parsed
+use Rattle.text.specs.Parsed as parsed
 use Rattle.text.proofs.Digits.{decimal-value}
-use Rattle.exporting.specs.Text.{feed, after_commas, line_of}
-use Rattle.importing.specs.declared.numerals.Numeral.TheVariants as numeral
+use Rattle.listing.specs.Text.{feed}
+use Rattle.exporting.specs.Text.{after_commas, line_of}
+use Rattle.importing.specs.inner.Numeral as numeral
 use Rattle.importing.specs.Lines.{is_number, Line, line, broken, before, after, line_from, line_on}
 use Rattle.importing.specs.inner.Places.{limited, within_at}
 use Rattle.importing.proofs.Shaping.{line-run, line-byte}

@@ -15,8 +15,6 @@ use Rattle.kind.specs.Limits.{most_terms}
 use Rattle.kind.specs.Kinds.{kind_of, number_of, orders_of}
 use Rattle.kind.specs.declared.Kind.{Kind}
 use Rattle.kind.specs.declared.Kind.TheVariants.{Overlap, Kinetic, Nuclear, Moment, Coulomb}
-use Rattle.kind.specs.declared.Named.{Named}
-use Rattle.kind.specs.declared.Named.TheVariants as named
 use Rattle.kind.proofs.KindNumber.{kind-number, number-kind}
 use Rattle.term.specs.Terms.{Term}
 use Rattle.roll.specs.Bytes.{roll_bytes}
@@ -26,13 +24,15 @@ use Rattle.roll.proofs.Back.{roll-back}
 use Rattle.roll.proofs.Written.{roll-read}
 use Rattle.roll.specs.Fits.{CentresFit, TermFits, TermsFit, RollFits}
 use Rattle.exporting.specs.Text.{line_of, head_numbers, term_numbers, term_lines, text_of}
-use Rattle.importing.specs.declared.Imported.TheVariants as imported
+use Rattle.importing.specs.Answer as imported
 use Rattle.importing.specs.Lines.{Line, line, broken, line_from, line_on}
 use Rattle.importing.specs.Import.{Judged, taken, refused, and_then, first_count, other_count, on_line, centres_keep, head_keeps, head_as, head_of, term_keeps, term_of, terms_from, roll_of, imported_of, imported_out}
 use Rattle.importing.specs.Wrong.{HeadFits}
 use Rattle.importing.proofs.Standing.{line_reads, line-back}
 use Rattle.importing.proofs.Keeping.{keeps-fits, fits-keeps}
 use Rattle.importing.proofs.FirstLines.{centres-fit, fit-centres, split-last}
+use Rattle.std.specs.Prelude.{Option, Some, None}
+use Rattle.kind.specs.declared.refusals.Refusal.TheVariants.{LineShape, LineNumbers}
 
 -- ---- what was taken
 
@@ -54,7 +54,7 @@ line_taken : {A : Type 0} (right : ℕ → Bool) (l : Line) (at : ℕ) (judge : 
 line_taken right (line ns rest) at judge x e =
     tested (right (length ns))
     (λ y. record { ns = ns; rest = rest; is = refl; shaped = y; judged = rw y at e })
-    (λ y. absurd (clash (let g : refused 21 at ≡ taken x = rw y at e in cc)))
+    (λ y. absurd (clash (let g : refused LineShape at ≡ taken x = rw y at e in cc)))
 line_taken right broken at judge x e = absurd (clash (cc))
 
 -- ---- a first line
@@ -63,14 +63,14 @@ pub record HeadTaken (ns : List ℕ) (h : Header) : Type 0 where
   pub keeps : head_keeps h ≡ true
   pub numbers : ns ≡ head_numbers h.kind h.orders h.terms
 
-head-named : (m : Named) (n : ℕ) (ns : List ℕ) (h : Header) → kind_of n ≡ m → head_as m ns ≡ taken h → HeadTaken (n ∷ ns) h
-head-named named.Unknown n ns h is e = absurd (clash (cc e))
-head-named (named.Is k) n ns h is e = by (eqb (length ns) (orders_of k + 1) && head_keeps made) refl e
+head-named : (m : Option Kind) (n : ℕ) (ns : List ℕ) (h : Header) → kind_of n ≡ m → head_as m ns ≡ taken h → HeadTaken (n ∷ ns) h
+head-named None n ns h is e = absurd (clash (cc e))
+head-named (Some k) n ns h is e = by (eqb (length ns) (orders_of k + 1) && head_keeps made) refl e
   where
     made : Header
     made = record { kind = k; orders = take (orders_of k) ns; terms = get_or ns (orders_of k) 0 }
 
-    by : (b : Bool) → (eqb (length ns) (orders_of k + 1) && head_keeps made) ≡ b → cond b (taken made) (refused 22 1) ≡ taken h → HeadTaken (n ∷ ns) h
+    by : (b : Bool) → (eqb (length ns) (orders_of k + 1) && head_keeps made) ≡ b → cond b (taken made) (refused LineNumbers 1) ≡ taken h → HeadTaken (n ∷ ns) h
     by true y e =
         let same : made ≡ h = taken-same made h e in
         let long : length ns ≡ orders_of k + 1 = eqb-true (length ns) (orders_of k + 1) (and_left (eqb (length ns) (orders_of k + 1)) (head_keeps made) y) in
@@ -109,7 +109,7 @@ term-taken k l at (scale ∷ boys ∷ ps) t e = by (term_keeps k l made) refl e
     made : Term
     made = record { scale = scale; boys = boys; prefactors = ps }
 
-    by : (b : Bool) → term_keeps k l made ≡ b → cond b (taken made) (refused 22 at) ≡ taken t → TermTaken k l (scale ∷ boys ∷ ps) t
+    by : (b : Bool) → term_keeps k l made ≡ b → cond b (taken made) (refused LineNumbers at) ≡ taken t → TermTaken k l (scale ∷ boys ∷ ps) t
     by true y e = let same : made ≡ t = taken-same made t e in rw (← same) (record { fits = keeps-fits k l made y; numbers = refl })
     by false y e = absurd (clash (cc e))
 
@@ -124,7 +124,7 @@ terms-none : (k : Kind) (l at : ℕ) (s : List ℕ) (ts : List Term) → terms_f
 unfolding terms_from term_lines
 terms-none k l at [] ts e = let none : [] ≡ ts = taken-same [] ts e in rw (← none) (record { count = refl; fit = tt; text = refl })
 terms-none k l at (b ∷ s) ts e =
-    let x = line_taken other_count (line_on (b ∷ s)) at (λ ns rest. refused 22 at) ts e in
+    let x = line_taken other_count (line_on (b ∷ s)) at (λ ns rest. refused LineNumbers at) ts e in
     absurd (clash (cc x.judged))
 
 pub terms-taken : (left : ℕ) (k : Kind) (l at : ℕ) (s : List ℕ) (ts : List Term) → terms_from k l at left s ≡ taken ts → TermsTaken k l left s ts

@@ -12,19 +12,21 @@ use Rattle.laws.specs.Total.{total}
 use Rattle.laws.proofs.Cases.{clash, tested}
 use Rattle.kind.specs.Kinds.{kind_of, orders_of}
 use Rattle.kind.specs.declared.Kind.{Kind}
-use Rattle.kind.specs.declared.Named.{Named}
-use Rattle.kind.specs.declared.Named.TheVariants as named
 use Rattle.term.specs.Terms.{Term}
 use Rattle.roll.specs.Bytes.{roll_bytes}
 use Rattle.roll.specs.Reading.{Header, Roll}
 use Rattle.roll.specs.Fits.{TermFits, TermsFit}
 use Rattle.exporting.specs.Text.{line_of, head_numbers, term_numbers, term_lines}
-use Rattle.importing.specs.declared.Imported.TheVariants as imported
+use Rattle.importing.specs.Answer as imported
 use Rattle.importing.specs.Lines.{Line, line, broken, line_on}
 use Rattle.importing.specs.Import.{Judged, taken, refused, and_then, first_count, other_count, on_line, head_keeps, head_as, head_of, term_keeps, term_of, terms_from, roll_of, answer_of, out_of, imported_of, imported_out}
 use Rattle.importing.specs.Wrong.{Begins, NoLine, HeadFits, WrongOther, FirstWrong}
 use Rattle.importing.proofs.Standing.{line_reads, line-back}
+use Rattle.importing.proofs.Parts.{refused-both}
 use Rattle.importing.proofs.Trips.{head-taken, head-fits, head-back, term-taken, term-back}
+use Rattle.std.specs.Prelude.{Option, Some, None}
+use Rattle.kind.specs.declared.refusals.Refusal.{Refusal}
+use Rattle.kind.specs.declared.refusals.Refusal.TheVariants.{StartBeyondEnd, NoRoom, LineShape, LineNumbers}
 
 -- ---- shape
 
@@ -42,39 +44,39 @@ no-line-count right s ms after none e count ns rest b =
     true≢false (sym b.shaped ∙ sym (ap (λ (l : List ℕ). right (length l)) same) ∙ count)
 
 -- a line that was refused: by its shape, or by what was judged of its numbers
-record LineRefused {A : Type 0} (right : ℕ → Bool) (s : List ℕ) (judge : List ℕ → List ℕ → Judged A) (r n : ℕ) : Type 0 where
+record LineRefused {A : Type 0} (right : ℕ → Bool) (s : List ℕ) (judge : List ℕ → List ℕ → Judged A) (r : Refusal) (n : ℕ) : Type 0 where
   pub ns : List ℕ
   pub rest : List ℕ
   pub begins : Begins right s ns rest
   pub judged : judge ns rest ≡ refused r n
 
-record ShapeRefused (right : ℕ → Bool) (s : List ℕ) (at r n : ℕ) : Type 0 where
-  pub refusal : r ≡ 21
+record ShapeRefused (right : ℕ → Bool) (s : List ℕ) (at : ℕ) (r : Refusal) (n : ℕ) : Type 0 where
+  pub refusal : r ≡ LineShape
   pub number : n ≡ at
   pub none : NoLine right s
 
-refused-number : {A : Type 0} (x y r n : ℕ) → ◌≡◌ {A = Judged A} (refused x y) (refused r n) → (r ≡ x) × (n ≡ y)
+refused-number : {A : Type 0} (x : Refusal) (y : ℕ) (r : Refusal) (n : ℕ) → ◌≡◌ {A = Judged A} (refused x y) (refused r n) → (r ≡ x) × (n ≡ y)
 refused-number x y r n e = (cc, cc)
 
-line_refused : {A : Type 0} (right : ℕ → Bool) (s : List ℕ) (at : ℕ) (judge : List ℕ → List ℕ → Judged A) (r n : ℕ) → right 0 ≡ false → on_line right (line_on s) at judge ≡ refused r n
+line_refused : {A : Type 0} (right : ℕ → Bool) (s : List ℕ) (at : ℕ) (judge : List ℕ → List ℕ → Judged A) (r : Refusal) (n : ℕ) → right 0 ≡ false → on_line right (line_on s) at judge ≡ refused r n
     → ShapeRefused right s at r n ⊎ LineRefused right s judge r n
 line_refused {A} right s at judge r n none e = by (line_on s) refl e
   where
-    count : (ns rest : List ℕ) → line_on s ≡ line ns rest → (b : Bool) → right (length ns) ≡ b → cond b (judge ns rest) (refused 21 at) ≡ refused r n → ShapeRefused right s at r n ⊎ LineRefused right s judge r n
+    count : (ns rest : List ℕ) → line_on s ≡ line ns rest → (b : Bool) → right (length ns) ≡ b → cond b (judge ns rest) (refused LineShape at) ≡ refused r n → ShapeRefused right s at r n ⊎ LineRefused right s judge r n
     count ns rest l true y e = inr (record { ns = ns; rest = rest; begins = record { shaped = y; text = (line_reads s ns rest l).text }; judged = e })
     count ns rest l false y e =
-        let x = refused-number {A = A} 21 at r n e in
+        let x = refused-number {A = A} LineShape at r n e in
         inl (record { refusal = x.0; number = x.1; none = no-line-count right s ns rest none l y })
 
     by : (x : Line) → line_on s ≡ x → on_line right x at judge ≡ refused r n → ShapeRefused right s at r n ⊎ LineRefused right s judge r n
     by (line ns rest) l e = count ns rest l (right (length ns)) refl e
     by broken l e =
-        let x = refused-number {A = A} 21 at r n e in
+        let x = refused-number {A = A} LineShape at r n e in
         inl (record { refusal = x.0; number = x.1; none = no-line-broken right s none l })
 
 -- ---- the terms
 
-record TermsWrong (k : Kind) (l at left : ℕ) (s : List ℕ) (r n : ℕ) : Type 0 where
+record TermsWrong (k : Kind) (l at left : ℕ) (s : List ℕ) (r : Refusal) (n : ℕ) : Type 0 where
   pub ts : List Term
   pub rest : List ℕ
   pub terms : TermsFit k l ts
@@ -83,13 +85,13 @@ record TermsWrong (k : Kind) (l at left : ℕ) (s : List ℕ) (r n : ℕ) : Type
   pub text : s ≡ term_lines ts ++ rest
   pub wrong : WrongOther k l (left - length ts) rest r
 
-wrong-here : (k : Kind) (l at left : ℕ) (s : List ℕ) (r n : ℕ) → n ≡ at → WrongOther k l left s r → TermsWrong k l at left s r n
+wrong-here : (k : Kind) (l at left : ℕ) (s : List ℕ) (r : Refusal) (n : ℕ) → n ≡ at → WrongOther k l left s r → TermsWrong k l at left s r n
 unfolding term_lines
 wrong-here k l at left s r n is wrong =
     let all : left ≡ left - 0 = omega arith in
     record { ts = []; rest = s; terms = tt; before = omega arith; few = omega arith; text = refl; wrong = subst (λ (x : ℕ). WrongOther k l x s r) all wrong }
 
-wrong-after : (k : Kind) (l at left : ℕ) (s rest : List ℕ) (t : Term) (r n : ℕ) → TermFits k l t → s ≡ line_of (term_numbers t) ++ rest → TermsWrong k l (at + 1) left rest r n → TermsWrong k l at (suc left) s r n
+wrong-after : (k : Kind) (l at left : ℕ) (s rest : List ℕ) (t : Term) (r : Refusal) (n : ℕ) → TermFits k l t → s ≡ line_of (term_numbers t) ++ rest → TermsWrong k l (at + 1) left rest r n → TermsWrong k l at (suc left) s r n
 unfolding term_lines
 wrong-after k l at left s rest t r n fit text w =
     let before = w.before in
@@ -105,58 +107,58 @@ wrong-after k l at left s rest t r n fit text w =
       wrong = subst (λ (x : ℕ). WrongOther k l x w.rest r) same w.wrong;
     }
 
-shape-other : (k : Kind) (l at left : ℕ) (s : List ℕ) (r n : ℕ) → (s ≡ [] → ⊥) → ShapeRefused other_count s at r n → TermsWrong k l at left s r n
+shape-other : (k : Kind) (l at left : ℕ) (s : List ℕ) (r : Refusal) (n : ℕ) → (s ≡ [] → ⊥) → ShapeRefused other_count s at r n → TermsWrong k l at left s r n
 shape-other k l at left s r n more x = wrong-here k l at left s r n x.number (inl (x.refusal, record { more = more; none = x.none }))
 
-term-wrong : (k : Kind) (l at left : ℕ) (s ns rest : List ℕ) (r n : ℕ) → Begins other_count s ns rest → r ≡ 22 → n ≡ at → ((t : Term) → TermFits k l t → ns ≡ term_numbers t → 0 < left → ⊥) → TermsWrong k l at left s r n
+term-wrong : (k : Kind) (l at left : ℕ) (s ns rest : List ℕ) (r : Refusal) (n : ℕ) → Begins other_count s ns rest → r ≡ LineNumbers → n ≡ at → ((t : Term) → TermFits k l t → ns ≡ term_numbers t → 0 < left → ⊥) → TermsWrong k l at left s r n
 term-wrong k l at left s ns rest r n begins is number none = wrong-here k l at left s r n number (inr (is, inr (record { ns = ns; rest = rest; begins = begins; none = none })))
 
 -- a term's numbers are refused as 22 at their line
-term-number : (k : Kind) (l at : ℕ) (ns : List ℕ) (r n : ℕ) → term_of k l at ns ≡ refused r n → (r ≡ 22) × (n ≡ at)
-term-number k l at [] r n e = refused-number {A = Term} 22 at r n e
-term-number k l at (x ∷ []) r n e = refused-number {A = Term} 22 at r n e
+term-number : (k : Kind) (l at : ℕ) (ns : List ℕ) (r : Refusal) (n : ℕ) → term_of k l at ns ≡ refused r n → (r ≡ LineNumbers) × (n ≡ at)
+term-number k l at [] r n e = refused-number {A = Term} LineNumbers at r n e
+term-number k l at (x ∷ []) r n e = refused-number {A = Term} LineNumbers at r n e
 term-number k l at (scale ∷ boys ∷ ps) r n e = by (term_keeps k l made) e
   where
     made : Term
     made = record { scale = scale; boys = boys; prefactors = ps }
 
-    by : (b : Bool) → cond b (taken made) (refused 22 at) ≡ refused r n → (r ≡ 22) × (n ≡ at)
+    by : (b : Bool) → cond b (taken made) (refused LineNumbers at) ≡ refused r n → (r ≡ LineNumbers) × (n ≡ at)
     by true e = absurd (clash (cc e))
-    by false e = refused-number {A = Term} 22 at r n e
+    by false e = refused-number {A = Term} LineNumbers at r n e
 
-none-fits : (k : Kind) (l at : ℕ) (ns : List ℕ) (r n : ℕ) (t : Term) → term_of k l at ns ≡ refused r n → TermFits k l t → ns ≡ term_numbers t → ⊥
+none-fits : (k : Kind) (l at : ℕ) (ns : List ℕ) (r : Refusal) (n : ℕ) (t : Term) → term_of k l at ns ≡ refused r n → TermFits k l t → ns ≡ term_numbers t → ⊥
 none-fits k l at ns r n t e fit is = clash (let g : refused r n ≡ taken t = sym e ∙ ap (term_of k l at) is ∙ term-back k l at t fit in cc g)
 
-and_then-refused : {A B : Type 0} (j : Judged A) (f : A → Judged B) (r n : ℕ) → and_then j f ≡ refused r n → (j ≡ refused r n) ⊎ ((a : A) × (j ≡ taken a) × (f a ≡ refused r n))
+and_then-refused : {A B : Type 0} (j : Judged A) (f : A → Judged B) (r : Refusal) (n : ℕ) → and_then j f ≡ refused r n → (j ≡ refused r n) ⊎ ((a : A) × (j ≡ taken a) × (f a ≡ refused r n))
 and_then-refused {A} {B} (taken a) f r n e = inr (a, refl, e)
 and_then-refused {A} {B} (refused x y) f r n e =
     let s = refused-number {A = B} x y r n e in
     inl (rw (s.0, s.1) refl)
 
-terms-wrong : (left : ℕ) (k : Kind) (l at : ℕ) (s : List ℕ) (r n : ℕ) → terms_from k l at left s ≡ refused r n → TermsWrong k l at left s r n
+terms-wrong : (left : ℕ) (k : Kind) (l at : ℕ) (s : List ℕ) (r : Refusal) (n : ℕ) → terms_from k l at left s ≡ refused r n → TermsWrong k l at left s r n
 unfolding terms_from
 terms-wrong zero k l at [] r n e = absurd (clash (cc e))
-terms-wrong zero k l at (b ∷ s) r n e = by (line_refused {A = List Term} other_count (b ∷ s) at (λ ns rest. refused 22 at) r n refl e)
+terms-wrong zero k l at (b ∷ s) r n e = by (line_refused {A = List Term} other_count (b ∷ s) at (λ ns rest. refused LineNumbers at) r n refl e)
   where
-    by : ShapeRefused other_count (b ∷ s) at r n ⊎ LineRefused {A = List Term} other_count (b ∷ s) (λ ns rest. refused 22 at) r n → TermsWrong k l at 0 (b ∷ s) r n
+    by : ShapeRefused other_count (b ∷ s) at r n ⊎ LineRefused {A = List Term} other_count (b ∷ s) (λ ns rest. refused LineNumbers at) r n → TermsWrong k l at 0 (b ∷ s) r n
     by (inl x) = shape-other k l at 0 (b ∷ s) r n (λ e. clash (cc e)) x
     by (inr x) =
-        let y = refused-number {A = List Term} 22 at r n x.judged in
+        let y = refused-number {A = List Term} LineNumbers at r n x.judged in
         term-wrong k l at 0 (b ∷ s) x.ns x.rest r n x.begins y.0 y.1 (λ t fit is some. omega arith)
 terms-wrong (suc left) k l at [] r n e =
-    let y = refused-number {A = List Term} 22 at r n e in
+    let y = refused-number {A = List Term} LineNumbers at r n e in
     wrong-here k l at (suc left) [] r n y.1 (inr (y.0, inl (record { ends = refl; some = omega arith })))
 terms-wrong (suc left) k l at (b ∷ s) r n e =
     by (terms-wrong left k l (at + 1)) (line_refused other_count (b ∷ s) at (λ ns rest. and_then (term_of k l at ns) (λ t. and_then (terms_from k l (at + 1) left rest) (λ ts. taken (t ∷ ts)))) r n refl e)
   where
-    later : ((s : List ℕ) (r n : ℕ) → terms_from k l (at + 1) left s ≡ refused r n → TermsWrong k l (at + 1) left s r n) → (ns rest : List ℕ) (t : Term) → Begins other_count (b ∷ s) ns rest → term_of k l at ns ≡ taken t
+    later : ((s : List ℕ) (r : Refusal) (n : ℕ) → terms_from k l (at + 1) left s ≡ refused r n → TermsWrong k l (at + 1) left s r n) → (ns rest : List ℕ) (t : Term) → Begins other_count (b ∷ s) ns rest → term_of k l at ns ≡ taken t
         → (terms_from k l (at + 1) left rest ≡ refused r n) ⊎ ((a : List Term) × (terms_from k l (at + 1) left rest ≡ taken a) × (taken (t ∷ a) ≡ refused r n)) → TermsWrong k l at (suc left) (b ∷ s) r n
     later again ns rest t begins is (inl x) =
         let y = term-taken k l at ns t is in
         wrong-after k l at left (b ∷ s) rest t r n y.fits (begins.text ∙ ap (λ (l : List ℕ). line_of l ++ rest) y.numbers) (again rest r n x)
     later again ns rest t begins is (inr x) = absurd (clash (cc x.2))
 
-    by : ((s : List ℕ) (r n : ℕ) → terms_from k l (at + 1) left s ≡ refused r n → TermsWrong k l (at + 1) left s r n)
+    by : ((s : List ℕ) (r : Refusal) (n : ℕ) → terms_from k l (at + 1) left s ≡ refused r n → TermsWrong k l (at + 1) left s r n)
         → ShapeRefused other_count (b ∷ s) at r n ⊎ LineRefused other_count (b ∷ s) (λ ns rest. and_then (term_of k l at ns) (λ t. and_then (terms_from k l (at + 1) left rest) (λ ts. taken (t ∷ ts)))) r n
         → TermsWrong k l at (suc left) (b ∷ s) r n
     by again (inl x) = shape-other k l at (suc left) (b ∷ s) r n (λ e. clash (cc e)) x
@@ -170,27 +172,27 @@ terms-wrong (suc left) k l at (b ∷ s) r n e =
 
 -- ---- the text
 
-head-number : (m : Named) (ns : List ℕ) (r n : ℕ) → head_as m ns ≡ refused r n → (r ≡ 22) × (n ≡ 1)
-head-number named.Unknown ns r n e = refused-number {A = Header} 22 1 r n e
-head-number (named.Is k) ns r n e = by (eqb (length ns) (orders_of k + 1) && head_keeps made) e
+head-number : (m : Option Kind) (ns : List ℕ) (r : Refusal) (n : ℕ) → head_as m ns ≡ refused r n → (r ≡ LineNumbers) × (n ≡ 1)
+head-number None ns r n e = refused-number {A = Header} LineNumbers 1 r n e
+head-number (Some k) ns r n e = by (eqb (length ns) (orders_of k + 1) && head_keeps made) e
   where
     made : Header
     made = record { kind = k; orders = take (orders_of k) ns; terms = get_or ns (orders_of k) 0 }
 
-    by : (b : Bool) → cond b (taken made) (refused 22 1) ≡ refused r n → (r ≡ 22) × (n ≡ 1)
+    by : (b : Bool) → cond b (taken made) (refused LineNumbers 1) ≡ refused r n → (r ≡ LineNumbers) × (n ≡ 1)
     by true e = absurd (clash (cc e))
-    by false e = refused-number {A = Header} 22 1 r n e
+    by false e = refused-number {A = Header} LineNumbers 1 r n e
 
-first-number : (ns : List ℕ) (r n : ℕ) → head_of ns ≡ refused r n → (r ≡ 22) × (n ≡ 1)
-first-number [] r n e = refused-number {A = Header} 22 1 r n e
+first-number : (ns : List ℕ) (r : Refusal) (n : ℕ) → head_of ns ≡ refused r n → (r ≡ LineNumbers) × (n ≡ 1)
+first-number [] r n e = refused-number {A = Header} LineNumbers 1 r n e
 first-number (x ∷ ns) r n e = head-number (kind_of x) ns r n e
 
-none-heads : (ns : List ℕ) (r n : ℕ) (h : Header) → head_of ns ≡ refused r n → HeadFits h → ns ≡ head_numbers h.kind h.orders h.terms → ⊥
+none-heads : (ns : List ℕ) (r : Refusal) (n : ℕ) (h : Header) → head_of ns ≡ refused r n → HeadFits h → ns ≡ head_numbers h.kind h.orders h.terms → ⊥
 none-heads ns r n h e f is =
     clash (let g : refused r n ≡ taken h = sym e ∙ ap head_of is ∙ head-back h.kind h.orders h.terms f.places f.sums f.some f.most in cc g)
 
 -- 21 and 22 tell the first line that is wrong
-pub first-wrong : (s : List ℕ) (r n : ℕ) → roll_of s ≡ refused r n → FirstWrong s r n
+pub first-wrong : (s : List ℕ) (r : Refusal) (n : ℕ) → roll_of s ≡ refused r n → FirstWrong s r n
 unfolding roll_of
 first-wrong s r n e = by (line_refused first_count s 1 judge r n refl e)
   where
@@ -233,26 +235,27 @@ first-wrong s r n e = by (line_refused first_count s 1 judge r n refl e)
 -- ---- the answer
 
 -- a refusal other than 5 and 6 tells the first line that is wrong
-pub told-wrong : (text out : List ℕ) (start r n : ℕ) → imported_of text out start ≡ imported.Refused r n → (r ≡ 5 → ⊥) → (r ≡ 6 → ⊥) → FirstWrong text r n
+pub told-wrong : (text out : List ℕ) (start : ℕ) (r : Refusal) (n : ℕ) → imported_of text out start ≡ imported.Refused r n → (r ≡ StartBeyondEnd → ⊥) → (r ≡ NoRoom → ⊥) → FirstWrong text r n
 unfolding imported_of
 told-wrong text out start r n e five six = by (roll_of text) refl e
   where
     by : (j : Judged Roll) → roll_of text ≡ j → answer_of j out start ≡ imported.Refused r n → FirstWrong text r n
     by (refused x y) is e =
-        let a : x ≡ r = cc e in
-        let b : y ≡ n = cc e in
-        first-wrong text r n (is ∙ ap (λ (k : ℕ). refused k y) a ∙ ap (refused r) b)
+        let both = refused-both e in
+        let a : x ≡ r = both.0 in
+        let b : y ≡ n = both.1 in
+        first-wrong text r n (is ∙ ap (λ (k : Refusal). refused k y) a ∙ ap (refused r) b)
     by (taken z) is e =
         let size = length (roll_bytes z.kind z.orders z.terms) in
         tested (ltb (length out) start)
-        (λ y. absurd (five (let g : imported.Refused 5 0 ≡ imported.Refused r n = rw y at e in sym (cc g))))
+        (λ y. absurd (five (let g : imported.Refused StartBeyondEnd 0 ≡ imported.Refused r n = rw y at e in sym (refused-both g).0)))
         (λ y.
         tested (ltb (length out) (start + size))
-        (λ x. absurd (six (let g : imported.Refused 6 0 ≡ imported.Refused r n = rw (y, x) at e in sym (cc g))))
+        (λ x. absurd (six (let g : imported.Refused NoRoom 0 ≡ imported.Refused r n = rw (y, x) at e in sym (refused-both g).0)))
         (λ x. absurd (clash (let g : imported.Roll size (length z.terms) ≡ imported.Refused r n = rw (y, x) at e in cc g))))
 
 -- and no refusal changes a byte
-pub refused-kept : (text out : List ℕ) (start r n : ℕ) → imported_of text out start ≡ imported.Refused r n → imported_out text out start ≡ out
+pub refused-kept : (text out : List ℕ) (start : ℕ) (r : Refusal) (n : ℕ) → imported_of text out start ≡ imported.Refused r n → imported_out text out start ≡ out
 unfolding imported_of imported_out
 refused-kept text out start r n e = by (roll_of text) e
   where

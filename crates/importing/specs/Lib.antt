@@ -1,3 +1,4 @@
+pub mod Answer
 pub mod Import
 pub mod Lines
 pub mod Telling

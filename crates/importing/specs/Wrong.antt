@@ -10,6 +10,8 @@ use Rattle.roll.specs.Reading.{Header}
 use Rattle.roll.specs.Fits.{CentresFit, TermFits, TermsFit}
 use Rattle.exporting.specs.Text.{line_of, head_numbers, term_numbers, term_lines}
 use Rattle.importing.specs.Import.{first_count, other_count}
+use Rattle.kind.specs.declared.refusals.Refusal.{Refusal}
+use Rattle.kind.specs.declared.refusals.Refusal.TheVariants.{LineShape, LineNumbers}
 
 -- a text begins with a line as the export writes it, of a count of numbers that is right
 pub record Begins (right : ℕ → Bool) (s ns rest : List ℕ) : Type 0 where
@@ -36,8 +38,8 @@ pub record WrongHead (s : List ℕ) : Type 0 where
   pub begins : Begins first_count s ns rest
   pub none : (h : Header) → HeadFits h → ns ≡ head_numbers h.kind h.orders h.terms → ⊥
 
-abbrev pub WrongFirst : List ℕ → ℕ → Type 0
-WrongFirst s r = ((r ≡ 21) × NoLine first_count s) ⊎ ((r ≡ 22) × WrongHead s)
+abbrev pub WrongFirst : List ℕ → Refusal → Type 0
+WrongFirst s r = ((r ≡ LineShape) × NoLine first_count s) ⊎ ((r ≡ LineNumbers) × WrongHead s)
 
 -- ---- any other line, where so many terms are left
 
@@ -58,11 +60,11 @@ pub record WrongTerm (k : Kind) (l left : ℕ) (s : List ℕ) : Type 0 where
   pub begins : Begins other_count s ns rest
   pub none : (t : Term) → TermFits k l t → ns ≡ term_numbers t → 0 < left → ⊥
 
-abbrev pub WrongOther : Kind → ℕ → ℕ → List ℕ → ℕ → Type 0
-WrongOther k l left s r = ((r ≡ 21) × Unshaped s) ⊎ ((r ≡ 22) × (Missing left s ⊎ WrongTerm k l left s))
+abbrev pub WrongOther : Kind → ℕ → ℕ → List ℕ → Refusal → Type 0
+WrongOther k l left s r = ((r ≡ LineShape) × Unshaped s) ⊎ ((r ≡ LineNumbers) × (Missing left s ⊎ WrongTerm k l left s))
 
 -- line n is wrong, and those before it are the first line of a roll and lines of its terms, all of which keep the limits
-pub record WrongLater (s : List ℕ) (r n : ℕ) : Type 0 where
+pub record WrongLater (s : List ℕ) (r : Refusal) (n : ℕ) : Type 0 where
   pub h : Header
   pub ts : List Term
   pub rest : List ℕ
@@ -74,5 +76,5 @@ pub record WrongLater (s : List ℕ) (r n : ℕ) : Type 0 where
   pub wrong : WrongOther h.kind (total h.orders) (h.terms - length ts) rest r
 
 -- a refusal r at line n
-abbrev pub FirstWrong : List ℕ → ℕ → ℕ → Type 0
+abbrev pub FirstWrong : List ℕ → Refusal → ℕ → Type 0
 FirstWrong s r n = ((n ≡ 1) × WrongFirst s r) ⊎ WrongLater s r n

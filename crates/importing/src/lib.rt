@@ -1,12 +1,14 @@
 // The roll of a text: lines of numbers with commas between them, as the export writes them.
 #![tactic(auto)]
 
-ghost use Rattle.std.specs.Prelude.{◌≡◌};
+ghost use Rattle.std.specs.Prelude.{◌≡◌, Ok};
+ghost use Rattle.importing.specs.Answer.{Refused};
 ghost use Rattle.importing.specs.Import.{roll_of, ImportTold};
 ghost use Rattle.importing.specs.inner.Places.{measured};
 
 use crate::judge::judge_text;
 use crate::writing::put_roll;
+use kind::Refusal;
 
 mod judge;
 mod lines;
@@ -16,34 +18,45 @@ mod writing;
 
 pub use telling::refusal_line;
 
-// The roll's length and its terms, or a refusal with its line.
+// The roll's length and its terms.
 #[derive(Clone, Copy)]
-pub enum Imported {
-    Roll(usize, u32),
-    Refused(u8, u64),
+pub struct Imported {
+    pub length: usize,
+    pub terms: u32,
+}
+
+// A refusal, and the line of the text where it stands; 0 where it has none.
+#[derive(Clone, Copy)]
+pub struct ImportFault {
+    pub refusal: Refusal,
+    pub line: u64,
+}
+
+fn refused(refusal: Refusal, line: u64) -> Result<Imported, ImportFault>
+    ensures { result ≡ Refused refusal line }
+{
+    Err(ImportFault { refusal, line })
 }
 
 // The roll of a text that was judged, where it has room.
-fn lay(text: &[u8], out: &mut [u8], start: usize, length: usize, terms: u32) -> Imported
-    requires { Imported.Roll length terms ≡ measured (roll_of text.now) }
+fn lay(text: &[u8], out: &mut [u8], start: usize, roll: Imported) -> Result<Imported, ImportFault>
+    requires { Ok roll ≡ measured (roll_of text.now) }
     ensures { ImportTold text.now out.old start result out.new }
 {
     if out.len() < start {
-        return Imported::Refused(5, 0);
+        return refused(Refusal::StartBeyondEnd, 0);
     }
-    if out.len() - start < length {
-        return Imported::Refused(6, 0);
+    if out.len() - start < roll.length {
+        return refused(Refusal::NoRoom, 0);
     }
-    put_roll(text, out, start, terms);
-    Imported::Roll(length, terms)
+    put_roll(text, out, start, roll.terms);
+    Ok(roll)
 }
 
 // The form 1 roll of a text: nothing is written before the whole text has been judged.
-pub fn import(text: &[u8], out: &mut [u8], start: usize) -> Imported
+pub fn import(text: &[u8], out: &mut [u8], start: usize) -> Result<Imported, ImportFault>
     ensures { ImportTold text.now out.old start result out.new }
 {
-    match judge_text(text) {
-        Imported::Roll(length, terms) => lay(text, out, start, length, terms),
-        Imported::Refused(refusal, line) => Imported::Refused(refusal, line),
-    }
+    let roll = judge_text(text)?;
+    lay(text, out, start, roll)
 }

@@ -1,29 +1,23 @@
 // The line of a refusal of an import, as text in a lent buffer: measured and written by the same functions, as the listing's is (D-74).
-ghost use Rattle.std.specs.Prelude.{◌≡◌};
+ghost use Rattle.std.specs.Prelude.{◌≡◌, Some};
 ghost use Rattle.saying.specs.Said.{Said};
 ghost use Rattle.listing.specs.Answers.{TextTold};
 ghost use Rattle.importing.specs.Telling.{carries_line, refusal_text};
 
-use listing::Listed;
+use kind::{Fault, Refusal};
 use saying::{say, say_named};
-use text::Written;
 
+#[tactic(auto, unfolding(crate::specs::Telling::carries_line))]
 fn carries_line(refusal: u8) -> bool
     ensures { result ≡ carries_line refusal }
 {
-    if refusal == 21 {
-        return true;
-    }
-    if refusal == 22 {
-        return true;
-    }
-    false
+    refusal == Refusal::LineShape as u8 || refusal == Refusal::LineNumbers as u8
 }
 
-fn say_refusal(out: &mut [u8], room: usize, refusal: u8, line: u64) -> Written
-    ensures { Said room out.old (Written.To 0) (refusal_text refusal line) result out.new }
+fn say_refusal(out: &mut [u8], room: usize, refusal: u8, line: u64) -> Option<usize>
+    ensures { Said room out.old (Some 0) (refusal_text refusal line) result out.new }
 {
-    let told = say_named(out, room, Written::To(0), b"refused ", refusal as u64);
+    let told = say_named(out, room, Some(0), b"refused ", refusal as u64);
     if carries_line(refusal) {
         let numbered = say_named(out, room, told, b" line ", line);
         return say(out, room, numbered, b"\n");
@@ -32,19 +26,16 @@ fn say_refusal(out: &mut [u8], room: usize, refusal: u8, line: u64) -> Written
 }
 
 // The line that tells a refusal, and the line number of refusals 21 and 22.
-pub fn refusal_line(refusal: u8, line: u64, out: &mut [u8], start: usize) -> Listed
+pub fn refusal_line(refusal: u8, line: u64, out: &mut [u8], start: usize) -> Result<usize, Fault>
     ensures { TextTold (refusal_text refusal line) out.old start result out.new }
 {
     if out.len() < start {
-        return Listed::Refused(5, 0);
+        return Err(Fault::from(Refusal::StartBeyondEnd));
     }
     let room = out.len() - start;
-    let measured = say_refusal(&mut out[0..0], room, refusal, line);
-    match measured {
-        Written::To(length) => {
-            say_refusal(&mut out[start..], room, refusal, line);
-            Listed::Text(length)
-        }
-        Written::NoRoom => Listed::Refused(6, 0),
-    }
+    let Some(length) = say_refusal(&mut out[0..0], room, refusal, line) else {
+        return Err(Fault::from(Refusal::NoRoom));
+    };
+    say_refusal(&mut out[start..], room, refusal, line);
+    Ok(length)
 }

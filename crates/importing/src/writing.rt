@@ -4,9 +4,8 @@ ghost use Rattle.std.proofs.lemmas.List.Edits.{sets};
 ghost use Rattle.number.specs.Numbers.{bytes_of, length_of};
 ghost use Rattle.importing.specs.inner.Places.{copied_at, Copied, further as Places·further, term_put, terms_put, roll_put, Wrote};
 
-use crate::lines::{Shape, shape_at};
-use crate::numerals::{Numeral, within};
-use number::Written;
+use crate::lines::shape_at;
+use crate::numerals::within;
 
 // Where reading and writing stand.
 #[derive(Clone, Copy)]
@@ -20,10 +19,7 @@ fn put(out: &mut [u8], at: usize, n: u32) -> usize
     requires { at + length_of n ≤ length out.old }
     ensures { Wrote (bytes_of n) out.old at result out.new }
 {
-    match number::write(out, at, n) {
-        Written::Next(next) => next,
-        Written::NoRoom => at,
-    }
+    number::write(out, at, n).unwrap_or(at)
 }
 
 // So many numbers of a line.
@@ -33,21 +29,12 @@ fn copy(text: &[u8], at: usize, n: usize, out: &mut [u8], place: usize) -> Spot
 {
     let mut from = at;
     let mut to = place;
-    let mut left = n;
-    while 0 < left {
-        match within(text, from, 0, u32::MAX) {
-            Numeral::Is(v, next) => {
-                to = put(out, to, v);
-                from = next;
-            }
-            Numeral::Wrong => {
-                return Spot {
-                    text: from,
-                    roll: to,
-                };
-            }
-        }
-        left -= 1;
+    for done in 0..n {
+        let Some((v, next)) = within(text, from, 0, u32::MAX) else {
+            break;
+        };
+        to = put(out, to, v);
+        from = next;
     }
     Spot {
         text: from,
@@ -59,13 +46,7 @@ fn copy(text: &[u8], at: usize, n: usize, out: &mut [u8], place: usize) -> Spot
 fn further(n: usize) -> u32
     ensures { result ≡ Places·further n }
 {
-    if n < 2 {
-        return 0;
-    }
-    if (u32::MAX as usize) < n - 2 {
-        return u32::MAX;
-    }
-    (n - 2) as u32
+    n.saturating_sub(2).min(u32::MAX as usize) as u32
 }
 
 // A term's line of `n` numbers; the place after what was written.
@@ -87,16 +68,12 @@ fn put_terms(text: &[u8], at: usize, terms: u32, out: &mut [u8], place: usize)
 {
     let mut from = at;
     let mut to = place;
-    let mut left = terms;
-    while 0 < left {
-        match shape_at(text, from) {
-            Shape::Line(n, next) => {
-                to = put_term(text, from, n, out, to);
-                from = next;
-            }
-            Shape::Broken => return,
-        }
-        left -= 1;
+    for done in 0..terms {
+        let Some((n, next)) = shape_at(text, from) else {
+            return;
+        };
+        to = put_term(text, from, n, out, to);
+        from = next;
     }
 }
 
@@ -105,11 +82,8 @@ pub(crate) fn put_roll(text: &[u8], out: &mut [u8], start: usize, terms: u32)
     requires { start + length (roll_put text.now terms) ≤ length out.old }
     ensures { out.new ≡ sets out.old start (roll_put text.now terms) }
 {
-    match shape_at(text, 0) {
-        Shape::Line(n, next) => {
-            let headed = copy(text, 0, n, out, start);
-            put_terms(text, next, terms, out, headed.roll)
-        }
-        Shape::Broken => (),
+    if let Some((n, next)) = shape_at(text, 0) {
+        let headed = copy(text, 0, n, out, start);
+        put_terms(text, next, terms, out, headed.roll)
     }
 }

@@ -1,10 +1,11 @@
 -- 02, Q-10: "Only the nuclei's charges are looked at; other kinds ignore the charge." One law, over the kind: every other charge may hold anything.
 use Prim.Native.Nat.{ℕ}
-use mathlib.Core.Path.{◌≡◌, refl}
+use mathlib.Core.Path.{◌≡◌, refl, ap}
 use mathlib.Core.List.{List}
 use lib.Ieee.{Float}
 use Rattle.laws.specs.Total.{total}
 use Rattle.kind.specs.declared.Kind.{Kind}
+use Rattle.kind.specs.Refusals.{without_place}
 use Rattle.kind.specs.declared.Kind.TheVariants.{Overlap, Kinetic, Nuclear, Moment, Coulomb}
 use Rattle.term.specs.Terms.{Term}
 use Rattle.geometry.specs.declared.Centre.{Centre}
@@ -62,7 +63,7 @@ module _ (a b c d : Centre) (p q r s : ℕ) where
 
     by-reading : (x : Reading Roll) → of_roll x (recharged a p) (recharged b q) (recharged c (charge_of_roll x c r)) (recharged d s) aux boys ≡ of_roll x a b c d aux boys
     unfolding of_roll
-    by-reading (got x end) = value-recharged x.kind (total x.orders) x.terms
+    by-reading (got x end) = ap without_place (value-recharged x.kind (total x.orders) x.terms)
     by-reading (refused n place) = refl
 
     -- every answer of an evaluation, for every roll

@@ -7,6 +7,7 @@ use lib.ListN.{length}
 use Rattle.kind.specs.declared.Kind.{Kind}
 use Rattle.kind.specs.declared.Kind.TheVariants.{Overlap, Kinetic, Nuclear, Moment, Coulomb}
 use Rattle.kind.specs.Limits.{table_places}
+use Rattle.kind.specs.declared.refusals.Refusal.TheVariants.{InputNotFinite, Exponent, BoysCount, ResultNotFinite, Nuclei}
 use Rattle.term.specs.Terms.{Term}
 use Rattle.geometry.specs.declared.Centre.{Centre}
 use Rattle.geometry.specs.Floats.{◌⊕◌, ◌⊘◌, zero as 0·0, in_places}
@@ -15,9 +16,8 @@ use Rattle.geometry.specs.Tables.{prefac}
 use Rattle.geometry.specs.Charges.{charge_kept, charged}
 use Rattle.geometry.specs.Checks.{exponents_above_zero, geometry_finite}
 use Rattle.root.specs.Root.{root_digits, whole_root, dropped, kept, rounded, nearest_root, root_of}
-use Rattle.integrals.specs.declared.Value.{Value}
 use Rattle.integrals.specs.Sums.{kinetic_start, total_of, factor_of, integral_of}
-use Rattle.integrals.specs.Values.{inputs_finite, boys_counted, refused_unless, result_of, value_of}
+use Rattle.integrals.specs.Values.{inputs_finite, boys_counted, Value, refused_unless, result_of, value_of}
 
 pub factor-divided : (k : Kind) (a b c d : Centre) (aux sum root : Float) → k ≡ Coulomb → sum ≡ exponent_sum a b c d → root ≡ root_of sum → aux ⊘ root ≡ factor_of k a b c d aux
 unfolding factor_of
@@ -35,11 +35,11 @@ factor-kept Coulomb a b c d aux other = absurd (other refl)
 -- the value of a sum, whatever stands in it for aux; before 02, Q-12 that was aux for every kind
 abbrev pub value_with : Float → Kind → ℕ → Centre → Centre → Centre → Centre → Float → List Float → List Term → Value
 value_with s k l a b c d aux boys ts =
-    refused_unless (charge_kept k c) 17
-    (refused_unless (inputs_finite k a b c d aux boys) 8
-    (refused_unless (exponents_above_zero k a b c d) 9
-    (refused_unless (boys_counted k l (length boys)) 10
-    (refused_unless (geometry_finite k a b c d) 11
+    refused_unless (charge_kept k c) Nuclei
+    (refused_unless (inputs_finite k a b c d aux boys) InputNotFinite
+    (refused_unless (exponents_above_zero k a b c d) Exponent
+    (refused_unless (boys_counted k l (length boys)) BoysCount
+    (refused_unless (geometry_finite k a b c d) ResultNotFinite
     (result_of (charged k c (total_of k l (kinetic_start a b) (in_places table_places (prefac k a b c d)) s boys ts)))))))
 
 module _ (l : ℕ) (a b c d : Centre) (aux : Float) (boys : List Float) (ts : List Term) where

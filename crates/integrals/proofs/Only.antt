@@ -20,7 +20,7 @@ use Rattle.integrals.proofs.from_cursor.Reads.{Post as FromCursor}
 use Rattle.integrals.proofs.barred.Reads.{Post as Barred}
 use Rattle.integrals.proofs.factor.Reads.{Post as Factor}
 use Rattle.integrals.proofs.integral.Reads.{Post as Integral}
-use Rattle.integrals.proofs.result.Reads.{Post as Result}
+use Rattle.integrals.proofs.result.Reads.{Post as Judged}
 use Rattle.integrals.proofs.sums.coulomb_term.Reads.{Post as CoulombTerm}
 
 pub evaluate-only : (κs : Lfts 2) (roll : Shown ℕ) (a b c d : Centre) (aux : Float) (boys : Shown Float) →
@@ -42,7 +42,7 @@ pub integral-only : (κs : Lfts 3) (terms : Terms) (a b : Centre) (table : Shown
     let g = terms ▸ a ▸ b ▸ table ▸ aux ▸ boys ▸ roll ▸ end in Alone (λ r. Integral κs g r g) (total_of terms.kind terms.cursor.l (kinetic_start a b) table.now aux boys.now (again_from roll.now terms.cursor))
 integral-only κs terms a b table aux boys roll = alone (λ r p. p)
 
-pub result-only : (x : Float) → let g = x ▸ end in Alone (λ r. Result tt g r g) (result_of x)
+pub result-only : (x : Float) → let g = x ▸ end in Alone (λ r. Judged tt g r g) (result_of x)
 result-only x = alone (λ r p. p)
 
 pub coulomb-term-only : (κs : Lfts 3) (table : Shown Float) (s : Float) (boys : Shown Float) (bytes : Shown ℕ) (h : Head) →

@@ -1,14 +1,15 @@
 -- The functions of src/sums.rt: a product and a test over the bytes of a roll, and sums over its terms, in list order and by Boys order,
 -- go on from where they stand.
-use Prim.Native.Nat.{ℕ, zero, suc, ◌+◌, ◌-◌, ◌<◌, ◌≤◌}
+use Prim.Native.Nat.{ℕ, zero, suc, ◌+◌, ◌-◌, ◌<◌, ◌≤◌, min}
 use mathlib.Core.Path.{◌≡◌, refl, sym, ap, ◌∙◌}
 use mathlib.Core.Bool.{Bool, true, false, cond}
 use mathlib.Core.List.{List, [], ◌∷◌}
-use native.Mathlib.Nat.{not-suc-le-zero, le_of_suc-le-suc}
+use mathlib.Core.Logic.{◌⊎◌, inl, inr}
+use native.Mathlib.Nat.{not-suc-le-zero, le_of_suc-le-suc, min-eq_left}
 use native.Mathlib.Numerals.{add-one}
 use native.Mathlib.Omega.{arith}
-use borrow.Author.Tests.{eq-eqb, ne_eqb, le-leb, lt-leb}
-use lib.Dec.{eqb}
+use borrow.Author.Tests.{eq-eqb, ne_eqb, le-leb, lt-leb, leb-true, leb-false}
+use lib.Dec.{eqb, leb}
 use lib.Ieee.{Float, nan}
 use lib.ListN.{length, get_or, drop, length-drop}
 use lib.Seq.{drop-cons, take_all}
@@ -67,41 +68,34 @@ module _ (roll : List ℕ) (at end : ℕ) where
 
 -- ---- sums
 
-pub starts-kinetic : (ps : List ℕ) (kinetic : Float) (t : Bool) → t ≡ stays_kinetic ps → t ≡ true → kinetic ≡ start_of Kinetic kinetic ps
-unfolding start_of
-starts-kinetic ps kinetic t e p = rw (← e, p)
-
-pub starts-one : (ps : List ℕ) (kinetic : Float) (t : Bool) → t ≡ stays_kinetic ps → t ≡ false → one ≡ start_of Kinetic kinetic ps
-unfolding start_of
-starts-one ps kinetic t e p = rw (← e, p)
-
 -- what one term adds outside Coulomb
-module _ (adds : Adds) (kinetic : Float) (table : List Float) (aux : Float) (boys : List Float) (roll : List ℕ) (h : Head) (start g : Float) (e : start ≡ start_of adds kinetic (between roll h.from h.end)) (f : g ≡ product_of table (between roll h.from h.end) start) where
-  pub adds-plain : adds ≡ Plain → scale_of h.scale ⊗ aux ⊗ g ≡ addend_of adds kinetic table aux boys (head_term roll h)
-  unfolding addend_of plain_of g_of start_of head_term
-  adds-plain p = rw (f, e, p)
+module _ (adds : Adds) (table : List Float) (aux : Float) (boys : List Float) (roll : List ℕ) (h : Head) (start g : Float) (e : start ≡ start_of adds (between roll h.from h.end)) (f : g ≡ product_of table (between roll h.from h.end) start) where
+  pub adds-plain : (adds ≡ Plain) ⊎ ((kinetic : Float) × (adds ≡ Kinetic kinetic)) → scale_of h.scale ⊗ aux ⊗ g ≡ addend_of adds table aux boys (head_term roll h)
+  unfolding addend_of plain_of g_of kinetic_of kinetic_g start_of head_term
+  adds-plain (inl p) = rw (f, e, p)
+  adds-plain (inr p) = rw (f, e, p.1)
 
-  pub adds-kinetic : adds ≡ Kinetic → scale_of h.scale ⊗ aux ⊗ g ≡ addend_of adds kinetic table aux boys (head_term roll h)
-  unfolding addend_of kinetic_of kinetic_g start_of head_term
-  adds-kinetic p = rw (f, e, p)
-
-  pub adds-nuclear : (x : Float) → adds ≡ Nuclear → x ≡ boys_number boys h.boys → scale_of h.scale ⊗ aux ⊗ g ⊗ x ≡ addend_of adds kinetic table aux boys (head_term roll h)
+  pub adds-nuclear : (x : Float) → adds ≡ Nuclear → x ≡ boys_number boys h.boys → scale_of h.scale ⊗ aux ⊗ g ⊗ x ≡ addend_of adds table aux boys (head_term roll h)
   unfolding addend_of nuclear_of g_of start_of head_term
   adds-nuclear x p q = rw (f, e, p, q)
 
 -- one term less
-one_left : (roll : List ℕ) (at left : ℕ) → 0 < left → terms_again roll at left ≡ head_term roll (head_at roll at) ∷ terms_again roll (head_at roll at).end (left - 1)
+one_left : (roll : List ℕ) (at terms done : ℕ) → done < terms → terms_again roll at (terms - done) ≡ head_term roll (head_at roll at) ∷ terms_again roll (head_at roll at).end (terms - (done + 1))
 unfolding terms_again
-one_left roll at left h = let more : left ≡ suc (left - 1) = omega arith in ap (λ (n : ℕ). terms_again roll at n) more
+one_left roll at terms done h = let more : terms - done ≡ suc (terms - (done + 1)) = omega arith in ap (λ (n : ℕ). terms_again roll at n) more
 
-module _ (roll : List ℕ) (at left : ℕ) (h : Head) (adds : Adds) (kinetic : Float) (table : List Float) (aux : Float) (boys : List Float) (sum whole : Float) where
-  pub sum_more : (v : Float) → 0 < left → h ≡ head_at roll at → v ≡ addend_of adds kinetic table aux boys (head_term roll h) → sum_from (addend_of adds kinetic table aux boys) (terms_again roll at left) sum ≡ whole → sum_from (addend_of adds kinetic table aux boys) (terms_again roll h.end (left - 1)) (sum ⊕ v) ≡ whole
+none_left : (roll : List ℕ) (at terms done : ℕ) → terms ≤ done → terms_again roll at (terms - done) ≡ []
+unfolding terms_again
+none_left roll at terms done h = let none : terms - done ≡ 0 = omega arith in rw none
+
+module _ (roll : List ℕ) (at terms done : ℕ) (h : Head) (adds : Adds) (table : List Float) (aux : Float) (boys : List Float) (sum whole : Float) where
+  pub sum_more : (v : Float) → done < terms → h ≡ head_at roll at → v ≡ addend_of adds table aux boys (head_term roll h) → sum_from (addend_of adds table aux boys) (terms_again roll at (terms - done)) sum ≡ whole → sum_from (addend_of adds table aux boys) (terms_again roll h.end (terms - (done + 1))) (sum ⊕ v) ≡ whole
   unfolding sum_from
-  sum_more v p e f q = rw (f, e) (rw (one_left roll at left p) at q)
+  sum_more v p e f q = rw (f, e) (rw (one_left roll at terms done p) at q)
 
-  pub sum_done : left ≤ 0 → sum_from (addend_of adds kinetic table aux boys) (terms_again roll at left) sum ≡ whole → sum ≡ whole
-  unfolding sum_from terms_again
-  sum_done p q = let none : left ≡ 0 = omega arith in rw none at q
+  pub sum_done : terms ≤ done → sum_from (addend_of adds table aux boys) (terms_again roll at (terms - done)) sum ≡ whole → sum ≡ whole
+  unfolding sum_from
+  sum_done p q = rw (none_left roll at terms done p) at q
 
 -- Coulomb, Boys order after Boys order
 module _ (table : List Float) (s : Float) (boys : List Float) (ts : List Term) (l order : ℕ) (sum whole : Float) where
@@ -112,9 +106,9 @@ module _ (table : List Float) (s : Float) (boys : List Float) (ts : List Term) (
       let entered : run_orders table s boys ts (l + 1 - (order + 1)) (suc order) (sum_from (coulomb_of table (boys_number boys order ⊗ s)) (of_order order ts) sum) ≡ whole = rw more at q in
       rw e (rw (← add-one order) at entered)
 
-  pub orders-done : l < order → run_orders table s boys ts (l + 1 - order) order sum ≡ whole → sum ≡ whole
+  pub orders-last : (next : Float) → order ≤ l → l ≤ order → next ≡ sum_from (coulomb_of table (boys_number boys order ⊗ s)) (of_order order ts) sum → run_orders table s boys ts (l + 1 - order) order sum ≡ whole → next ≡ whole
   unfolding run_orders
-  orders-done p q = let none : l + 1 - order ≡ 0 = omega arith in rw none at q
+  orders-last next p o e q = let last : l + 1 - order ≡ 1 = omega arith in e ∙ (rw last at q)
 
 -- one term in the pass of a Boys order
 pub added_term : (roll : List ℕ) (h : Head) (b : Float) (table : List Float) (sum g : Float) → g ≡ product_of table (between roll h.from h.end) one → sum ⊕ scale_of h.scale ⊗ b ⊗ g ≡ sum ⊕ coulomb_of table b (head_term roll h)
@@ -122,17 +116,20 @@ unfolding head_term coulomb_of g_of
 added_term roll h b table sum g f = rw f
 
 -- a term that stands by its Boys order
-pub product-one : (table : List Float) (bytes : List ℕ) (from end : ℕ) (g : Float) → g ≡ product_of table (between bytes from end) one → g ≡ g_of table (between bytes from end)
-unfolding g_of
-product-one table bytes from end g e = e
-
-between-all : (bytes : List ℕ) (from end : ℕ) → length bytes ≤ end → between bytes from (length bytes) ≡ between bytes from end
+between-past : (bytes : List ℕ) (from end : ℕ) → length bytes ≤ end → between bytes from (length bytes) ≡ between bytes from end
 unfolding between
-between-all bytes from end past = take_all (length bytes - from) (drop from bytes) (omega (arith, length-drop from bytes)) ∙ sym (take_all (end - from) (drop from bytes) (omega (arith, length-drop from bytes)))
+between-past bytes from end past = take_all (length bytes - from) (drop from bytes) (omega (arith, length-drop from bytes)) ∙ sym (take_all (end - from) (drop from bytes) (omega (arith, length-drop from bytes)))
 
-pub product_whole : (table : List Float) (bytes : List ℕ) (from end : ℕ) (g : Float) → length bytes < end → g ≡ product_of table (between bytes from (length bytes)) one → g ≡ g_of table (between bytes from end)
+between-within : (bytes : List ℕ) (from end : ℕ) → between bytes from (min end (length bytes)) ≡ between bytes from end
+between-within bytes from end = by (leb end (length bytes)) refl
+  where
+    by : (b : Bool) → leb end (length bytes) ≡ b → between bytes from (min end (length bytes)) ≡ between bytes from end
+    by true e = let inside : end ≤ length bytes = leb-true end (length bytes) e in let least : min end (length bytes) ≡ end = min-eq_left inside in rw least
+    by false e = let past : length bytes ≤ end = omega (arith, leb-false end (length bytes) e) in let least : min end (length bytes) ≡ length bytes = omega arith in rw least (between-past bytes from end past)
+
+pub product-within : (table : List Float) (bytes : List ℕ) (from end last : ℕ) (g : Float) → last ≡ min end (length bytes) → g ≡ product_of table (between bytes from last) one → g ≡ g_of table (between bytes from end)
 unfolding g_of
-product_whole table bytes from end g past e = e ∙ ap (λ (ps : List ℕ). product_of table ps one) (between-all bytes from end (omega arith))
+product-within table bytes from end last g least e = e ∙ ap (λ (ps : List ℕ). product_of table ps one) (ap (between bytes from) least ∙ between-within bytes from end)
 
 pub own-order : (table : List Float) (s : Float) (boys : List Float) (bytes : List ℕ) (h : Head) (f g : Float) → f ≡ boys_number boys h.boys → g ≡ g_of table (between bytes h.from h.end) → scale_of h.scale ⊗ (f ⊗ s) ⊗ g ≡ own_order_of table s boys (head_term bytes h)
 unfolding own_order_of coulomb_of head_term
@@ -156,13 +153,11 @@ module _ (table : List Float) (b : Float) (order : ℕ) where
       by true = refl
       by false = refl
 
-  module _ (roll : List ℕ) (at left : ℕ) (sum whole : Float) where
-    pub pass-more : (end : ℕ) (v : Float) → 0 < left → end ≡ (head_at roll at).end → v ≡ add_order_of order b table (head_term roll (head_at roll at)) sum → sum_from (coulomb_of table b) (of_order order (terms_again roll at left)) sum ≡ whole → sum_from (coulomb_of table b) (of_order order (terms_again roll end (left - 1))) v ≡ whole
+  module _ (roll : List ℕ) (at terms done : ℕ) (sum whole : Float) where
+    pub pass-more : (end : ℕ) (v : Float) → done < terms → end ≡ (head_at roll at).end → v ≡ add_order_of order b table (head_term roll (head_at roll at)) sum → sum_from (coulomb_of table b) (of_order order (terms_again roll at (terms - done))) sum ≡ whole → sum_from (coulomb_of table b) (of_order order (terms_again roll end (terms - (done + 1)))) v ≡ whole
     pass-more end v p e q w =
-        rw (q, e) (rw (one_left roll at left p, one-of-order (head_term roll (head_at roll at)) (terms_again roll (head_at roll at).end (left - 1)) sum) at w)
+        rw (q, e) (rw (one_left roll at terms done p, one-of-order (head_term roll (head_at roll at)) (terms_again roll (head_at roll at).end (terms - (done + 1))) sum) at w)
 
-pub pass-done : (table boys : List Float) (s f : Float) (order : ℕ) (roll : List ℕ) (at left : ℕ) (ts : List Term) (sum before : Float) → left ≤ 0 → f ≡ boys_number boys order → sum_from (coulomb_of table (f ⊗ s)) (of_order order (terms_again roll at left)) sum ≡ sum_from (coulomb_of table (f ⊗ s)) (of_order order ts) before → sum ≡ sum_from (coulomb_of table (boys_number boys order ⊗ s)) (of_order order ts) before
-unfolding sum_from terms_again of_order
-pass-done table boys s f order roll at left ts sum before p e q =
-    let none : left ≡ 0 = omega arith in
-    rw (← e) (rw none at q)
+pub pass-done : (table boys : List Float) (s f : Float) (order : ℕ) (roll : List ℕ) (at terms done : ℕ) (ts : List Term) (sum before : Float) → terms ≤ done → f ≡ boys_number boys order → sum_from (coulomb_of table (f ⊗ s)) (of_order order (terms_again roll at (terms - done))) sum ≡ sum_from (coulomb_of table (f ⊗ s)) (of_order order ts) before → sum ≡ sum_from (coulomb_of table (boys_number boys order ⊗ s)) (of_order order ts) before
+unfolding sum_from of_order
+pass-done table boys s f order roll at terms done ts sum before p e q = rw (← e) (rw (none_left roll at terms done p) at q)

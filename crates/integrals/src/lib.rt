@@ -10,19 +10,12 @@ ghost use Rattle.integrals.specs.Evaluation.{evaluate_of};
 ghost use Rattle.kind.specs.Kinds.{kind_of};
 
 use geometry::Centre;
-use kind::{Kind, Named};
-use roll::{Cursor, Opening};
+use kind::{Fault, Kind, Refusal};
+use roll::Cursor;
 
 mod sums;
 
 pub use sums::{Terms, coulomb_term};
-
-// The integral, or a refusal's number and place (D-72).
-#[derive(Clone, Copy)]
-pub enum Value {
-    Is(f64),
-    Refused(u8, usize),
-}
 
 // Where g of a kinetic term starts that stays kinetic.
 fn kinetic_of(a: Centre, b: Centre) -> f64
@@ -40,11 +33,8 @@ pub fn factor(kind: Kind, a: Centre, b: Centre, c: Centre, d: Centre, aux: f64) 
     ensures { result ≡ factor_of kind a b c d aux }
 {
     match kind {
-        Kind::Overlap => aux,
-        Kind::Kinetic => aux,
-        Kind::Nuclear => aux,
-        Kind::Moment => aux,
         Kind::Coulomb => aux / root::root_of(geometry::exponent_sum(a, b, c, d)),
+        _ => aux,
     }
 }
 
@@ -76,35 +66,27 @@ fn inputs_finite(
 ) -> bool
     ensures { result ≡ inputs_finite kind a b c d aux boys.now }
 {
-    if geometry::used_finite(kind, a, b, c, d) {
-        if geometry::finite(aux) {
-            return geometry::all_finite(boys);
-        }
-    }
-    false
+    geometry::used_finite(kind, a, b, c, d) && geometry::finite(aux) && geometry::all_finite(boys)
 }
 
 // Check 10: how many Boys numbers there are.
 fn boys_counted(kind: Kind, l: u8, count: usize) -> bool
     ensures { result ≡ boys_counted kind l count }
 {
-    if kind.uses_boys() {
-        return count == l as usize + 1;
-    }
-    count == 0
+    count == if kind.uses_boys() { l as usize + 1 } else { 0 }
 }
 
 // Check 11 of the result.
-pub fn result(x: f64) -> Value
+pub fn result(x: f64) -> Result<f64, Refusal>
     ensures { result ≡ result_of x }
 {
-    if geometry::finite(x) {
-        return Value::Is(x);
+    if !geometry::finite(x) {
+        return Err(Refusal::ResultNotFinite);
     }
-    Value::Refused(11, 0)
+    Ok(x)
 }
 
-// The refusal that comes before a sum with this table: 8, 9, 10, or 11 of the geometry; 0 is none.
+// The checks before a sum with this table: 8, 9, 10, and 11 of the geometry.
 pub fn barred(
     terms: Terms,
     a: Centre,
@@ -114,24 +96,24 @@ pub fn barred(
     aux: f64,
     boys: &[f64],
     table: &[f64],
-) -> u8
+) -> Result<(), Refusal>
     ensures { result ≡ bars_with terms.kind terms.cursor.l a b c d aux boys.now table.now }
 {
     let kind = terms.kind;
     let cursor = terms.cursor;
     if !inputs_finite(kind, a, b, c, d, aux, boys) {
-        return 8;
+        return Err(Refusal::InputNotFinite);
     }
     if !geometry::exponents_above_zero(kind, a, b, c, d) {
-        return 9;
+        return Err(Refusal::Exponent);
     }
     if !boys_counted(kind, cursor.l, boys.len()) {
-        return 10;
+        return Err(Refusal::BoysCount);
     }
     if !geometry::geometry_finite(kind, a, b, c, d, table) {
-        return 11;
+        return Err(Refusal::ResultNotFinite);
     }
-    0
+    Ok(())
 }
 
 // Checks 17, 8, 9, 10 and 11 of a roll's terms, and their sum, with the charge that the kind looks at.
@@ -144,24 +126,21 @@ fn judged(
     aux: f64,
     boys: &[f64],
     roll: &[u8],
-) -> Value
+) -> Result<f64, Refusal>
     ensures { result ≡ value_of terms.kind terms.cursor.l a b c d aux boys.now (again_from roll.now terms.cursor) }
 {
     let kind = terms.kind;
     if !geometry::charge_kept(kind, c) {
-        return Value::Refused(17, 0);
+        return Err(Refusal::Nuclei);
     }
     let table = geometry::prefac(kind, a, b, c, d);
-    let refusal = barred(terms, a, b, c, d, aux, boys, &table);
-    if refusal != 0 {
-        return Value::Refused(refusal, 0);
-    }
+    barred(terms, a, b, c, d, aux, boys, &table)?;
     let s = factor(kind, a, b, c, d, aux);
     let sum = integral(terms, a, b, &table, s, boys, roll);
     result(geometry::charged(kind, c, sum))
 }
 
-// The terms of a roll that was judged, from its cursor on.
+// The terms of a roll that was judged, from its cursor on; none of their refusals has a place.
 pub fn from_cursor(
     cursor: Cursor,
     a: Centre,
@@ -171,13 +150,13 @@ pub fn from_cursor(
     aux: f64,
     boys: &[f64],
     roll: &[u8],
-) -> Value
+) -> Result<f64, Refusal>
     ensures { result ≡ of_cursor (kind_of cursor.kind) cursor a b c d aux boys.now roll.now }
 {
-    match Kind::of(cursor.kind) {
-        Named::Is(kind) => judged(Terms { kind, cursor }, a, b, c, d, aux, boys, roll),
-        Named::Unknown => Value::Refused(7, 0),
-    }
+    let Some(kind) = Kind::of(cursor.kind) else {
+        return Err(Refusal::BadRoll);
+    };
+    judged(Terms { kind, cursor }, a, b, c, d, aux, boys, roll)
 }
 
 // The integral of a roll with the host's numbers, or 7 or 14 with its place, 17, 8, 9, 10 or 11 (D-62).
@@ -189,14 +168,9 @@ pub fn evaluate(
     d: Centre,
     aux: f64,
     boys: &[f64],
-) -> Value
+) -> Result<f64, Fault>
     ensures { result ≡ evaluate_of roll.now a b c d aux boys.now }
 {
-    let opened = roll::check(roll);
-    let found = opened.found;
-    let cursor = opened.cursor;
-    match found {
-        Opening::Roll => from_cursor(cursor, a, b, c, d, aux, boys, roll),
-        Opening::Refused(number, place) => Value::Refused(number, place),
-    }
+    let opened = roll::check(roll)?;
+    Ok(from_cursor(opened.cursor, a, b, c, d, aux, boys, roll)?)
 }

@@ -1,7 +1,7 @@
 // The sums of the five get_ functions of os86.rs, over the terms of a roll.
 ghost use Rattle.std.specs.Prelude.{◌+◌, ◌≤◌, ◌≡◌, length, get_or};
 ghost use Rattle.geometry.specs.Floats.{◌⊕◌, ◌⊗◌, zero};
-ghost use Rattle.integrals.specs.Sums.{boys_number, product_of, g_of, stays_kinetic, plain_of, kinetic_of, nuclear_of, coulomb_of, sum_from, of_order, run_orders, total_of};
+ghost use Rattle.integrals.specs.Sums.{boys_number, product_of, g_of, stays_kinetic, coulomb_of, sum_from, of_order, run_orders, total_of};
 ghost use Rattle.roll.specs.inner.Again.{head_at, between, head_term, terms_again};
 ghost use Rattle.integrals.specs.inner.Stored.{add_order_of, start_of, addend_of, own_order_of, again_from};
 
@@ -16,11 +16,11 @@ pub struct Terms {
     pub cursor: Cursor,
 }
 
-// What a term adds to a sum in list order.
+// What a term adds to a sum in list order; a kinetic one with where g starts of a term that stays kinetic.
 #[derive(Clone, Copy)]
 enum Adds {
     Plain,
-    Kinetic,
+    Kinetic(f64),
     Nuclear,
 }
 
@@ -28,10 +28,7 @@ enum Adds {
 fn float_at(floats: &[f64], at: usize) -> f64
     ensures { result ≡ get_or floats.now at zero }
 {
-    if at < floats.len() {
-        return floats[at];
-    }
-    0.0
+    if at < floats.len() { floats[at] } else { 0.0 }
 }
 
 // g, multiplied by the table's entries in listed order (D-73).
@@ -40,10 +37,8 @@ fn product(table: &[f64], roll: &[u8], from: usize, end: usize, start: f64) -> f
     ensures { result ≡ product_of table.now (between roll.now from end) start }
 {
     let mut g = start;
-    let mut at = from;
-    while at < end {
+    for at in from..end {
         g = g * float_at(table, wide(roll[at]) as usize);
-        at += 1;
     }
     g
 }
@@ -53,59 +48,39 @@ fn stays_kinetic(roll: &[u8], from: usize, end: usize) -> bool
     requires { end ≤ length roll.now }
     ensures { result ≡ stays_kinetic (between roll.now from end) }
 {
-    let mut at = from;
-    while at < end {
-        if wide(roll[at]) <= 7 {
-            at += 1;
-        } else {
+    for at in from..end {
+        if 7 < wide(roll[at]) {
             return false;
         }
     }
     true
 }
 
-// A kinetic term with no prefactor above 7 starts at `kinetic`, any other at 1.0.
-fn kinetic_start(roll: &[u8], from: usize, end: usize, kinetic: f64) -> f64
+// Where g starts: a kinetic term with no prefactor above 7 at the start that the centres give, any other at 1.0.
+fn start_of(adds: Adds, roll: &[u8], from: usize, end: usize) -> f64
     requires { end ≤ length roll.now }
-    ensures { result ≡ start_of Adds.Kinetic kinetic (between roll.now from end) }
-{
-    if stays_kinetic(roll, from, end) {
-        return kinetic;
-    }
-    1.0
-}
-
-// Where g starts.
-fn start_of(adds: Adds, roll: &[u8], from: usize, end: usize, kinetic: f64) -> f64
-    requires { end ≤ length roll.now }
-    ensures { result ≡ start_of adds kinetic (between roll.now from end) }
+    ensures { result ≡ start_of adds (between roll.now from end) }
 {
     match adds {
-        Adds::Plain => 1.0,
-        Adds::Kinetic => kinetic_start(roll, from, end, kinetic),
-        Adds::Nuclear => 1.0,
+        Adds::Kinetic(kinetic) => if stays_kinetic(roll, from, end) {
+            kinetic
+        } else {
+            1.0
+        },
+        Adds::Plain | Adds::Nuclear => 1.0,
     }
 }
 
 // What one term adds to the sum.
-fn addend(
-    adds: Adds,
-    kinetic: f64,
-    table: &[f64],
-    aux: f64,
-    boys: &[f64],
-    roll: &[u8],
-    h: Head,
-) -> f64
+fn addend(adds: Adds, table: &[f64], aux: f64, boys: &[f64], roll: &[u8], h: Head) -> f64
     requires { h.end ≤ length roll.now }
-    ensures { result ≡ addend_of adds kinetic table.now aux boys.now (head_term roll.now h) }
+    ensures { result ≡ addend_of adds table.now aux boys.now (head_term roll.now h) }
 {
-    let start = start_of(adds, roll, h.from, h.end, kinetic);
+    let start = start_of(adds, roll, h.from, h.end);
     let g = product(table, roll, h.from, h.end, start);
     let scale = h.scale as f64;
     match adds {
-        Adds::Plain => scale * aux * g,
-        Adds::Kinetic => scale * aux * g,
+        Adds::Plain | Adds::Kinetic(_) => scale * aux * g,
         Adds::Nuclear => scale * aux * g * float_at(boys, h.boys as usize),
     }
 }
@@ -113,7 +88,6 @@ fn addend(
 // The sum in list order.
 fn sum(
     adds: Adds,
-    kinetic: f64,
     table: &[f64],
     aux: f64,
     boys: &[f64],
@@ -121,16 +95,14 @@ fn sum(
     start: usize,
     terms: u32,
 ) -> f64
-    ensures { result ≡ sum_from (addend_of adds kinetic table.now aux boys.now) (terms_again roll.now start terms) zero }
+    ensures { result ≡ sum_from (addend_of adds table.now aux boys.now) (terms_again roll.now start terms) zero }
 {
     let mut sum = 0.0;
     let mut at = start;
-    let mut left = terms;
-    while 0 < left {
+    for done in 0..terms {
         let h = head_at(roll, at);
-        sum = sum + addend(adds, kinetic, table, aux, boys, roll, h);
+        sum = sum + addend(adds, table, aux, boys, roll, h);
         at = h.end;
-        left -= 1;
     }
     sum
 }
@@ -170,11 +142,9 @@ fn pass(
     let b = float_at(boys, order) * s;
     let mut sum = before;
     let mut at = start;
-    let mut left = terms;
-    while 0 < left {
+    for done in 0..terms {
         sum = add_order(order, b, table, roll, at, sum);
         at = end_at(roll, at);
-        left -= 1;
     }
     sum
 }
@@ -183,10 +153,7 @@ fn pass(
 fn product_of(table: &[f64], bytes: &[u8], from: usize, end: usize) -> f64
     ensures { result ≡ g_of table.now (between bytes.now from end) }
 {
-    if end <= bytes.len() {
-        return product(table, bytes, from, end, 1.0);
-    }
-    product(table, bytes, from, bytes.len(), 1.0)
+    product(table, bytes, from, end.min(bytes.len()), 1.0)
 }
 
 // What a term adds that stands among those of its own Boys order: scale·(F(order)·s)·g.
@@ -198,40 +165,8 @@ pub fn coulomb_term(table: &[f64], s: f64, boys: &[f64], bytes: &[u8], h: Head) 
     h.scale as f64 * b * g
 }
 
-fn get_overlap(table: &[f64], aux: f64, boys: &[f64], roll: &[u8], start: usize, terms: u32) -> f64
-    ensures { result ≡ sum_from (plain_of table.now aux) (terms_again roll.now start terms) zero }
-{
-    sum(Adds::Plain, 0.0, table, aux, boys, roll, start, terms)
-}
-
-fn get_kinetic(
-    kinetic: f64,
-    table: &[f64],
-    aux: f64,
-    boys: &[f64],
-    roll: &[u8],
-    start: usize,
-    terms: u32,
-) -> f64
-    ensures { result ≡ sum_from (kinetic_of kinetic table.now aux) (terms_again roll.now start terms) zero }
-{
-    sum(Adds::Kinetic, kinetic, table, aux, boys, roll, start, terms)
-}
-
-fn get_nuclear(table: &[f64], aux: f64, boys: &[f64], roll: &[u8], start: usize, terms: u32) -> f64
-    ensures { result ≡ sum_from (nuclear_of table.now aux boys.now) (terms_again roll.now start terms) zero }
-{
-    sum(Adds::Nuclear, 0.0, table, aux, boys, roll, start, terms)
-}
-
-fn get_moment(table: &[f64], aux: f64, boys: &[f64], roll: &[u8], start: usize, terms: u32) -> f64
-    ensures { result ≡ sum_from (plain_of table.now aux) (terms_again roll.now start terms) zero }
-{
-    sum(Adds::Plain, 0.0, table, aux, boys, roll, start, terms)
-}
-
 // Coulomb runs the Boys orders from 0 to L.
-fn get_coulomb(
+fn by_order(
     l: u8,
     table: &[f64],
     s: f64,
@@ -242,12 +177,9 @@ fn get_coulomb(
 ) -> f64
     ensures { result ≡ run_orders table.now s boys.now (terms_again roll.now start terms) (l + 1) 0 zero }
 {
-    let last = l as usize;
     let mut sum = 0.0;
-    let mut order = 0;
-    while order <= last {
+    for order in 0..=l as usize {
         sum = pass(order, table, s, boys, roll, start, terms, sum);
-        order += 1;
     }
     sum
 }
@@ -263,15 +195,11 @@ pub(crate) fn total(
 ) -> f64
     ensures { result ≡ total_of terms.kind terms.cursor.l kinetic table.now aux boys.now (again_from roll.now terms.cursor) }
 {
-    let kind = terms.kind;
-    let cursor = terms.cursor;
-    let start = cursor.place;
-    let left = cursor.left;
-    match kind {
-        Kind::Overlap => get_overlap(table, aux, boys, roll, start, left),
-        Kind::Kinetic => get_kinetic(kinetic, table, aux, boys, roll, start, left),
-        Kind::Nuclear => get_nuclear(table, aux, boys, roll, start, left),
-        Kind::Moment => get_moment(table, aux, boys, roll, start, left),
-        Kind::Coulomb => get_coulomb(cursor.l, table, aux, boys, roll, start, left),
+    let Cursor { place, left, l, .. } = terms.cursor;
+    match terms.kind {
+        Kind::Overlap | Kind::Moment => sum(Adds::Plain, table, aux, boys, roll, place, left),
+        Kind::Kinetic => sum(Adds::Kinetic(kinetic), table, aux, boys, roll, place, left),
+        Kind::Nuclear => sum(Adds::Nuclear, table, aux, boys, roll, place, left),
+        Kind::Coulomb => by_order(l, table, aux, boys, roll, place, left),
     }
 }

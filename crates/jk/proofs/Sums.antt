@@ -1,12 +1,10 @@
 -- Sums over sigma and over lambda go on from where they stand.
 use Prim.Native.Nat.{ℕ, suc, ◌+◌, ◌*◌, ◌-◌, ◌<◌, ◌≤◌}
-use mathlib.Core.Path.{◌≡◌, refl, sym, ◌∙◌}
+use mathlib.Core.Path.{◌≡◌, refl, ◌∙◌}
 use mathlib.Core.List.{List}
 use native.Mathlib.Numerals.{add-one}
-use native.Mathlib.Omega.{arith}
 use lib.Ieee.{Float, nan}
-use lib.ListN.{length, get_or, take, set}
-use lib.Seq.{take-suc, take-suc-set, take_all}
+use lib.ListN.{get_or}
 use Rattle.laws.proofs.Counting.{left_one, left-none}
 use Rattle.geometry.specs.Floats.{◌⊕◌, ◌⊗◌}
 use Rattle.jk.specs.declared.Matrix.{Matrix}
@@ -44,11 +42,3 @@ module _ (m : Matrix) (i d : List Float) (mu nu n l : ℕ) (sum whole : Float) w
   pub lambda-done : n ≤ l → over_lambda (product m n i d mu nu) n (n - l) l sum ≡ whole → sum ≡ whole
   unfolding over_lambda
   lambda-done h e = rw (left-none n l h) at e
-
-pub put-more : (out from : List Float) (p : ℕ) → p < length out → length out ≡ length from → take p out ≡ take p from → take (p + 1) (set out p (get_or from p nan)) ≡ take (p + 1) from
-put-more out from p h e f =
-    let k : p < length from = omega arith in
-    rw (add-one p, take-suc-set out p (get_or from p nan) h, take-suc from p nan, f)
-
-pub put-done : (out from : List Float) (p : ℕ) → length out ≤ p → length out ≡ length from → take p out ≡ take p from → out ≡ from
-put-done out from p h e f = sym (take_all p out h) ∙ f ∙ take_all p from (omega arith)

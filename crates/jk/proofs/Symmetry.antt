@@ -10,7 +10,8 @@ use Rattle.laws.specs.Unless.{unless}
 use Rattle.laws.proofs.Cases.{clash}
 use Rattle.geometry.specs.Floats.{◌⊕◌, ◌⊗◌, all_finite}
 use Rattle.jk.specs.declared.Matrix.TheVariants.{J, K}
-use Rattle.jk.specs.declared.Answer.TheVariants.{Done}
+use Rattle.std.specs.Prelude.{Ok}
+use Rattle.kind.specs.declared.refusals.Refusal.TheVariants.{InputNotFinite, ResultNotFinite, MatrixSize}
 use Rattle.jk.specs.Sums.{at2, product, over_sigma, over_lambda, entry_of, matrix_of}
 use Rattle.jk.specs.Outcome.{Outcome, outcome, refused, sized_of, summed_of, jk_of}
 use Rattle.jk.specs.Symmetry.{AlikeInFirstTwo, Symmetric}
@@ -43,7 +44,7 @@ pub J-symmetric : (n : ℕ) (i d : List Float) → AlikeInFirstTwo n i → Symme
 J-symmetric n i d s mu nu h k = entry_at J n i d mu nu h k ∙ entry-alike n i d mu nu s h k ∙ sym (entry_at J n i d nu mu k h)
 
 -- behind three checks, success is what stands behind the last
-behind : (a b c : Bool) (one two three o : Outcome) → (one.answer ≡ Done → ⊥) → (two.answer ≡ Done → ⊥) → (three.answer ≡ Done → ⊥) → (unless a one (unless b two (unless c three o))).answer ≡ Done → unless a one (unless b two (unless c three o)) ≡ o
+behind : (a b c : Bool) (one two three o : Outcome) → (one.answer ≡ Ok tt → ⊥) → (two.answer ≡ Ok tt → ⊥) → (three.answer ≡ Ok tt → ⊥) → (unless a one (unless b two (unless c three o))).answer ≡ Ok tt → unless a one (unless b two (unless c three o)) ≡ o
 unfolding unless
 behind true true true one two three o p q r e = refl
 behind true true false one two three o p q r e = absurd (r e)
@@ -51,11 +52,11 @@ behind true false c one two three o p q r e = absurd (q e)
 behind false b c one two three o p q r e = absurd (p e)
 
 -- what the J of a success is
-pub J-told-symmetric : (n : ℕ) (i d j k : List Float) → AlikeInFirstTwo n i → (jk_of n i d j k).answer ≡ Done → Symmetric n (jk_of n i d j k).j
+pub J-told-symmetric : (n : ℕ) (i d j k : List Float) → AlikeInFirstTwo n i → (jk_of n i d j k).answer ≡ Ok tt → Symmetric n (jk_of n i d j k).j
 unfolding jk_of summed_of
 J-told-symmetric n i d j k s e =
     let told =
-    behind (sized_of n (length i) (length d) (length j) (length k)) (all_finite i && all_finite d) (all_finite (matrix_of J n i d) && all_finite (matrix_of K n i d)) (refused 12 j k) (refused 8 j k) (refused 11 j k)
-    (outcome Done (matrix_of J n i d) (matrix_of K n i d)) (λ z. clash (cc)) (λ z. clash (cc)) (λ z. clash (cc)) e
+    behind (sized_of n (length i) (length d) (length j) (length k)) (all_finite i && all_finite d) (all_finite (matrix_of J n i d) && all_finite (matrix_of K n i d)) (refused MatrixSize j k) (refused InputNotFinite j k) (refused ResultNotFinite j k)
+    (outcome (Ok tt) (matrix_of J n i d) (matrix_of K n i d)) (λ z. clash (cc)) (λ z. clash (cc)) (λ z. clash (cc)) e
     in
     rw told (J-symmetric n i d s)

@@ -1,3 +1,4 @@
+pub mod Faults
 pub mod KindNumber
 pub mod Only
 pub mod Within

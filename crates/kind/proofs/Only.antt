@@ -4,6 +4,10 @@ use Rattle.laws.proofs.Contract.{Alone, alone, ◌▸◌, end}
 use Rattle.kind.specs.declared.Kind.{Kind}
 use Rattle.kind.specs.Limits.{limits}
 use Rattle.kind.specs.Kinds.{kind_of, number_of, orders_of, table_of, branches_of, most_l, most_prefactors, uses_boys}
+use Rattle.kind.specs.declared.refusals.Refusal.{Refusal}
+use Rattle.kind.specs.Refusals.{refusal_number, unplaced}
+use Rattle.kind.proofs.refusals.U8FromRefusal.from.Reads.{Post as RefusalNumber}
+use Rattle.kind.proofs.refusals.FaultFromRefusal.from.Reads.{Post as Unplaced}
 use Rattle.kind.proofs.Kind.limits.Reads.{Post as Limits}
 use Rattle.kind.proofs.Kind.of.Reads.{Post as Of}
 use Rattle.kind.proofs.Kind.number.Reads.{Post as Number}
@@ -40,3 +44,9 @@ most-prefactors-only k l = alone (λ r p. p)
 
 pub uses-boys-only : (k : Kind) → let g = k ▸ end in Alone (λ r. UsesBoys tt g r g) (uses_boys k)
 uses-boys-only k = alone (λ r p. p)
+
+pub refusal-number-only : (r : Refusal) → let g = r ▸ end in Alone (λ n. RefusalNumber tt g n g) (refusal_number r)
+refusal-number-only r = alone (λ n p. p)
+
+pub unplaced-only : (r : Refusal) → let g = r ▸ end in Alone (λ f. Unplaced tt g f g) (unplaced r)
+unplaced-only r = alone (λ f p. p)

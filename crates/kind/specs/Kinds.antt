@@ -1,9 +1,7 @@
 -- 01, "Steps": the kinds and what each has of its own.
-use Rattle.std.specs.Prelude.{ℕ, ◌+◌, ◌*◌, get_or, [], ◌∷◌, Bool, true, false}
+use Rattle.std.specs.Prelude.{ℕ, ◌+◌, ◌*◌, slice_get, Option, [], ◌∷◌, Bool, true, false}
 use Rattle.kind.specs.declared.Kind.{Kind}
 use Rattle.kind.specs.declared.Kind.TheVariants.{Overlap, Kinetic, Nuclear, Moment, Coulomb}
-use Rattle.kind.specs.declared.Named.{Named}
-use Rattle.kind.specs.declared.Named.TheVariants.{Is, Unknown}
 use Rattle.kind.specs.Limits.{most_order}
 
 -- 0 overlap, 1 kinetic, 2 nuclear, 3 moment, 4 Coulomb
@@ -15,8 +13,8 @@ number_of Moment = 3
 number_of Coulomb = 4
 
 -- a kind by its number; there is none above 4
-abbrev pub kind_of : ℕ → Named
-kind_of n = get_or (Is Overlap ∷ Is Kinetic ∷ Is Nuclear ∷ Is Moment ∷ Is Coulomb ∷ []) n Unknown
+abbrev pub kind_of : ℕ → Option Kind
+kind_of n = slice_get (Overlap ∷ Kinetic ∷ Nuclear ∷ Moment ∷ Coulomb ∷ []) n
 
 -- orders stand by centre, x y z each: A, B; for moment then the operator; for Coulomb then C, D
 abbrev pub orders_of : Kind → ℕ

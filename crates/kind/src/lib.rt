@@ -5,20 +5,17 @@ ghost use Rattle.std.specs.Prelude.{◌≡◌};
 ghost use Rattle.kind.specs.Limits.{limits};
 ghost use Rattle.kind.specs.Kinds.{kind_of, number_of, orders_of, table_of, branches_of, most_l, most_prefactors, uses_boys};
 
-#[derive(Clone, Copy)]
+mod refusals;
+
+pub use refusals::{Fault, Refusal};
+
+#[derive(Clone, Copy, Debug, PartialEq, Eq)]
 pub enum Kind {
     Overlap,
     Kinetic,
     Nuclear,
     Moment,
     Coulomb,
-}
-
-// What a byte says as a kind.
-#[derive(Clone, Copy)]
-pub enum Named {
-    Is(Kind),
-    Unknown,
 }
 
 // The limits that are one for all kinds.
@@ -68,16 +65,16 @@ impl Kind {
         }
     }
 
-    pub fn of(byte: u8) -> Named
+    pub fn of(byte: u8) -> Option<Kind>
         ensures { result ≡ kind_of byte }
     {
         match byte {
-            0 => Named::Is(Kind::Overlap),
-            1 => Named::Is(Kind::Kinetic),
-            2 => Named::Is(Kind::Nuclear),
-            3 => Named::Is(Kind::Moment),
-            4 => Named::Is(Kind::Coulomb),
-            _ => Named::Unknown,
+            0 => Some(Kind::Overlap),
+            1 => Some(Kind::Kinetic),
+            2 => Some(Kind::Nuclear),
+            3 => Some(Kind::Moment),
+            4 => Some(Kind::Coulomb),
+            _ => None,
         }
     }
 
@@ -98,9 +95,7 @@ impl Kind {
         ensures { result ≡ orders_of self }
     {
         match self {
-            Kind::Overlap => 6,
-            Kind::Kinetic => 6,
-            Kind::Nuclear => 6,
+            Kind::Overlap | Kind::Kinetic | Kind::Nuclear => 6,
             Kind::Moment => 9,
             Kind::Coulomb => 12,
         }
@@ -112,8 +107,7 @@ impl Kind {
     {
         match self {
             Kind::Overlap => 8,
-            Kind::Kinetic => 11,
-            Kind::Nuclear => 11,
+            Kind::Kinetic | Kind::Nuclear => 11,
             Kind::Moment => 12,
             Kind::Coulomb => 23,
         }
@@ -137,9 +131,7 @@ impl Kind {
         ensures { result ≡ most_l self }
     {
         match self {
-            Kind::Overlap => 2 * Kind::MOST_ORDER,
-            Kind::Kinetic => 2 * Kind::MOST_ORDER,
-            Kind::Nuclear => 2 * Kind::MOST_ORDER,
+            Kind::Overlap | Kind::Kinetic | Kind::Nuclear => 2 * Kind::MOST_ORDER,
             Kind::Moment => 3 * Kind::MOST_ORDER,
             Kind::Coulomb => 4 * Kind::MOST_ORDER,
         }
@@ -150,11 +142,8 @@ impl Kind {
         ensures { result ≡ most_prefactors self l }
     {
         match self {
-            Kind::Overlap => l as usize,
             Kind::Kinetic => l as usize + 1,
-            Kind::Nuclear => l as usize,
-            Kind::Moment => l as usize,
-            Kind::Coulomb => l as usize,
+            Kind::Overlap | Kind::Nuclear | Kind::Moment | Kind::Coulomb => l as usize,
         }
     }
 
@@ -162,12 +151,6 @@ impl Kind {
     pub fn uses_boys(self) -> bool
         ensures { result ≡ uses_boys self }
     {
-        match self {
-            Kind::Overlap => false,
-            Kind::Kinetic => false,
-            Kind::Nuclear => true,
-            Kind::Moment => false,
-            Kind::Coulomb => true,
-        }
+        matches!(self, Kind::Nuclear | Kind::Coulomb)
     }
 }

@@ -3,12 +3,12 @@
 
 ghost use Rattle.std.specs.Prelude.{◌≤◌, length, OnOk};
 ghost use Rattle.std.specs.Io.KnownBytes.{Appends};
+ghost use Rattle.kind.specs.Refusals.{refusal_number};
 ghost use Rattle.listing.specs.Text.{refusal_text};
 ghost use Rattle.list.specs.Output.{output_of};
 ghost use Rattle.list.specs.inner.Room.{text_room, Holds};
 
-use kind::Kind;
-use listing::Listed;
+use kind::{Fault, Kind, Refusal};
 use std::io;
 use std::io::Write;
 use streams::read_full;
@@ -18,13 +18,13 @@ const INPUT: usize = Kind::MOST_LISTED + 1;
 // The text of a longest roll: a byte of a roll gives at most five of its listing.
 const TEXT: usize = 5 * Kind::MOST_LISTED;
 
-fn refused(refusal: u8, place: usize, text: &mut [u8]) -> usize
+fn refused(refusal: Refusal, place: usize, text: &mut [u8]) -> usize
     requires { text_room ≤ length text.old }
-    ensures { Holds text.new result (refusal_text refusal place) }
+    ensures { Holds text.new result (refusal_text (refusal_number refusal) place) }
 {
-    match listing::refusal_line(refusal, place, text, 0) {
-        Listed::Text(n) => n,
-        Listed::Refused(_, _) => 0,
+    match listing::refusal_line(u8::from(refusal), place, text, 0) {
+        Ok(n) => n,
+        Err(_) => 0,
     }
 }
 
@@ -34,8 +34,8 @@ fn told(roll: &[u8], text: &mut [u8]) -> usize
     ensures { Holds text.new result (output_of roll.now) }
 {
     match listing::listing(roll, text, 0) {
-        Listed::Text(n) => n,
-        Listed::Refused(refusal, place) => refused(refusal, place, text),
+        Ok(n) => n,
+        Err(Fault { refusal, place }) => refused(refusal, place, text),
     }
 }
 

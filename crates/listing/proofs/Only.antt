@@ -4,7 +4,7 @@ use mathlib.Core.List.{List}
 use contract.Lifetimes.{Lfts}
 use Rattle.laws.specs.Placed.{placed_where_fits}
 use Rattle.laws.proofs.Contract.{Alone, alone, Lent, Shown, ◌then◌, ◌▸◌, end}
-use Rattle.listing.specs.declared.Listed.{Listed}
+use Rattle.listing.specs.Listed.{Listed}
 use Rattle.listing.specs.Text.{refusal_text}
 use Rattle.listing.specs.Answers.{text_at, listing_at, listing_out}
 use Rattle.listing.proofs.listing.Reads.{Post as Listing}

@@ -1,32 +1,29 @@
 -- A judged roll's header and terms are what the listing says; a roll that is not one is refused as it reads.
-use Prim.Native.Nat.{ℕ, ◌+◌, ◌-◌, ◌≤◌, ◌<◌}
+use Prim.Native.Nat.{ℕ, ◌-◌, ◌≤◌, ◌<◌}
 use native.Mathlib.Omega.{arith}
 use mathlib.Core.Path.{◌≡◌, ap, sym, ◌∙◌}
 use mathlib.Core.List.{List, ◌++◌}
 use borrow.Author.Tests.{lt-ltb, le-ltb}
-use lib.ListN.{length, take, drop, replicate, length-append}
+use lib.ListN.{length, take, drop, replicate}
 use lib.Seq.{take_at}
 use Rattle.kind.specs.Limits.{request_orders, most_listed}
 use Rattle.kind.specs.Kinds.{kind_of, orders_of}
 use Rattle.kind.specs.declared.Kind.{Kind}
-use Rattle.kind.specs.declared.Named.{Named}
-use Rattle.kind.specs.declared.Named.TheVariants as named
 use Rattle.laws.proofs.Cases.{clash}
-use Rattle.text.specs.declared.Written.{Written}
-use Rattle.text.specs.declared.Written.TheVariants.{To, NoRoom}
-use Rattle.roll.specs.declared.header.Opening.TheVariants as opening
 use Rattle.roll.specs.declared.header.Opened.{Opened}
 use Rattle.roll.specs.Reading.{refused, roll_at}
 use Rattle.roll.specs.Header.{check_of}
 use Rattle.roll.specs.inner.Judged.{Judged, left_of}
 use Rattle.roll.proofs.Checked.{checked-judged, checked_refused, judged-named, judged-orders, judged-left, judged-terms}
-use Rattle.listing.specs.declared.Listed.{Listed}
-use Rattle.listing.specs.declared.Listed.TheVariants.{Refused}
+use Rattle.listing.specs.Listed.{Listed, Refused}
 use Rattle.listing.specs.Text.{head_line, term_lines, listing_text}
 use Rattle.saying.specs.Said.{Said}
 use Rattle.listing.specs.inner.Whole.{read_text, text_of}
 use Rattle.listing.specs.Answers.{TextTold, listing_at, listing_out, ListingTold}
 use Rattle.saying.proofs.SaidLaws.{said-both}
+use Rattle.std.specs.Prelude.{Option, Some, None, Result, Ok, Err}
+use Rattle.kind.specs.declared.refusals.Fault.{Fault}
+use Rattle.kind.specs.declared.refusals.Refusal.TheVariants.{NoRoom}
 
 -- ---- a judged roll
 
@@ -35,16 +32,7 @@ judged-text : (o : Opened) (s : List ℕ) (j : Judged o s) → text_of s ≡ hea
 unfolding text_of listing_text
 judged-text o s j = ap read_text j.reads
 
-pub roll-orders : (o : Opened) (s : List ℕ) (m : Named) (k : Kind) (n : ℕ) → Judged o s → m ≡ kind_of o.cursor.kind → m ≡ named.Is k → n ≡ orders_of k → n ≤ length o.orders
-roll-orders o s m k n j is e count =
-    let os = j.roll.orders in
-    let kind : j.roll.kind ≡ k = cc (judged-named o s j m is) in
-    let are = judged-orders o s j in
-    let long : length o.orders ≡ length os + length {A = ℕ} (replicate (request_orders - length os) 0) = ap length are.0 ∙ length-append os (replicate (request_orders - length os) 0) in
-    let same : orders_of k ≡ length os = ap orders_of (sym kind) ∙ sym are.1 in
-    omega arith
-
-pub roll-said : (room : ℕ) (o : Opened) (s : List ℕ) (m : Named) (k : Kind) (n : ℕ) (a b c : List ℕ) (q r : Written) → Judged o s → m ≡ kind_of o.cursor.kind → m ≡ named.Is k → n ≡ orders_of k → Said room a (To 0) (head_line k (take (n - 0) (drop 0 o.orders)) o.cursor.left) q b → Said room b q (term_lines 1 (left_of o.cursor s)) r c → Said room a (To 0) (text_of s) r c
+pub roll-said : (room : ℕ) (o : Opened) (s : List ℕ) (m : Option Kind) (k : Kind) (n : ℕ) (a b c : List ℕ) (q r : Option ℕ) → Judged o s → m ≡ kind_of o.cursor.kind → m ≡ Some k → n ≡ orders_of k → Said room a (Some 0) (head_line k (take (n - 0) (drop 0 o.orders)) o.cursor.left) q b → Said room b q (term_lines 1 (left_of o.cursor s)) r c → Said room a (Some 0) (text_of s) r c
 roll-said room o s m k n a b c q r j is e count head lines =
     let os = j.roll.orders in
     let kind : k ≡ j.roll.kind = cc (judged-named o s j m is) in
@@ -53,28 +41,28 @@ roll-said room o s m k n a b c q r j is e count head lines =
     let orders : take (n - 0) o.orders ≡ os = ap (take (n - 0)) are.0 ∙ take_at os (replicate (request_orders - length os) 0) (n - 0) (sym size) in
     let left : o.cursor.left ≡ length j.roll.terms = judged-left o s j in
     let rest : left_of o.cursor s ≡ j.roll.terms = judged-terms o s j in
-    let one : Said room a (To 0) (head_line j.roll.kind j.roll.orders (length j.roll.terms)) q b = rw (← kind, ← orders, ← left) head in
+    let one : Said room a (Some 0) (head_line j.roll.kind j.roll.orders (length j.roll.terms)) q b = rw (← kind, ← orders, ← left) head in
     let two : Said room b q (term_lines 1 j.roll.terms) r c = rw (← rest) lines in
     rw (judged-text o s j) (said-both one two)
 
-pub roll-unknown : (room : ℕ) (o : Opened) (s : List ℕ) (m : Named) (a : List ℕ) → Judged o s → m ≡ kind_of o.cursor.kind → m ≡ named.Unknown → Said room a (To 0) (text_of s) NoRoom a
+pub roll-unknown : (room : ℕ) (o : Opened) (s : List ℕ) (m : Option Kind) (a : List ℕ) → Judged o s → m ≡ kind_of o.cursor.kind → m ≡ None → Said room a (Some 0) (text_of s) None a
 roll-unknown room o s m a j is e = let known = judged-named o s j m is in absurd (clash (cc))
 
 -- ---- the answers
 
-pub listing-over : (s out : List ℕ) (start : ℕ) → most_listed < length s → ListingTold s out start (Refused 6 0) out
+pub listing-over : (s out : List ℕ) (start : ℕ) → most_listed < length s → ListingTold s out start (Refused NoRoom 0) out
 unfolding listing_at listing_out
 listing-over s out start over = record { answer = rw (lt-ltb most_listed (length s) over); out = rw (lt-ltb most_listed (length s) over) }
 
-pub listing-refused : (s out : List ℕ) (start n place : ℕ) (o : Opened) → length s ≤ most_listed → o ≡ check_of s → o.found ≡ opening.Refused n place → ListingTold s out start (Refused n place) out
+pub listing-refused : (s out : List ℕ) (start : ℕ) (y : Result Opened Fault) (why : Fault) → length s ≤ most_listed → y ≡ check_of s → y ≡ Err why → ListingTold s out start (Err why) out
 unfolding listing_at listing_out
-listing-refused s out start n place o small is found =
-    let reads : roll_at s ≡ refused n place = checked_refused s o n place is found in
+listing-refused s out start y why small is found =
+    let reads : roll_at s ≡ refused why.refusal why.place = checked_refused s y why is found in
     record { answer = rw (le-ltb most_listed (length s) small, reads); out = rw (le-ltb most_listed (length s) small, reads) }
 
-pub listing-told : (s out after : List ℕ) (start : ℕ) (o : Opened) (r : Listed) → length s ≤ most_listed → o ≡ check_of s → o.found ≡ opening.Roll → TextTold (text_of s) out start r after → ListingTold s out start r after
+pub listing-told : (s out after : List ℕ) (start : ℕ) (y : Result Opened Fault) (o : Opened) (r : Listed) → length s ≤ most_listed → y ≡ check_of s → y ≡ Ok o → TextTold (text_of s) out start r after → ListingTold s out start r after
 unfolding listing_at listing_out text_of
-listing-told s out after start o r small is found told =
-    let j = checked-judged s o is found in
+listing-told s out after start y o r small is found told =
+    let j = checked-judged s y o is found in
     let t : TextTold (listing_text j.roll) out start r after = rw j.reads at told in
     record { answer = rw (le-ltb most_listed (length s) small, j.reads) t.answer; out = rw (le-ltb most_listed (length s) small, j.reads) t.out }

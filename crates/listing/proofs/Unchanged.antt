@@ -10,9 +10,10 @@ use lib.ListN.{length}
 use Rattle.laws.specs.Placed.{placed, placed_where_fits}
 use Rattle.kind.specs.Limits.{most_listed}
 use Rattle.roll.specs.Reading.{Reading, got, refused, Roll, roll_at}
-use Rattle.listing.specs.declared.Listed.{Listed}
+use Rattle.roll.specs.Header.{refusal_of}
+use Rattle.listing.specs.Listed.{Listed}
 use Rattle.listing.specs.Text.{listing_text, refusal_text}
-use Rattle.listing.specs.Answers.{text_at, TextTold, read_answer, read_out, listing_at, listing_out, ListingTold, refusal_of}
+use Rattle.listing.specs.Answers.{text_at, TextTold, read_answer, read_out, listing_at, listing_out, ListingTold}
 
 text-kept : (text out : List ℕ) (start : ℕ) (b : Bool) → leb (start + length text) (length out) ≡ b → 0 < refusal_of (text_at text out start) → cond b (placed out start text) out ≡ out
 unfolding text_at

@@ -3,15 +3,16 @@ use Rattle.std.specs.Prelude.{ℕ, ◌+◌, ◌≡◌, cond, List, ltb, length}
 use Rattle.laws.specs.Placed.{placed_where_fits}
 use Rattle.kind.specs.Limits.{most_listed}
 use Rattle.roll.specs.Reading.{Reading, got, refused, Roll, roll_at}
-use Rattle.listing.specs.declared.Listed.{Listed}
-use Rattle.listing.specs.declared.Listed.TheVariants as listed
+use Rattle.listing.specs.Listed.{Listed}
+use Rattle.listing.specs.Listed as listed
 use Rattle.listing.specs.Text.{listing_text}
+use Rattle.kind.specs.declared.refusals.Refusal.TheVariants.{StartBeyondEnd, NoRoom}
 
 -- a text from a start place on: 5 a start beyond the end, 6 no room, or the text's length; their place is 0 (D-2)
 unfoldable pub text_at : List ℕ → List ℕ → ℕ → Listed
 text_at text out start =
-    cond (ltb (length out) start) (listed.Refused 5 0)
-    (cond (ltb (length out) (start + length text)) (listed.Refused 6 0)
+    cond (ltb (length out) start) (listed.Refused StartBeyondEnd 0)
+    (cond (ltb (length out) (start + length text)) (listed.Refused NoRoom 0)
     (listed.Text (length text)))
 
 -- only the bytes of the text change, and none where it does not fit
@@ -30,7 +31,7 @@ read_out (refused n place) out start = out
 
 -- 6 a roll over the listing's limit, before anything of it is read (D-17)
 unfoldable pub listing_at : List ℕ → List ℕ → ℕ → Listed
-listing_at roll out start = cond (ltb most_listed (length roll)) (listed.Refused 6 0) (read_answer (roll_at roll) out start)
+listing_at roll out start = cond (ltb most_listed (length roll)) (listed.Refused NoRoom 0) (read_answer (roll_at roll) out start)
 
 unfoldable pub listing_out : List ℕ → List ℕ → ℕ → List ℕ
 listing_out roll out start = cond (ltb most_listed (length roll)) out (read_out (roll_at roll) out start)
@@ -38,12 +39,3 @@ listing_out roll out start = cond (ltb most_listed (length roll)) out (read_out 
 pub record ListingTold (roll before : List ℕ) (start : ℕ) (r : Listed) (after : List ℕ) : Type 0 where
   pub answer : r ≡ listing_at roll before start
   pub out : after ≡ listing_out roll before start
-
--- the number that 01 gives each case, 0 for success, and its place
-abbrev pub refusal_of : Listed → ℕ
-refusal_of (listed.Text n) = 0
-refusal_of (listed.Refused n place) = n
-
-abbrev pub place_of : Listed → ℕ
-place_of (listed.Text n) = 0
-place_of (listed.Refused n place) = place

@@ -1,3 +1,4 @@
 pub mod Answers
+pub mod Listed
 pub mod Text
 pub mod inner

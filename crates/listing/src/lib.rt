@@ -3,7 +3,8 @@
 // The same functions measure a text and write it: lent no bytes, they only find out whether it has room (D-74).
 #![tactic(auto)]
 
-ghost use Rattle.std.specs.Prelude.{◌≡◌, ◌≤◌, length};
+ghost use Rattle.std.specs.Prelude.{◌≡◌, ◌≤◌, length, Some};
+ghost use Rattle.roll.specs.Field.{fault};
 ghost use Rattle.roll.specs.inner.Held.{from_held};
 ghost use Rattle.roll.specs.inner.Judged.{Judged, left_of, Readable};
 ghost use Rattle.saying.specs.Said.{Said, Kept};
@@ -11,31 +12,23 @@ ghost use Rattle.listing.specs.Text.{kind_text, head_line, term_numbers, term_li
 ghost use Rattle.listing.specs.inner.Whole.{text_of};
 ghost use Rattle.listing.specs.Answers.{TextTold, ListingTold};
 
-use kind::{Kind, Named};
-use roll::{Cursor, Opened, Opening};
+use kind::{Fault, Kind, Refusal};
+use roll::{Cursor, Opened};
 use saying::{say, say_each, say_named, say_number};
 use term::Term;
-use text::Written;
-
-// The text's length, or a refusal with its place.
-#[derive(Clone, Copy)]
-pub enum Listed {
-    Text(usize),
-    Refused(u8, usize),
-}
 
 // The kind and its orders.
-fn say_kind(out: &mut [u8], room: usize, kind: Kind, orders: &[u8]) -> Written
-    ensures { Said room out.old (Written.To 0) (kind_text kind orders.now) result out.new }
+fn say_kind(out: &mut [u8], room: usize, kind: Kind, orders: &[u8]) -> Option<usize>
+    ensures { Said room out.old (Some 0) (kind_text kind orders.now) result out.new }
 {
-    let named = say_named(out, room, Written::To(0), b"kind ", kind.number() as u64);
+    let named = say_named(out, room, Some(0), b"kind ", kind.number() as u64);
     let ordered = say(out, room, named, b" orders");
     say_each(out, room, ordered, b" ", orders)
 }
 
 // The first line.
-fn say_head(out: &mut [u8], room: usize, kind: Kind, orders: &[u8], terms: u32) -> Written
-    ensures { Said room out.old (Written.To 0) (head_line kind orders.now terms) result out.new }
+fn say_head(out: &mut [u8], room: usize, kind: Kind, orders: &[u8], terms: u32) -> Option<usize>
+    ensures { Said room out.old (Some 0) (head_line kind orders.now terms) result out.new }
 {
     let listed = say_kind(out, room, kind, orders);
     let counted = say_named(out, room, listed, b" terms ", terms as u64);
@@ -46,11 +39,11 @@ fn say_head(out: &mut [u8], room: usize, kind: Kind, orders: &[u8], terms: u32) 
 fn say_numbers(
     out: &mut [u8],
     room: usize,
-    w: Written,
+    w: Option<usize>,
     number: u64,
     scale: u32,
     boys: u8,
-) -> Written
+) -> Option<usize>
     ensures { Said room out.old w (term_numbers number scale boys) result out.new }
 {
     let numbered = say_number(out, room, w, number);
@@ -60,7 +53,7 @@ fn say_numbers(
 }
 
 // A term's line.
-fn say_term(out: &mut [u8], room: usize, w: Written, number: u64, t: Term) -> Written
+fn say_term(out: &mut [u8], room: usize, w: Option<usize>, number: u64, t: Term) -> Option<usize>
     requires { t.count ≤ length t.prefactors }
     ensures { Said room out.old w (term_line number (from_held t)) result out.new }
 {
@@ -72,7 +65,13 @@ fn say_term(out: &mut [u8], room: usize, w: Written, number: u64, t: Term) -> Wr
 }
 
 // The lines of the terms that a cursor has still to go through, numbered from 1.
-fn say_terms(out: &mut [u8], room: usize, w: Written, roll: &[u8], cursor: Cursor) -> Written
+fn say_terms(
+    out: &mut [u8],
+    room: usize,
+    w: Option<usize>,
+    roll: &[u8],
+    cursor: Cursor,
+) -> Option<usize>
     requires kept { Kept room w }
     requires readable { Readable cursor roll.now }
     ensures { Said room out.old w (term_lines 1 (left_of cursor roll.now)) result out.new }
@@ -80,8 +79,7 @@ fn say_terms(out: &mut [u8], room: usize, w: Written, roll: &[u8], cursor: Curso
     let mut said = w;
     let mut at = cursor;
     let mut number: u64 = 1;
-    while 0 < at.left {
-        let step = at.next(roll);
+    while let Some(step) = at.next(roll).ok().flatten() {
         said = say_term(out, room, said, number, step.term);
         at = step.next;
         number += 1;
@@ -90,71 +88,54 @@ fn say_terms(out: &mut [u8], room: usize, w: Written, roll: &[u8], cursor: Curso
 }
 
 // A whole listing, of a roll that has been judged.
-fn say_roll(out: &mut [u8], room: usize, roll: &[u8], opened: Opened) -> Written
+fn say_roll(out: &mut [u8], room: usize, roll: &[u8], opened: Opened) -> Option<usize>
     requires { Judged opened roll.now }
-    ensures { Said room out.old (Written.To 0) (text_of roll.now) result out.new }
+    ensures { Said room out.old (Some 0) (text_of roll.now) result out.new }
 {
     let cursor = opened.cursor;
     let orders = opened.orders;
-    match Kind::of(cursor.kind) {
-        Named::Is(kind) => {
-            let n = kind.orders();
-            let headed = say_head(out, room, kind, &orders[0..n], cursor.left);
-            say_terms(out, room, headed, roll, cursor)
-        }
-        Named::Unknown => Written::NoRoom,
-    }
+    let kind = Kind::of(cursor.kind)?;
+    let headed = say_head(out, room, kind, &orders[0..kind.orders()], cursor.left);
+    say_terms(out, room, headed, roll, cursor)
 }
 
-fn written(roll: &[u8], opened: Opened, out: &mut [u8], start: usize) -> Listed
+fn written(roll: &[u8], opened: Opened, out: &mut [u8], start: usize) -> Result<usize, Fault>
     requires { Judged opened roll.now }
     ensures { TextTold (text_of roll.now) out.old start result out.new }
 {
     if out.len() < start {
-        return Listed::Refused(5, 0);
+        return Err(Fault::from(Refusal::StartBeyondEnd));
     }
     let room = out.len() - start;
-    let measured = say_roll(&mut out[0..0], room, roll, opened);
-    match measured {
-        Written::To(length) => {
-            say_roll(&mut out[start..], room, roll, opened);
-            Listed::Text(length)
-        }
-        Written::NoRoom => Listed::Refused(6, 0),
-    }
+    let Some(length) = say_roll(&mut out[0..0], room, roll, opened) else {
+        return Err(Fault::from(Refusal::NoRoom));
+    };
+    say_roll(&mut out[start..], room, roll, opened);
+    Ok(length)
 }
 
 // The listing of a roll: nothing is written before the whole roll has been judged (D-16).
-pub fn listing(roll: &[u8], out: &mut [u8], start: usize) -> Listed
+pub fn listing(roll: &[u8], out: &mut [u8], start: usize) -> Result<usize, Fault>
     ensures { ListingTold roll.now out.old start result out.new }
 {
     if Kind::MOST_LISTED < roll.len() {
-        return Listed::Refused(6, 0);
+        return Err(Fault::from(Refusal::NoRoom));
     }
-    let opened = roll::check(roll);
-    let found = opened.found;
-    match found {
-        Opening::Roll => written(roll, opened, out, start),
-        Opening::Refused(refusal, place) => Listed::Refused(refusal, place),
-    }
+    let opened = roll::check(roll)?;
+    written(roll, opened, out, start)
 }
 
+#[tactic(auto, unfolding(crate::specs::Text::carries_place))]
 fn carries_place(refusal: u8) -> bool
     ensures { result ≡ carries_place refusal }
 {
-    if refusal == 7 {
-        return true;
-    }
-    if refusal == 14 {
-        return true;
-    }
-    false
+    refusal == Refusal::BadRoll as u8 || refusal == Refusal::CutRoll as u8
 }
 
-fn say_refusal(out: &mut [u8], room: usize, refusal: u8, place: usize) -> Written
-    ensures { Said room out.old (Written.To 0) (refusal_text refusal place) result out.new }
+fn say_refusal(out: &mut [u8], room: usize, refusal: u8, place: usize) -> Option<usize>
+    ensures { Said room out.old (Some 0) (refusal_text refusal place) result out.new }
 {
-    let told = say_named(out, room, Written::To(0), b"refused ", refusal as u64);
+    let told = say_named(out, room, Some(0), b"refused ", refusal as u64);
     if carries_place(refusal) {
         let placed = say_named(out, room, told, b" at ", place as u64);
         return say(out, room, placed, b"\n");
@@ -163,19 +144,16 @@ fn say_refusal(out: &mut [u8], room: usize, refusal: u8, place: usize) -> Writte
 }
 
 // The line that tells a refusal, and the place of refusals 7 and 14.
-pub fn refusal_line(refusal: u8, place: usize, out: &mut [u8], start: usize) -> Listed
+pub fn refusal_line(refusal: u8, place: usize, out: &mut [u8], start: usize) -> Result<usize, Fault>
     ensures { TextTold (refusal_text refusal place) out.old start result out.new }
 {
     if out.len() < start {
-        return Listed::Refused(5, 0);
+        return Err(Fault::from(Refusal::StartBeyondEnd));
     }
     let room = out.len() - start;
-    let measured = say_refusal(&mut out[0..0], room, refusal, place);
-    match measured {
-        Written::To(length) => {
-            say_refusal(&mut out[start..], room, refusal, place);
-            Listed::Text(length)
-        }
-        Written::NoRoom => Listed::Refused(6, 0),
-    }
+    let Some(length) = say_refusal(&mut out[0..0], room, refusal, place) else {
+        return Err(Fault::from(Refusal::NoRoom));
+    };
+    say_refusal(&mut out[start..], room, refusal, place);
+    Ok(length)
 }

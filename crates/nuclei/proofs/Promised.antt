@@ -23,40 +23,56 @@ use Rattle.geometry.specs.Tables.{entries_of, prefac}
 use Rattle.geometry.specs.Checks.{whole, used, used_finite, exponents, exponents_above_zero, finite_with, geometry_finite}
 use Rattle.geometry.proofs.Charges.{recharged}
 use Rattle.roll.specs.Reading.{Reading, got, refused, Roll, roll_at}
-use Rattle.integrals.specs.declared.Value.{Value}
-use Rattle.integrals.specs.declared.Value.TheVariants.{Is, Refused}
+use Rattle.std.specs.Prelude.{Ok, Err}
+use Rattle.std.specs.List.{list_all}
+use Rattle.kind.specs.declared.refusals.Refusal.{Refusal}
+use Rattle.kind.specs.declared.refusals.Refusal.TheVariants as refusal
+use Rattle.kind.specs.declared.refusals.Refusal.TheVariants.{InputNotFinite, Exponent, BoysCount, ResultNotFinite}
+use Rattle.kind.specs.declared.refusals.Fault.{Fault}
+use Rattle.kind.specs.Refusals.{unplaced, without_place}
+use Rattle.kind.proofs.Faults.{err-is}
+use Rattle.std.proofs.lemmas.List.Folds.{list_all-map}
 use Rattle.integrals.specs.Sums.{kinetic_start, factor_of, integral_of}
 use Rattle.integrals.specs.Values as single
-use Rattle.integrals.specs.Values.{refused_unless, result_of, value_of}
-use Rattle.integrals.specs.Evaluation.{float_of, evaluate_of, of_roll as evaluated}
+use Rattle.integrals.specs.Values.{Value, refused_unless, result_of, value_of}
+use Rattle.integrals.specs.Evaluation.{evaluate_of, of_roll as evaluated}
 use Rattle.nuclei.specs.declared.Nuclei.{Nuclei}
-use Rattle.nuclei.specs.Nuclei.{nuclei_of, every, list_kept, inputs_finite, boys_counted, charged_value, sum_from, list_of, of_roll, nuclear_of}
+use Rattle.nuclei.specs.Nuclei.{nuclei_of, list_kept, inputs_finite, boys_counted, charged_value, sum_from, list_of, of_roll, nuclear_of}
 
 -- ---- a value has passed every check
 
-passed : (t : Bool) (n : ℕ) (v : Value) (x : Float) → refused_unless t n v ≡ Is x → (t ≡ true) × (v ≡ Is x)
+passed : (t : Bool) (r : Refusal) (v : Value) (x : Float) → refused_unless t r v ≡ Ok x → (t ≡ true) × (v ≡ Ok x)
 unfolding refused_unless
-passed true n v x e = (refl, e)
-passed false n v x e = absurd (clash (cc))
+passed true r v x e = (refl, e)
+passed false r v x e = absurd (clash (cc))
 
-result-is : (y x : Float) → result_of y ≡ Is x → x ≡ y
+result-is : (y x : Float) → result_of y ≡ Ok x → x ≡ y
 unfolding result_of
-result-is y x e = ap float_of (sym (passed (finite y) 11 (Is y) x e).1)
+result-is y x e = let is = (passed (finite y) ResultNotFinite (Ok y) x e).1 in cc
 
-open-all : (p q u w z : Bool) (v : Value) → p ≡ true → q ≡ true → u ≡ true → w ≡ true → z ≡ true → refused_unless p 17 (refused_unless q 8 (refused_unless u 9 (refused_unless w 10 (refused_unless z 11 v)))) ≡ v
+-- of an answer without a place
+value-in : (v : Value) (x : Float) → without_place v ≡ Ok x → v ≡ Ok x
+value-in (Ok y) x e = cc
+value-in (Err r) x e = absurd (clash (cc))
+
+refusal-in : (v : Value) (why : Fault) → without_place v ≡ Err why → (r : Refusal) × (v ≡ Err r) × (unplaced r ≡ why)
+refusal-in (Ok y) why e = absurd (clash (cc))
+refusal-in (Err r) why e = (r, refl, err-is (unplaced r) why e)
+
+open-all : (p q u w z : Bool) (v : Value) → p ≡ true → q ≡ true → u ≡ true → w ≡ true → z ≡ true → refused_unless p refusal.Nuclei (refused_unless q InputNotFinite (refused_unless u Exponent (refused_unless w BoysCount (refused_unless z ResultNotFinite v)))) ≡ v
 unfolding refused_unless
 open-all p q u w z v a b c d e = rw (a, b, c, d, e)
 
 -- of two answers behind the same checks, a refusal of the one is the other's
-both-refused : (p q u w z : Bool) (v v' : Value) (n place : ℕ) → refused_unless p 17 (refused_unless q 8 (refused_unless u 9 (refused_unless w 10 (refused_unless z 11 v)))) ≡ Refused n place → (w ≡ true → v ≡ Refused n place → v' ≡ Refused n place) →
-    refused_unless p 17 (refused_unless q 8 (refused_unless u 9 (refused_unless w 10 (refused_unless z 11 v')))) ≡ Refused n place
+both-refused : (p q u w z : Bool) (v v' : Value) (r : Refusal) → refused_unless p refusal.Nuclei (refused_unless q InputNotFinite (refused_unless u Exponent (refused_unless w BoysCount (refused_unless z ResultNotFinite v)))) ≡ Err r → (w ≡ true → v ≡ Err r → v' ≡ Err r) →
+    refused_unless p refusal.Nuclei (refused_unless q InputNotFinite (refused_unless u Exponent (refused_unless w BoysCount (refused_unless z ResultNotFinite v')))) ≡ Err r
 unfolding refused_unless
-both-refused true true true true true v v' n place e f = f refl e
-both-refused true true true true false v v' n place e f = e
-both-refused true true true false z v v' n place e f = e
-both-refused true true false w z v v' n place e f = e
-both-refused true false u w z v v' n place e f = e
-both-refused false q u w z v v' n place e f = e
+both-refused true true true true true v v' r e f = f refl e
+both-refused true true true true false v v' r e f = e
+both-refused true true true false z v v' r e f = e
+both-refused true true false w z v v' r e f = e
+both-refused true false u w z v v' r e f = e
+both-refused false q u w z v v' r e f = e
 
 -- a sum from 0.0 does not mend what is not finite
 not_finite : (x : Float) → finite x ≡ false → finite (0·0 ⊕ x) ≡ false
@@ -65,12 +81,12 @@ not_finite nan e = refl
 not_finite (inf s) e = refl
 not_finite (fin s m d) e = absurd (true≢false e)
 
-result-refused : (x : Float) (n place : ℕ) → result_of x ≡ Refused n place → result_of (0·0 ⊕ x) ≡ Refused n place
+result-refused : (x : Float) (r : Refusal) → result_of x ≡ Err r → result_of (0·0 ⊕ x) ≡ Err r
 unfolding result_of refused_unless
-result-refused x n place e = by (finite x) refl
+result-refused x r e = by (finite x) refl
   where
-    by : (t : Bool) → finite x ≡ t → result_of (0·0 ⊕ x) ≡ Refused n place
-    by true is = let same : Is x ≡ Refused n place = rw is at e in absurd (clash (cc))
+    by : (t : Bool) → finite x ≡ t → result_of (0·0 ⊕ x) ≡ Err r
+    by true is = let same : Ok x ≡ Err r = rw is at e in absurd (clash (cc))
     by false is = rw (not_finite x is) (rw is at e)
 
 -- D is not used by a nuclear integral
@@ -79,25 +95,25 @@ unfolding integral_of factor_of prefac entries_of
 no-d l a b c d aux boys ts = refl
 
 -- what the single call gives, and of how many Boys numbers
-single-is : (l : ℕ) (a b c d : Centre) (aux : Float) (boys : List Float) (ts : List Term) (v : Float) → value_of Nuclear l a b c d aux boys ts ≡ Is v → (v ≡ charged_value l a b c aux boys ts) × (length boys ≡ l + 1)
+single-is : (l : ℕ) (a b c d : Centre) (aux : Float) (boys : List Float) (ts : List Term) (v : Float) → value_of Nuclear l a b c d aux boys ts ≡ Ok v → (v ≡ charged_value l a b c aux boys ts) × (length boys ≡ l + 1)
 unfolding value_of single.boys_counted
 single-is l a b c d aux boys ts v e =
-    let one = (passed _ 17 _ v e).1 in
-    let two = (passed _ 8 _ v one).1 in
-    let three = (passed _ 9 _ v two).1 in
-    let four = passed (eqb (length boys) (l + 1)) 10 _ v three in
-    let five = (passed _ 11 _ v four.1).1 in
+    let one = (passed _ refusal.Nuclei _ v e).1 in
+    let two = (passed _ InputNotFinite _ v one).1 in
+    let three = (passed _ Exponent _ v two).1 in
+    let four = passed (eqb (length boys) (l + 1)) BoysCount _ v three in
+    let five = (passed _ ResultNotFinite _ v four.1).1 in
     (result-is _ v five ∙ ap (charged Nuclear c) (no-d l a b c d aux boys ts), eqb-true (length boys) (l + 1) four.0)
 
 -- what a list gives
-list-is : (l : ℕ) (a b : Centre) (n : Nuclei) (aux : Float) (boys : List Float) (ts : List Term) (x : Float) → list_of l a b n aux boys ts ≡ Is x → (x ≡ sum_from l a b aux (nuclei_of n) boys ts 0·0) × (length boys ≡ n.count * (l + 1))
+list-is : (l : ℕ) (a b : Centre) (n : Nuclei) (aux : Float) (boys : List Float) (ts : List Term) (x : Float) → list_of l a b n aux boys ts ≡ Ok x → (x ≡ sum_from l a b aux (nuclei_of n) boys ts 0·0) × (length boys ≡ n.count * (l + 1))
 unfolding list_of boys_counted
 list-is l a b n aux boys ts x e =
-    let one = (passed _ 17 _ x e).1 in
-    let two = (passed _ 8 _ x one).1 in
-    let three = (passed _ 9 _ x two).1 in
-    let four = passed (eqb (length boys) (n.count * (l + 1))) 10 _ x three in
-    let five = (passed _ 11 _ x four.1).1 in
+    let one = (passed _ refusal.Nuclei _ x e).1 in
+    let two = (passed _ InputNotFinite _ x one).1 in
+    let three = (passed _ Exponent _ x two).1 in
+    let four = passed (eqb (length boys) (n.count * (l + 1))) BoysCount _ x three in
+    let five = (passed _ ResultNotFinite _ x four.1).1 in
     (result-is _ x five, eqb-true (length boys) (n.count * (l + 1)) four.0)
 
 -- ---- a list is its beginning's sum plus the last nucleus' product
@@ -115,22 +131,22 @@ sum-last l a b aux (d ∷ cs) c xs ys ts sum e =
     ∙ sum-last l a b aux cs c (drop (l + 1) xs) ys ts (sum ⊕ charged_value l a b d aux (take (l + 1) xs) ts) rest
 
 module _ (s : List ℕ) (r : Roll) (end : ℕ) (reads : roll_at s ≡ got r end) (is : r.kind ≡ Nuclear) (a b c d : Centre) (aux : Float) where
-  of-list : (n : Nuclei) (boys : List Float) → nuclear_of s a b n aux boys ≡ list_of (total r.orders) a b n aux boys r.terms
+  of-list : (n : Nuclei) (boys : List Float) → nuclear_of s a b n aux boys ≡ without_place (list_of (total r.orders) a b n aux boys r.terms)
   unfolding nuclear_of of_roll refused_unless
   of-list n boys = rw (reads, is)
 
-  of-single : (boys : List Float) → evaluate_of s a b c d aux boys ≡ value_of Nuclear (total r.orders) a b c d aux boys r.terms
+  of-single : (boys : List Float) → evaluate_of s a b c d aux boys ≡ without_place (value_of Nuclear (total r.orders) a b c d aux boys r.terms)
   unfolding evaluate_of evaluated
   of-single boys = rw (reads, is)
 
   -- a host may check a total step by step: the list, the list without its last nucleus, and the last one by itself
   pub step-by-step : (n m : Nuclei) (xs ys : List Float) (whole part last : Float) → nuclei_of n ≡ nuclei_of m ++ (c ∷ []) → length (nuclei_of m) ≡ m.count →
-      nuclear_of s a b n aux (xs ++ ys) ≡ Is whole → nuclear_of s a b m aux xs ≡ Is part → evaluate_of s a b c d aux ys ≡ Is last → whole ≡ part ⊕ last
+      nuclear_of s a b n aux (xs ++ ys) ≡ Ok whole → nuclear_of s a b m aux xs ≡ Ok part → evaluate_of s a b c d aux ys ≡ Ok last → whole ≡ part ⊕ last
   step-by-step n m xs ys whole part last more long e f g =
       let l = total r.orders in
-      let all = list-is l a b n aux (xs ++ ys) r.terms whole (sym (of-list n (xs ++ ys)) ∙ e) in
-      let begun = list-is l a b m aux xs r.terms part (sym (of-list m xs) ∙ f) in
-      let one = single-is l a b c d aux ys r.terms last (sym (of-single ys) ∙ g) in
+      let all = list-is l a b n aux (xs ++ ys) r.terms whole (value-in _ whole (sym (of-list n (xs ++ ys)) ∙ e)) in
+      let begun = list-is l a b m aux xs r.terms part (value-in _ part (sym (of-list m xs) ∙ f)) in
+      let one = single-is l a b c d aux ys r.terms last (value-in _ last (sym (of-single ys) ∙ g)) in
       let enough : length xs ≡ length (nuclei_of m) * (l + 1) = begun.1 ∙ ap (λ (k : ℕ). k * (l + 1)) (sym long) in
       let its_own : take (l + 1) ys ≡ ys = take_all (l + 1) ys (omega (arith, one.1)) in
       all.0 ∙ ap (λ (cs : List Centre). sum_from l a b aux cs (xs ++ ys) r.terms 0·0) more
@@ -141,11 +157,11 @@ module _ (s : List ℕ) (r : Roll) (end : ℕ) (reads : roll_at s ≡ got r end)
 
   module _ (n : Nuclei) (boys : List Float) (count : n.count ≡ 1) (one : nuclei_of n ≡ c ∷ []) where
     kept-one : list_kept n ≡ charge_kept Nuclear c
-    unfolding list_kept every
+    unfolding list_kept
     kept-one = rw (one, count) (and-true (charge_kept Nuclear c))
 
     inputs-one : inputs_finite a b (nuclei_of n) aux boys ≡ single.inputs_finite Nuclear a b c d aux boys
-    unfolding inputs_finite single.inputs_finite every used_finite used
+    unfolding inputs_finite single.inputs_finite used_finite used
     inputs-one = rw (one, and-true (all_finite (used Nuclear a b c d)))
 
     above-one : exponents_above_zero Nuclear a b a b ≡ exponents_above_zero Nuclear a b c d
@@ -156,60 +172,59 @@ module _ (s : List ℕ) (r : Roll) (end : ℕ) (reads : roll_at s ≡ got r end)
     unfolding boys_counted single.boys_counted
     counted-one l = rw (count, one-mul (l + 1))
 
-    geometry-one : every (λ c. geometry_finite Nuclear a b c c) (nuclei_of n) ≡ geometry_finite Nuclear a b c d
-    unfolding every geometry_finite finite_with geometry_numbers prefac entries_of
+    geometry-one : list_all (λ c. geometry_finite Nuclear a b c c) (nuclei_of n) ≡ geometry_finite Nuclear a b c d
+    unfolding geometry_finite finite_with geometry_numbers prefac entries_of
     geometry-one = rw (one, and-true (geometry_finite Nuclear a b c d))
 
     -- the same checks, then the sum from 0.0
     one_by_one : (l : ℕ) (ts : List Term) → list_of l a b n aux boys ts ≡
-        refused_unless (charge_kept Nuclear c) 17
-        (refused_unless (single.inputs_finite Nuclear a b c d aux boys) 8
-        (refused_unless (exponents_above_zero Nuclear a b c d) 9
-        (refused_unless (single.boys_counted Nuclear l (length boys)) 10
-        (refused_unless (geometry_finite Nuclear a b c d) 11
+        refused_unless (charge_kept Nuclear c) refusal.Nuclei
+        (refused_unless (single.inputs_finite Nuclear a b c d aux boys) InputNotFinite
+        (refused_unless (exponents_above_zero Nuclear a b c d) Exponent
+        (refused_unless (single.boys_counted Nuclear l (length boys)) BoysCount
+        (refused_unless (geometry_finite Nuclear a b c d) ResultNotFinite
         (result_of (0·0 ⊕ charged_value l a b c aux (take (l + 1) boys) ts))))))
     unfolding list_of sum_from
     one_by_one l ts = rw (kept-one, inputs-one, above-one, counted-one l, geometry-one, one)
 
-    pub list-of-one : (v : Float) → evaluate_of s a b c d aux boys ≡ Is v → nuclear_of s a b n aux boys ≡ result_of (0·0 ⊕ v)
+    pub list-of-one : (v : Float) → evaluate_of s a b c d aux boys ≡ Ok v → nuclear_of s a b n aux boys ≡ without_place (result_of (0·0 ⊕ v))
     unfolding value_of
     list-of-one v e =
         let l = total r.orders in
-        let value = single-is l a b c d aux boys r.terms v (sym (of-single boys) ∙ e) in
+        let single-value = value-in _ v (sym (of-single boys) ∙ e) in
+        let value = single-is l a b c d aux boys r.terms v single-value in
         let its_own : take (l + 1) boys ≡ boys = take_all (l + 1) boys (omega (arith, value.1)) in
-        let first = passed (charge_kept Nuclear c) 17 _ v (sym (of-single boys) ∙ e) in
-        let second = passed (single.inputs_finite Nuclear a b c d aux boys) 8 _ v first.1 in
-        let third = passed (exponents_above_zero Nuclear a b c d) 9 _ v second.1 in
-        let fourth = passed (single.boys_counted Nuclear l (length boys)) 10 _ v third.1 in
-        let fifth = passed (geometry_finite Nuclear a b c d) 11 _ v fourth.1 in
-        of-list n boys ∙ one_by_one l r.terms ∙ open-all _ _ _ _ _ _ first.0 second.0 third.0 fourth.0 fifth.0
-        ∙ ap (λ (x : Float). result_of (0·0 ⊕ x)) (ap (λ (zs : List Float). charged_value l a b c aux zs r.terms) its_own ∙ sym value.0)
+        let first = passed (charge_kept Nuclear c) refusal.Nuclei _ v single-value in
+        let second = passed (single.inputs_finite Nuclear a b c d aux boys) InputNotFinite _ v first.1 in
+        let third = passed (exponents_above_zero Nuclear a b c d) Exponent _ v second.1 in
+        let fourth = passed (single.boys_counted Nuclear l (length boys)) BoysCount _ v third.1 in
+        let fifth = passed (geometry_finite Nuclear a b c d) ResultNotFinite _ v fourth.1 in
+        of-list n boys ∙ ap without_place (one_by_one l r.terms ∙ open-all _ _ _ _ _ _ first.0 second.0 third.0 fourth.0 fifth.0
+        ∙ ap (λ (x : Float). result_of (0·0 ⊕ x)) (ap (λ (zs : List Float). charged_value l a b c aux zs r.terms) its_own ∙ sym value.0))
 
     -- and every refusal of the single call is the list's
-    pub list-of-one-refused : (number place : ℕ) → evaluate_of s a b c d aux boys ≡ Refused number place → nuclear_of s a b n aux boys ≡ Refused number place
+    pub list-of-one-refused : (why : Fault) → evaluate_of s a b c d aux boys ≡ Err why → nuclear_of s a b n aux boys ≡ Err why
     unfolding value_of single.boys_counted
-    list-of-one-refused number place e =
+    list-of-one-refused why e =
         let l = total r.orders in
         let x = charged Nuclear c (integral_of Nuclear l a b c d aux boys r.terms) in
-        of-list n boys ∙ one_by_one l r.terms ∙
+        let told = refusal-in _ why (sym (of-single boys) ∙ e) in
+        of-list n boys ∙ ap without_place (one_by_one l r.terms ∙
         both-refused (charge_kept Nuclear c) (single.inputs_finite Nuclear a b c d aux boys) (exponents_above_zero Nuclear a b c d) (single.boys_counted Nuclear l (length boys)) (geometry_finite Nuclear a b c d)
-        (result_of x) (result_of (0·0 ⊕ charged_value l a b c aux (take (l + 1) boys) r.terms)) number place (sym (of-single boys) ∙ e)
+        (result_of x) (result_of (0·0 ⊕ charged_value l a b c aux (take (l + 1) boys) r.terms)) told.0 told.1
         (λ counted f.
         let its_own : take (l + 1) boys ≡ boys = take_all (l + 1) boys (omega (arith, eqb-true (length boys) (l + 1) counted)) in
         let same : charged_value l a b c aux (take (l + 1) boys) r.terms ≡ x = ap (λ (zs : List Float). charged_value l a b c aux zs r.terms) its_own ∙ ap (charged Nuclear c) (sym (no-d l a b c d aux boys r.terms)) in
-        ap (λ (y : Float). result_of (0·0 ⊕ y)) same ∙ result-refused x number place f)
+        ap (λ (y : Float). result_of (0·0 ⊕ y)) same ∙ result-refused x told.0 f)) ∙ ap (λ (f : Fault). Err f) told.2
 
 -- ---- what is never looked at
 
-every-alike : (p q : Centre → Bool) → ((c : Centre) → p c ≡ q c) → (cs : List Centre) → every p cs ≡ every q cs
-unfolding every
-every-alike p q same [] = refl
-every-alike p q same (c ∷ cs) = ap₂ ◌&&◌ (same c) (every-alike p q same cs)
+all-alike : (p q : Centre → Bool) → ((c : Centre) → p c ≡ q c) → (cs : List Centre) → list_all p cs ≡ list_all q cs
+all-alike p q same [] = refl
+all-alike p q same (c ∷ cs) = ap₂ ◌&&◌ (same c) (all-alike p q same cs)
 
-every-mapped : (p : Centre → Bool) (g : Centre → Centre) → ((c : Centre) → p (g c) ≡ p c) → (cs : List Centre) → every p (map g cs) ≡ every p cs
-unfolding every
-every-mapped p g same [] = refl
-every-mapped p g same (c ∷ cs) = ap₂ ◌&&◌ (same c) (every-mapped p g same cs)
+all-mapped : (p : Centre → Bool) (g : Centre → Centre) → ((c : Centre) → p (g c) ≡ p c) → (cs : List Centre) → list_all p (map g cs) ≡ list_all p cs
+all-mapped p g same cs = list_all-map p g cs ∙ all-alike (λ (c : Centre). p (g c)) p same cs
 
 -- beyond the count
 kept_same : (n m : Nuclei) → n.count ≡ m.count → nuclei_of n ≡ nuclei_of m → list_kept n ≡ list_kept m
@@ -249,7 +264,7 @@ module _ (a b : Centre) (p q : ℕ) where
 
   list_same : (l : ℕ) (n : Nuclei) (aux : Float) (boys : List Float) (ts : List Term) → list_of l (recharged a p) (recharged b q) n aux boys ts ≡ list_of l a b n aux boys ts
   unfolding list_of inputs_finite
-  list_same l n aux boys ts = rw (every-alike _ _ used-same (nuclei_of n), every-alike _ _ geometry-same (nuclei_of n), above_same, sum_same l aux (nuclei_of n) boys ts 0·0)
+  list_same l n aux boys ts = rw (all-alike _ _ used-same (nuclei_of n), all-alike _ _ geometry-same (nuclei_of n), above_same, sum_same l aux (nuclei_of n) boys ts 0·0)
 
   pub pair-recharged : (s : List ℕ) (n : Nuclei) (aux : Float) (boys : List Float) → nuclear_of s (recharged a p) (recharged b q) n aux boys ≡ nuclear_of s a b n aux boys
   unfolding nuclear_of of_roll
@@ -290,7 +305,7 @@ module _ (a b : Centre) (e : Centre → Float) where
   list-other : (l : ℕ) (n m : Nuclei) (aux : Float) (boys : List Float) (ts : List Term) → m.count ≡ n.count → nuclei_of m ≡ map (reexponent e) (nuclei_of n) → list_of l a b m aux boys ts ≡ list_of l a b n aux boys ts
   unfolding list_of list_kept inputs_finite
   list-other l n m aux boys ts count is =
-      rw (is, count, every-mapped _ _ kept-other (nuclei_of n), every-mapped _ _ used-other (nuclei_of n), every-mapped _ _ geometry-other (nuclei_of n), sum-other l aux (nuclei_of n) boys ts 0·0)
+      rw (is, count, all-mapped _ _ kept-other (nuclei_of n), all-mapped _ _ used-other (nuclei_of n), all-mapped _ _ geometry-other (nuclei_of n), sum-other l aux (nuclei_of n) boys ts 0·0)
 
   pub nuclei-reexponent : (s : List ℕ) (n m : Nuclei) (aux : Float) (boys : List Float) → m.count ≡ n.count → nuclei_of m ≡ map (reexponent e) (nuclei_of n) → nuclear_of s a b m aux boys ≡ nuclear_of s a b n aux boys
   unfolding nuclear_of of_roll

@@ -1,16 +1,16 @@
 // A list of nuclei in one call: the roll is judged once, each check is made over all nuclei before the next, and the charged values are summed in list order.
 #![tactic(auto)]
 
-ghost use Rattle.std.specs.Prelude.{◌≤◌, ◌≡◌, length};
+ghost use Rattle.std.specs.Prelude.{◌+◌, ◌*◌, ◌≡◌, length};
 ghost use Rattle.geometry.specs.Floats.{zero};
 ghost use Rattle.integrals.specs.inner.Stored.{again_from};
-ghost use Rattle.nuclei.specs.Nuclei.{most_nuclei, nuclei_of, every, list_kept, inputs_finite, list_of, nuclear_of};
-ghost use Rattle.nuclei.specs.inner.Listed.{asks_of, product_of, SummedMay, summed_from, of_cursor};
+ghost use Rattle.nuclei.specs.Nuclei.{list_kept, inputs_finite, list_of, nuclear_of};
+ghost use Rattle.nuclei.specs.inner.Listed.{product_of, summed_from, of_cursor};
 
 use geometry::Centre;
-use integrals::{Terms, Value};
-use kind::Kind;
-use roll::{Cursor, Opening};
+use integrals::Terms;
+use kind::{Fault, Kind, Refusal};
+use roll::Cursor;
 
 // The most nuclei of a list.
 pub const MOST_NUCLEI: usize = 32;
@@ -23,72 +23,31 @@ pub struct Nuclei {
     pub count: u32,
 }
 
-// What is asked of every nucleus before the next is asked of any.
-#[derive(Clone, Copy)]
-enum Asked {
-    Charge,
-    Floats,
-}
-
-fn asks(asked: Asked, a: Centre, b: Centre, c: Centre) -> bool
-    ensures { result ≡ asks_of asked a b c }
-{
-    match asked {
-        Asked::Charge => geometry::charge_kept(Kind::Nuclear, c),
-        Asked::Floats => geometry::used_finite(Kind::Nuclear, a, b, c, c),
-    }
-}
-
-fn all_pass(asked: Asked, a: Centre, b: Centre, nuclei: Nuclei) -> bool
-    requires { nuclei.count ≤ most_nuclei }
-    ensures { result ≡ every (asks_of asked a b) (nuclei_of nuclei) }
-{
-    let count = nuclei.count as usize;
-    let mut i = 0;
-    while i < count {
-        let c = nuclei.centres[i];
-        if asks(asked, a, b, c) {
-            i += 1;
-        } else {
-            return false;
-        }
-    }
-    true
-}
-
 // Check 17: the count, and every charge.
-fn list_kept(a: Centre, b: Centre, nuclei: Nuclei) -> bool
+fn list_kept(nuclei: Nuclei) -> bool
     ensures { result ≡ list_kept nuclei }
 {
-    if nuclei.count < 1 {
+    let count = nuclei.count as usize;
+    if count < 1 || MOST_NUCLEI < count {
         return false;
     }
-    if MOST_NUCLEI < nuclei.count as usize {
-        return false;
-    }
-    all_pass(Asked::Charge, a, b, nuclei)
+    nuclei.centres[..count]
+        .iter()
+        .all(|&c| geometry::charge_kept(Kind::Nuclear, c))
 }
 
 // Check 8: every float that is used is finite.
-fn inputs_finite(a: Centre, b: Centre, nuclei: Nuclei, aux: f64, boys: &[f64]) -> bool
-    requires { nuclei.count ≤ most_nuclei }
-    ensures { result ≡ inputs_finite a b (nuclei_of nuclei) aux boys.now }
+fn inputs_finite(a: Centre, b: Centre, nuclei: &[Centre], aux: f64, boys: &[f64]) -> bool
+    ensures { result ≡ inputs_finite a b nuclei.now aux boys.now }
 {
-    if all_pass(Asked::Floats, a, b, nuclei) {
-        if geometry::finite(aux) {
-            return geometry::all_finite(boys);
-        }
-    }
-    false
+    nuclei
+        .iter()
+        .all(|&c| geometry::used_finite(Kind::Nuclear, a, b, c, c))
+        && geometry::finite(aux)
+        && geometry::all_finite(boys)
 }
 
 // A nucleus' charge times its value, unless a geometry number or an entry of its table is not finite.
-#[derive(Clone, Copy)]
-struct Product {
-    kept: bool,
-    value: f64,
-}
-
 fn charged_value(
     cursor: Cursor,
     a: Centre,
@@ -97,22 +56,16 @@ fn charged_value(
     aux: f64,
     boys: &[f64],
     roll: &[u8],
-) -> Product
+) -> Result<f64, Refusal>
     ensures { result ≡ product_of cursor.l a b c aux boys.now (again_from roll.now cursor) }
 {
     let kind = Kind::Nuclear;
     let table = geometry::prefac(kind, a, b, c, c);
-    if geometry::geometry_finite(kind, a, b, c, c, &table) {
-        let sum = integrals::integral(Terms { kind, cursor }, a, b, &table, aux, boys, roll);
-        return Product {
-            kept: true,
-            value: geometry::charged(kind, c, sum),
-        };
+    if !geometry::geometry_finite(kind, a, b, c, c, &table) {
+        return Err(Refusal::ResultNotFinite);
     }
-    Product {
-        kept: false,
-        value: 0.0,
-    }
+    let sum = integrals::integral(Terms { kind, cursor }, a, b, &table, aux, boys, roll);
+    Ok(geometry::charged(kind, c, sum))
 }
 
 // Check 11 and the sum in list order; the Boys lists follow one another.
@@ -120,30 +73,21 @@ fn summed(
     cursor: Cursor,
     a: Centre,
     b: Centre,
-    nuclei: Nuclei,
+    nuclei: &[Centre],
     aux: f64,
     boys: &[f64],
     roll: &[u8],
-) -> Value
-    requires { SummedMay cursor.l nuclei (length boys.now) }
-    ensures { result ≡ summed_from cursor.l a b aux (nuclei_of nuclei) boys.now (again_from roll.now cursor) zero }
+) -> Result<f64, Refusal>
+    requires { length boys.now ≡ length nuclei.now * (cursor.l + 1) }
+    ensures { result ≡ summed_from cursor.l a b aux nuclei.now boys.now (again_from roll.now cursor) zero }
 {
-    let count = nuclei.count as usize;
     let each = cursor.l as usize + 1;
     let mut sum = 0.0;
     let mut from = 0;
-    let mut i = 0;
-    while i < count {
-        let c = nuclei.centres[i];
+    for &c in nuclei {
         let end = from + each;
-        let p = charged_value(cursor, a, b, c, aux, &boys[from..end], roll);
-        if p.kept {
-            sum = sum + p.value;
-            from = end;
-            i += 1;
-        } else {
-            return Value::Refused(11, 0);
-        }
+        sum = sum + charged_value(cursor, a, b, c, aux, &boys[from..end], roll)?;
+        from = end;
     }
     integrals::result(sum)
 }
@@ -157,21 +101,21 @@ fn listed(
     aux: f64,
     boys: &[f64],
     roll: &[u8],
-) -> Value
+) -> Result<f64, Refusal>
     ensures { result ≡ list_of cursor.l a b nuclei aux boys.now (again_from roll.now cursor) }
 {
-    if !list_kept(a, b, nuclei) {
-        return Value::Refused(17, 0);
+    if !list_kept(nuclei) {
+        return Err(Refusal::Nuclei);
     }
+    let nuclei = &nuclei.centres[..nuclei.count as usize];
     if !inputs_finite(a, b, nuclei, aux, boys) {
-        return Value::Refused(8, 0);
+        return Err(Refusal::InputNotFinite);
     }
     if !geometry::exponents_above_zero(Kind::Nuclear, a, b, a, b) {
-        return Value::Refused(9, 0);
+        return Err(Refusal::Exponent);
     }
-    let each = cursor.l as usize + 1;
-    if boys.len() != nuclei.count as usize * each {
-        return Value::Refused(10, 0);
+    if boys.len() != nuclei.len() * (cursor.l as usize + 1) {
+        return Err(Refusal::BoysCount);
     }
     summed(cursor, a, b, nuclei, aux, boys, roll)
 }
@@ -185,24 +129,26 @@ fn by_kind(
     aux: f64,
     boys: &[f64],
     roll: &[u8],
-) -> Value
+) -> Result<f64, Refusal>
     ensures { result ≡ of_cursor cursor a b nuclei aux boys.now roll.now }
 {
-    if cursor.kind == Kind::Nuclear.number() {
-        return listed(cursor, a, b, nuclei, aux, boys, roll);
+    if cursor.kind != Kind::Nuclear.number() {
+        return Err(Refusal::WrongKind);
     }
-    Value::Refused(1, 0)
+    listed(cursor, a, b, nuclei, aux, boys, roll)
 }
 
 // The sum over a list of nuclei, or 7 or 14 with its place, 1, 17, 8, 9, 10 or 11 (D-108).
-pub fn nuclear(roll: &[u8], a: Centre, b: Centre, nuclei: Nuclei, aux: f64, boys: &[f64]) -> Value
+pub fn nuclear(
+    roll: &[u8],
+    a: Centre,
+    b: Centre,
+    nuclei: Nuclei,
+    aux: f64,
+    boys: &[f64],
+) -> Result<f64, Fault>
     ensures { result ≡ nuclear_of roll.now a b nuclei aux boys.now }
 {
-    let opened = roll::check(roll);
-    let found = opened.found;
-    let cursor = opened.cursor;
-    match found {
-        Opening::Roll => by_kind(cursor, a, b, nuclei, aux, boys, roll),
-        Opening::Refused(number, place) => Value::Refused(number, place),
-    }
+    let opened = roll::check(roll)?;
+    Ok(by_kind(opened.cursor, a, b, nuclei, aux, boys, roll)?)
 }

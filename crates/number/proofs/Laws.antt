@@ -12,8 +12,9 @@ use lib.Dec.{ltb, lit<}
 use lib.ListN.{length, drop, length-append, length-drop}
 use lib.Seq.{drop-append_seam, get_or-drop}
 use Rattle.laws.proofs.Cases.{clash}
+use Rattle.laws.proofs.Pairs.{ok-both}
 use Rattle.laws.proofs.Lists.{drop-after}
-use Rattle.number.specs.declared.Number.TheVariants.{Is}
+use Rattle.number.specs.Read.{Is}
 use Rattle.number.specs.Numbers.{groups, bytes_of, length_of, above, higher, read_from, read_at, Bytes}
 use Rattle.number.proofs.Reading.{none-ended, cons-last, cons-more, fifth-is, higher-is, higher-below, above-is, Ends}
 use Rattle.number.proofs.Writing.{groups-last, groups-more, length_some}
@@ -124,8 +125,8 @@ from-only (b ∷ t) at n next bytes e = by (ltb b 128) refl e
     by : (q : Bool) → ltb b 128 ≡ q → cond q (Is b (at + 1)) (above (b % 128) (higher t (at + 1) 3)) ≡ Is n next → (n < 2 ^ 32) × ((rest : List ℕ) × ((b ∷ t) ≡ groups 4 n ++ rest) × (next ≡ at + length (groups 4 n)))
     by true lt e =
         let small : b < 128 = ltb-true b 128 lt in
-        let says : b ≡ n = cc in
-        let after : next ≡ at + 1 = cc in
+        let says : b ≡ n = (ok-both e).0 in
+        let after : next ≡ at + 1 = sym (ok-both e).1 in
         let one : groups 4 n ≡ n ∷ [] = groups-last 4 n (omega arith) in
         (omega arith, (t, rw (one, ← says), rw one after))
     by false ge e =

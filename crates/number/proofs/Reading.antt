@@ -10,9 +10,10 @@ use borrow.Author.Tests.{lt-ltb, le-ltb, ltb-true, ltb-false, eqb-false, ne_eqb}
 use lib.Dec.{ltb, eqb, lit<}
 use lib.ListN.{length, get_or, take, drop, length-drop, drop_of_length-le}
 use Rattle.laws.proofs.Cases.{clash}
+use Rattle.laws.proofs.Pairs.{ok-both}
 use Rattle.laws.proofs.Lists.{drop_head, drop-take, take_head}
-use Rattle.number.specs.declared.Number.{Number}
-use Rattle.number.specs.declared.Number.TheVariants.{Is, Ended, NotShortest, TooLarge}
+use Rattle.number.specs.Read.{Number}
+use Rattle.number.specs.Read.{Is, Ended, NotShortest, TooLarge}
 use Rattle.number.specs.Numbers.{one_byte, above, last, higher, read_from, read_at}
 
 pub none-ended : (more at : ℕ) → higher [] at more ≡ Ended
@@ -57,7 +58,7 @@ higher-more s at more less b r q inside is some e big eq er =
 
 -- a number that the bytes after a group make, taken out of the whole again
 pub above-is : (low n next : ℕ) (r : Number) → above low r ≡ Is n next → (h : ℕ) × (r ≡ Is h next) × (n ≡ low + 128 * h)
-above-is low n next (Is h x) e = (h, cc, cc)
+above-is low n next (Is h x) e = let both = ok-both e in (h, cc, cc)
 above-is low n next Ended e = absurd (clash (cc))
 above-is low n next NotShortest e = absurd (clash (cc))
 above-is low n next TooLarge e = absurd (clash (cc))
@@ -76,7 +77,7 @@ last-is b at n next e = by (eqb b 0) refl e
   where
     by : (q : Bool) → eqb b 0 ≡ q → cond q NotShortest (Is b (at + 1)) ≡ Is n next → Ends b at n next
     by true z e = absurd (clash (cc))
-    by false nz e = record { some = eqb-false b 0 nz; says = cc; after = cc }
+    by false nz e = let both = ok-both e in record { some = eqb-false b 0 nz; says = cc; after = cc }
 
 -- a byte that others follow
 pub record Follows (more b : ℕ) (t : List ℕ) (at n next : ℕ) : Type 0 where
@@ -152,7 +153,7 @@ from-inside [] at n next e = absurd (clash (cc))
 from-inside (b ∷ t) at n next e = by (ltb b 128) refl e
   where
     by : (q : Bool) → ltb b 128 ≡ q → cond q (Is b (at + 1)) (above (b % 128) (higher t (at + 1) 3)) ≡ Is n next → (at < next) × (next ≤ at + length (b ∷ t))
-    by true lt e = let after : next ≡ at + 1 = cc in (omega arith, omega arith)
+    by true lt e = let after = (ok-both e).1 in (omega arith, omega arith)
     by false ge e =
         let a = above-is (b % 128) n next (higher t (at + 1) 3) e in
         let rest = higher-inside 3 t (at + 1) a.0 next a.1 in

@@ -11,7 +11,7 @@ use lib.Dec.{ltb, lit<, lit≤}
 use lib.ListN.{length, set, length-set}
 use lib.Seq.{sets}
 use Rattle.laws.proofs.Parts.{room-placed, no-room-placed}
-use Rattle.number.specs.declared.Written.TheVariants.{Next, NoRoom}
+use Rattle.std.specs.Prelude.{Some, None}
 use Rattle.number.specs.Numbers.{one_byte, groups, bytes_of, length_of, written_at, WriteTold}
 
 pub groups-last : (more n : ℕ) → n < 128 → groups more n ≡ n ∷ []
@@ -141,10 +141,10 @@ put-end before start n out left at p small = omega (arith, length_last left smal
 pub put_all : (before : List ℕ) (start n : ℕ) (out : List ℕ) (left at : ℕ) → Put before start n out left at → left < 128 → set out at left ≡ sets before start (bytes_of n)
 put_all before start n out left at p small = store-last out at left small ∙ p.stores
 
-pub wrote_none : (out : List ℕ) (at : ℕ) (bytes : List ℕ) → length out < at + length bytes → WriteTold out at bytes NoRoom out
+pub wrote_none : (out : List ℕ) (at : ℕ) (bytes : List ℕ) → length out < at + length bytes → WriteTold out at bytes None out
 unfolding written_at
 wrote_none out at bytes over = let none = lt-leb (at + length bytes) (length out) over in record { answer = rw none; out = no-room-placed bytes out at none }
 
-pub wrote-all : (out after : List ℕ) (at : ℕ) (bytes : List ℕ) (next : ℕ) → at + length bytes ≤ length out → next ≡ at + length bytes → after ≡ sets out at bytes → WriteTold out at bytes (Next next) after
+pub wrote-all : (out after : List ℕ) (at : ℕ) (bytes : List ℕ) (next : ℕ) → at + length bytes ≤ length out → next ≡ at + length bytes → after ≡ sets out at bytes → WriteTold out at bytes (Some next) after
 unfolding written_at
 wrote-all out after at bytes next room is stored = let fits = le-leb (at + length bytes) (length out) room in record { answer = rw (fits, is); out = stored ∙ room-placed bytes out at fits }

@@ -1,10 +1,12 @@
 -- 01, "The roll": numbers stand in groups of seven bits, lowest first, the high bit set on all but the last byte, shortest form, below 2^32.
-use Rattle.std.specs.Prelude.{ℕ, zero, suc, ◌+◌, ◌*◌, ◌/◌, ◌%◌, ◌<◌, ◌≡◌, Bool, cond, List, [], ◌∷◌, ltb, eqb, length, get_or, drop}
+use Rattle.std.specs.Prelude.{ℕ, zero, suc, ◌+◌, ◌*◌, ◌/◌, ◌%◌, ◌<◌, ◌≡◌, Bool, cond, List, [], ◌∷◌, ltb, eqb, length, get_or, drop, Option, Some, None}
 use Rattle.laws.specs.Placed.{room_for, placed_where_fits}
-use Rattle.number.specs.declared.Number.{Number}
-use Rattle.number.specs.declared.Number.TheVariants.{Is, Ended, NotShortest, TooLarge}
-use Rattle.number.specs.declared.Written.{Written}
-use Rattle.number.specs.declared.Written.TheVariants.{Next, NoRoom}
+use Rattle.kind.specs.declared.refusals.Refusal.{Refusal}
+use Rattle.kind.specs.declared.refusals.Refusal.TheVariants.{BadRoll, CutRoll}
+use Rattle.number.specs.declared.Unread.{Unread}
+use Rattle.number.specs.declared.Unread.TheVariants as unread
+use Rattle.number.specs.Read.{Number}
+use Rattle.number.specs.Read.{Is, Ended, NotShortest, TooLarge}
 
 -- a group of seven bits is below this, and this is what the high bit adds
 abbrev pub group : ℕ
@@ -56,18 +58,17 @@ Bytes s = (i : ℕ) → get_or s i 0 < 256
 unfoldable pub read_at : List ℕ → ℕ → Number
 read_at s at = read_from (drop at s) at
 
--- the refusal number of each case: 0 is none; 02, Q-5: 14 where the input ends before the number does, 7 for all else (D-13, D-37)
-abbrev pub refusal_of : Number → ℕ
-refusal_of (Is n next) = 0
-refusal_of Ended = 14
-refusal_of NotShortest = 7
-refusal_of TooLarge = 7
+-- the refusal of each reason: 02, Q-5: 14 where the input ends before the number does, 7 for all else (D-13, D-37)
+abbrev pub refusal_of : Unread → Refusal
+refusal_of unread.Ended = CutRoll
+refusal_of unread.NotShortest = BadRoll
+refusal_of unread.TooLarge = BadRoll
 
 -- bytes fit into a lent list from `at` on, or not
-unfoldable pub written_at : List ℕ → ℕ → List ℕ → Written
-written_at out at bytes = cond (room_for out at (length bytes)) (Next (at + length bytes)) NoRoom
+unfoldable pub written_at : List ℕ → ℕ → List ℕ → Option ℕ
+written_at out at bytes = cond (room_for out at (length bytes)) (Some (at + length bytes)) None
 
 -- where they fit they stand from `at` on; otherwise nothing changes (D-14)
-pub record WriteTold (before : List ℕ) (at : ℕ) (bytes : List ℕ) (r : Written) (after : List ℕ) : Type 0 where
+pub record WriteTold (before : List ℕ) (at : ℕ) (bytes : List ℕ) (r : Option ℕ) (after : List ℕ) : Type 0 where
   pub answer : r ≡ written_at before at bytes
   pub out : after ≡ placed_where_fits before at bytes

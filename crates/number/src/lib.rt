@@ -3,25 +3,34 @@
 
 ghost use Rattle.std.specs.Prelude.{ℕ, ◌+◌, ◌<◌, ◌≤◌, ◌^◌, ◌≡◌, length, drop};
 ghost use Rattle.std.proofs.lemmas.List.Edits.{sets};
+ghost use Rattle.number.specs.Read.{Is};
 ghost use Rattle.number.specs.Numbers.{group, one_byte, bytes_of, length_of, above, higher, read_at, refusal_of, WriteTold};
+
+use kind::Refusal;
 
 // A group of seven bits is below this, and this is what the high bit adds.
 const GROUP: u32 = 128;
 
-// What stands at a place: a number and the place after it, or why there is none.
-#[derive(Clone, Copy)]
-pub enum Number {
-    Is(u32, usize),
+// Why no number stands at a place.
+#[derive(Clone, Copy, Debug, PartialEq, Eq)]
+pub enum Unread {
     Ended,
     NotShortest,
     TooLarge,
 }
 
-// The place after what was written.
-#[derive(Clone, Copy)]
-pub enum Written {
-    Next(usize),
-    NoRoom,
+// The refusal that each reason stands for: the one place that says so.
+impl From<Unread> for Refusal {
+    ghost from_gives = { λ why refusal. refusal ≡ refusal_of why };
+
+    fn from(why: Unread) -> Refusal
+        ensures { result ≡ refusal_of why }
+    {
+        match why {
+            Unread::Ended => Refusal::CutRoll,
+            Unread::NotShortest | Unread::TooLarge => Refusal::BadRoll,
+        }
+    }
 }
 
 // A byte as a number of a roll.
@@ -39,68 +48,52 @@ pub fn one_byte(n: u32) -> bool
 }
 
 // A group below the number that the bytes after it make.
-fn above(low: u32, high: Number) -> Number
+fn above(low: u32, high: Result<(u32, usize), Unread>) -> Result<(u32, usize), Unread>
     requires low_lt_group { low < group }
-    requires by_index { (n next : ℕ) → high ≡ Number.Is n next → n < 2 ^ 25 }
+    requires by_index { (n next : ℕ) → high ≡ Is n next → n < 2 ^ 25 }
     ensures { result ≡ above low high }
 {
-    match high {
-        Number::Is(n, next) => Number::Is(low + GROUP * n, next),
-        Number::Ended => Number::Ended,
-        Number::NotShortest => Number::NotShortest,
-        Number::TooLarge => Number::TooLarge,
-    }
+    let (n, next) = high?;
+    Ok((low + GROUP * n, next))
 }
 
 // The byte at `next`, after a number's first; `more` bytes may follow it.
-fn higher(s: &[u8], next: usize, more: usize) -> Number
+fn higher(s: &[u8], next: usize, more: usize) -> Result<(u32, usize), Unread>
     requires { more ≤ 3 }
     ensures { result ≡ higher (drop next s.now) next more }
 {
     if s.len() <= next {
-        return Number::Ended;
+        return Err(Unread::Ended);
     }
     let b = wide(s[next]);
     if b == 0 {
-        return Number::NotShortest;
+        return Err(Unread::NotShortest);
     }
     if more == 0 {
         if 15 < b {
-            return Number::TooLarge;
+            return Err(Unread::TooLarge);
         }
-        return Number::Is(b, next + 1);
+        return Ok((b, next + 1));
     }
     if b < GROUP {
-        return Number::Is(b, next + 1);
+        return Ok((b, next + 1));
     }
     above(b % GROUP, higher(s, next + 1, more - 1))
 }
 
 // The number at a place. Most have one byte.
-pub fn read(s: &[u8], at: usize) -> Number
+pub fn read(s: &[u8], at: usize) -> Result<(u32, usize), Unread>
     ensures { result ≡ read_at s.now at }
 {
     if s.len() <= at {
-        return Number::Ended;
+        return Err(Unread::Ended);
     }
     let first = wide(s[at]);
     let next = at + 1;
     if one_byte(first) {
-        return Number::Is(first, next);
+        return Ok((first, next));
     }
     above(first % GROUP, higher(s, next, 3))
-}
-
-// The refusal that a number's reason stands for: the one place that says so.
-pub fn refusal_of(n: Number) -> u8
-    ensures { result ≡ refusal_of n }
-{
-    match n {
-        Number::Is(_, _) => 0,
-        Number::Ended => 14,
-        Number::NotShortest => 7,
-        Number::TooLarge => 7,
-    }
 }
 
 // How many bytes a number takes.
@@ -138,14 +131,14 @@ fn put(out: &mut [u8], start: usize, n: u32) -> usize
 }
 
 // Writes a number's bytes from `at` on, or nothing where they don't fit.
-pub fn write(out: &mut [u8], at: usize, n: u32) -> Written
+pub fn write(out: &mut [u8], at: usize, n: u32) -> Option<usize>
     ensures { WriteTold out.old at (bytes_of n) result out.new }
 {
     if out.len() < at {
-        return Written::NoRoom;
+        return None;
     }
     if out.len() - at < length(n) {
-        return Written::NoRoom;
+        return None;
     }
-    Written::Next(put(out, at, n))
+    Some(put(out, at, n))
 }

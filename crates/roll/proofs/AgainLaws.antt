@@ -15,9 +15,11 @@ use Rattle.kind.specs.Kinds.{table_of}
 use Rattle.kind.proofs.Within.{some-entries, table-within}
 use Rattle.laws.specs.Total.{total}
 use Rattle.term.specs.Terms.{Term}
-use Rattle.number.specs.declared.Number.{Number}
-use Rattle.number.specs.declared.Number.TheVariants as number
-use Rattle.number.specs.declared.Number.TheVariants.{Is, Ended, NotShortest, TooLarge}
+use Rattle.number.specs.Read.{Number}
+use Rattle.number.specs.declared.Unread.{Unread}
+use Rattle.std.specs.Prelude.{Err}
+use Rattle.number.specs.Read as number
+use Rattle.number.specs.Read.{Is, Ended, NotShortest, TooLarge}
 use Rattle.number.specs.Numbers.{one_byte, read_at, Bytes, bytes_of}
 use Rattle.number.proofs.Laws.{reads_only}
 use Rattle.number.proofs.Reading.{read_one, read-inside}
@@ -43,17 +45,9 @@ module _ (s : List ℕ) (at : ℕ) (r : Number) (e : r ≡ read_at s at) where
   unfolding seen_at seen_of
   seen-is n next f = rw (← e, f)
 
-  pub seen-ended : r ≡ Ended → ◌≡◌ {A = Seen} (record { value = 0; next = at }) (seen_at s at)
+  pub seen-not : (why : Unread) → r ≡ Err why → ◌≡◌ {A = Seen} (record { value = 0; next = at }) (seen_at s at)
   unfolding seen_at seen_of
-  seen-ended f = rw (← e, f)
-
-  pub seen-long : r ≡ NotShortest → ◌≡◌ {A = Seen} (record { value = 0; next = at }) (seen_at s at)
-  unfolding seen_at seen_of
-  seen-long f = rw (← e, f)
-
-  pub seen-large : r ≡ TooLarge → ◌≡◌ {A = Seen} (record { value = 0; next = at }) (seen_at s at)
-  unfolding seen_at seen_of
-  seen-large f = rw (← e, f)
+  seen-not why f = rw (← e, f)
 
 pub head-made : (s : List ℕ) (at : ℕ) (a b c : Seen) (end : ℕ) → a ≡ seen_at s at → b ≡ seen_at s a.next → c ≡ seen_at s b.next → end ≡ min (c.next + c.value) (length s) → ◌≡◌ {A = Head} (record { scale = a.value; boys = b.value; from = c.next; end = end }) (head_at s at)
 unfolding head_at

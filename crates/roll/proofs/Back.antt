@@ -9,16 +9,14 @@ use Rattle.kind.specs.Limits.{most_order, most_scale, most_terms, table_places}
 use Rattle.kind.specs.Kinds.{kind_of, number_of, orders_of, table_of, most_l, most_prefactors}
 use Rattle.kind.specs.declared.Kind.{Kind}
 use Rattle.kind.specs.declared.Kind.TheVariants.{Overlap, Kinetic, Nuclear, Moment, Coulomb}
-use Rattle.kind.specs.declared.Named.{Named}
-use Rattle.kind.specs.declared.Named.TheVariants as named
 use Rattle.kind.proofs.KindNumber.{kind-number}
 use Rattle.kind.proofs.Within.{number-within, l-within, table-within}
 use Rattle.laws.proofs.Lists.{drop-after}
 use Rattle.number.specs.Numbers.{bytes_of, length_of, read_at}
 use Rattle.number.proofs.Laws.{reads-back-from}
 use Rattle.term.specs.Terms.{Term}
-use Rattle.roll.specs.declared.field.Field.{Field}
-use Rattle.roll.specs.declared.field.Field.TheVariants as field
+use Rattle.roll.specs.Field.{Field}
+use Rattle.roll.specs.Field as field
 use Rattle.roll.specs.Bytes.{numbers_bytes, term_bytes, terms_bytes, roll_bytes}
 use Rattle.laws.specs.Total.{total}
 use Rattle.roll.specs.Reading.{Reading, got, onward, and_then, within_at, prefactors_at, most_boys, count_at, boys_at, term_at, terms_at, sum_after, orders_at, counted_at, of_kind, header_at, Roll, roll_at}
@@ -27,6 +25,7 @@ use Rattle.roll.proofs.FieldLaws.{within-is}
 use Rattle.roll.proofs.HeaderLaws.{sum-small}
 use Rattle.roll.proofs.Inside.{term-inside, header_read, header-inside, orders-most}
 use Rattle.roll.proofs.TermsLaws.{few-prefactors}
+use Rattle.std.specs.Prelude.{Option, Some}
 
 -- ---- a number
 
@@ -113,7 +112,7 @@ orders-back (o ∷ os) i sum s rest at small keeps is =
     (r.0, rw (f.1, r.1), r.2)
 
 -- from the orders on
-pub kind-back : (k : Kind) (os : List ℕ) (terms : ℕ) (s rest : List ℕ) (at : ℕ) → length os ≡ orders_of k → CentresFit os → 1 ≤ terms → terms ≤ most_terms → drop at s ≡ numbers_bytes os ++ (bytes_of terms ++ rest) → (next : ℕ) × (of_kind s at (named.Is k) ≡ got (record { kind = k; orders = os; terms = terms }) next) × (drop next s ≡ rest)
+pub kind-back : (k : Kind) (os : List ℕ) (terms : ℕ) (s rest : List ℕ) (at : ℕ) → length os ≡ orders_of k → CentresFit os → 1 ≤ terms → terms ≤ most_terms → drop at s ≡ numbers_bytes os ++ (bytes_of terms ++ rest) → (next : ℕ) × (of_kind s at (Some k) ≡ got (record { kind = k; orders = os; terms = terms }) next) × (drop next s ≡ rest)
 unfolding counted_at
 kind-back k os terms s rest at places fit some most is =
     let o = orders-back os 0 0 s (bytes_of terms ++ rest) at (omega arith) (fit-keeps 0 os refl fit) is in
@@ -132,7 +131,7 @@ header-back k os terms s rest places fit some most is =
     let r = kind-back k os terms s rest f.0 places fit some most f.2 in (
       r.0,
       ap (λ (x : Field). onward x (λ n next. of_kind s next (kind_of n))) f.1
-          ∙ ap (λ (m : Named). of_kind s f.0 m) (kind-number k)
+          ∙ ap (λ (m : Option Kind). of_kind s f.0 m) (kind-number k)
           ∙ r.1,
       r.2,
     )

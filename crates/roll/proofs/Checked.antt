@@ -5,14 +5,11 @@ use mathlib.Core.List.{List, ◌++◌}
 use lib.ListN.{length, replicate}
 use Rattle.kind.specs.Limits.{request_orders}
 use Rattle.kind.specs.Kinds.{kind_of, number_of, orders_of}
-use Rattle.kind.specs.declared.Named.{Named}
-use Rattle.kind.specs.declared.Named.TheVariants as named
 use Rattle.kind.proofs.KindNumber.{kind-number}
 use Rattle.laws.proofs.Cases.{clash}
 use Rattle.laws.specs.Total.{total}
 use Rattle.term.specs.Terms.{Term}
 use Rattle.roll.specs.declared.cursor.Cursor.{Cursor}
-use Rattle.roll.specs.declared.header.Opening.TheVariants as opening
 use Rattle.roll.specs.declared.header.Opened.{Opened}
 use Rattle.roll.specs.Reading.{Reading, got, refused, and_then, terms_at, Header, header_at, Roll, roll_at}
 use Rattle.roll.specs.Header.{cursor_at, held_header, open_of, judged, checked, check_of}
@@ -22,6 +19,11 @@ use Rattle.roll.proofs.HeaderLaws.{orders-length}
 use Rattle.roll.proofs.Inside.{header_read, header-inside, orders-most}
 use Rattle.roll.proofs.JudgeLaws.{terms-count}
 use Rattle.roll.proofs.Steps.{left-terms}
+use Rattle.std.specs.Prelude.{Option, Some, Result, Ok, Err}
+use Rattle.kind.specs.declared.refusals.Fault.{Fault}
+use Rattle.kind.proofs.Faults.{err-is}
+use Rattle.roll.specs.Field.{fault}
+use Rattle.kind.specs.declared.Kind.{Kind}
 
 -- a roll's terms beside its header
 abbrev beside : Header → List Term → ℕ → Reading Roll
@@ -31,46 +33,57 @@ abbrev whole : List ℕ → Header → ℕ → Reading Roll
 whole s h next = and_then (terms_at s next h.terms h.kind (total h.orders)) (beside h)
 
 -- where the whole reads, the header's own answer comes back
-pub reads-checked : (s : List ℕ) (r : Roll) (end : ℕ) → roll_at s ≡ got r end → (check_of s ≡ open_of s) × ((check_of s).found ≡ opening.Roll)
+pub record Opens (s : List ℕ) : Type 0 where
+  pub opened : Opened
+  pub checks : check_of s ≡ Ok opened
+  pub opens : open_of s ≡ Ok opened
+
+pub reads-checked : (s : List ℕ) (r : Roll) (end : ℕ) → roll_at s ≡ got r end → Opens s
 unfolding roll_at check_of open_of
 reads-checked s r end e =
     let x = and_then-is (header_at s) (whole s) r end e in
     let h = x.0 in
     let y = and_then-is (terms_at s x.1 h.terms h.kind (total h.orders)) (beside h) r end x.3 in
-    let is : checked s (header_at s) ≡ held_header (got h x.1) = ap (checked s) x.2 ∙ ap (judged (held_header (got h x.1))) y.2 in
-    (is ∙ ap held_header (sym x.2), ap (λ (o : Opened). o.found) is)
+    record {
+      opened = record { cursor = cursor_at h x.1; orders = h.orders ++ replicate (request_orders - length h.orders) 0 };
+      checks = ap (checked s) x.2 ∙ ap (judged (held_header (got h x.1))) y.2;
+      opens = ap held_header x.2;
+    }
 
-terms-roll : (s : List ℕ) (h : Header) (next : ℕ) (x : Reading (List Term)) → terms_at s next h.terms h.kind (total h.orders) ≡ x → (judged (held_header (got h next)) x).found ≡ opening.Roll → (r : Roll) × (end : ℕ) × (whole s h next ≡ got r end)
-terms-roll s h next (got ts end) e found = (record { kind = h.kind; orders = h.orders; terms = ts }, end, ap (λ (x : Reading (List Term)). and_then x (beside h)) e)
-terms-roll s h next (refused r place) e found = absurd (clash (cc))
+terms-roll : (s : List ℕ) (h : Header) (next : ℕ) (x : Reading (List Term)) (o : Opened) → terms_at s next h.terms h.kind (total h.orders) ≡ x → judged (held_header (got h next)) x ≡ Ok o → (r : Roll) × (end : ℕ) × (whole s h next ≡ got r end)
+terms-roll s h next (got ts end) o e found = (record { kind = h.kind; orders = h.orders; terms = ts }, end, ap (λ (x : Reading (List Term)). and_then x (beside h)) e)
+terms-roll s h next (refused r place) o e found = absurd (clash (cc))
 
-header-roll : (s : List ℕ) (x : Reading Header) → header_at s ≡ x → (checked s x).found ≡ opening.Roll → (r : Roll) × (end : ℕ) × (and_then x (whole s) ≡ got r end)
-header-roll s (got h next) e found = terms-roll s h next (terms_at s next h.terms h.kind (total h.orders)) refl found
-header-roll s (refused r place) e found = absurd (clash (cc))
+header-roll : (s : List ℕ) (x : Reading Header) (o : Opened) → header_at s ≡ x → checked s x ≡ Ok o → (r : Roll) × (end : ℕ) × (and_then x (whole s) ≡ got r end)
+header-roll s (got h next) o e found = terms-roll s h next (terms_at s next h.terms h.kind (total h.orders)) o refl found
+header-roll s (refused r place) o e found = absurd (clash (cc))
 
 -- and where the check says a roll, the whole reads
-pub checked-reads : (s : List ℕ) → (check_of s).found ≡ opening.Roll → (r : Roll) × (end : ℕ) × (roll_at s ≡ got r end)
+pub checked-reads : (s : List ℕ) (o : Opened) → check_of s ≡ Ok o → (r : Roll) × (end : ℕ) × (roll_at s ≡ got r end)
 unfolding check_of roll_at
-checked-reads s found = header-roll s (header_at s) refl found
+checked-reads s o found = header-roll s (header_at s) o refl found
 
 -- ---- as a function that has called `check` knows it
 
-pub checked-judged : (s : List ℕ) (o : Opened) → o ≡ check_of s → o.found ≡ opening.Roll → Judged o s
-checked-judged s o is found =
-    let r = checked-reads s (ap (λ (o : Opened). o.found) (sym is) ∙ found) in
-    record { roll = r.0; end = r.1; reads = r.2; header = is ∙ (reads-checked s r.0 r.1 r.2).0 }
+pub checked-judged : (s : List ℕ) (y : Result Opened Fault) (o : Opened) → y ≡ check_of s → y ≡ Ok o → Judged o s
+checked-judged s y o is found =
+    let r = checked-reads s o (sym is ∙ found) in
+    let opens = reads-checked s r.0 r.1 r.2 in
+    let checks = opens.checks in
+    let same : opens.opened ≡ o = cc in
+    record { roll = r.0; end = r.1; reads = r.2; header = ap (λ (o : Opened). Ok o) (sym same) ∙ sym opens.opens }
 
-terms-refused : (s : List ℕ) (h : Header) (next n place : ℕ) (x : Reading (List Term)) → (judged (held_header (got h next)) x).found ≡ opening.Refused n place → and_then x (beside h) ≡ refused n place
-terms-refused s h next n place (got ts end) e = absurd (clash (cc))
-terms-refused s h next n place (refused n' place') e = let one : n' ≡ n = cc in let two : place' ≡ place = cc in cc (one, two)
+terms-refused : (s : List ℕ) (h : Header) (next : ℕ) (why : Fault) (x : Reading (List Term)) → judged (held_header (got h next)) x ≡ Err why → and_then x (beside h) ≡ refused why.refusal why.place
+terms-refused s h next why (got ts end) e = absurd (clash (cc))
+terms-refused s h next why (refused n place) e = let same = err-is (fault n place) why e in rw (← same)
 
-header_refused : (s : List ℕ) (n place : ℕ) (x : Reading Header) → (checked s x).found ≡ opening.Refused n place → and_then x (whole s) ≡ refused n place
-header_refused s n place (got h next) e = terms-refused s h next n place (terms_at s next h.terms h.kind (total h.orders)) e
-header_refused s n place (refused n' place') e = let one : n' ≡ n = cc in let two : place' ≡ place = cc in cc (one, two)
+header_refused : (s : List ℕ) (why : Fault) (x : Reading Header) → checked s x ≡ Err why → and_then x (whole s) ≡ refused why.refusal why.place
+header_refused s why (got h next) e = terms-refused s h next why (terms_at s next h.terms h.kind (total h.orders)) e
+header_refused s why (refused n place) e = let same = err-is (fault n place) why e in rw (← same)
 
-pub checked_refused : (s : List ℕ) (o : Opened) (n place : ℕ) → o ≡ check_of s → o.found ≡ opening.Refused n place → roll_at s ≡ refused n place
+pub checked_refused : (s : List ℕ) (y : Result Opened Fault) (why : Fault) → y ≡ check_of s → y ≡ Err why → roll_at s ≡ refused why.refusal why.place
 unfolding check_of roll_at
-checked_refused s o n place is found = header_refused s n place (header_at s) (ap (λ (o : Opened). o.found) (sym is) ∙ found)
+checked_refused s y why is found = header_refused s why (header_at s) (sym is ∙ found)
 
 -- what a judged roll's header says, and its terms from there on
 pub record Headed (o : Opened) (s : List ℕ) (r : Roll) : Type 0 where
@@ -78,7 +91,7 @@ pub record Headed (o : Opened) (s : List ℕ) (r : Roll) : Type 0 where
   pub next : ℕ
   pub end : ℕ
   pub is : header_at s ≡ got header next
-  pub opened : o ≡ held_header (got header next)
+  pub opened : Ok o ≡ held_header (got header next)
   pub reads : terms_at s next header.terms header.kind (total header.orders) ≡ got r.terms end
   pub kind : header.kind ≡ r.kind
   pub orders : header.orders ≡ r.orders
@@ -104,8 +117,12 @@ headed o s j =
       count = sym (terms-count h.terms h.kind (total h.orders) s x.1 y.0 y.1 y.2) ∙ ap length terms;
     }
 
+-- the header's answer
+abbrev pub opened-of : Header → ℕ → Opened
+opened-of h next = record { cursor = cursor_at h next; orders = h.orders ++ replicate (request_orders - length h.orders) 0 }
+
 pub opened-cursor : (o : Opened) (s : List ℕ) (r : Roll) (d : Headed o s r) → o.cursor ≡ cursor_at d.header d.next
-opened-cursor o s r d = ap (λ (o : Opened). o.cursor) d.opened
+opened-cursor o s r d = let is = d.opened in let same : o ≡ opened-of d.header d.next = cc in ap (λ (o : Opened). o.cursor) same
 
 -- ---- its cursor and orders are the roll's own
 
@@ -113,7 +130,7 @@ module _ (o : Opened) (s : List ℕ) (j : Judged o s) where
   pub judged-kind : o.cursor.kind ≡ number_of j.roll.kind
   judged-kind = let d = headed o s j in ap (λ (c : Cursor). c.kind) (opened-cursor o s j.roll d) ∙ ap number_of d.kind
 
-  pub judged-named : (m : Named) → m ≡ kind_of o.cursor.kind → m ≡ named.Is j.roll.kind
+  pub judged-named : (m : Option Kind) → m ≡ kind_of o.cursor.kind → m ≡ Some j.roll.kind
   judged-named m is = is ∙ ap kind_of judged-kind ∙ kind-number j.roll.kind
 
   pub judged-l : o.cursor.l ≡ total j.roll.orders
@@ -126,8 +143,10 @@ module _ (o : Opened) (s : List ℕ) (j : Judged o s) where
   judged-orders =
       let d = headed o s j in
       let h = d.header in
-      let r = header_read s h d.next d.is in (
-        ap (λ (o : Opened). o.orders) d.opened ∙ ap (λ (os : List ℕ). os ++ replicate (request_orders - length os) 0) d.orders,
+      let r = header_read s h d.next d.is in
+      let is = d.opened in
+      let same : o ≡ opened-of h d.next = cc in (
+        ap (λ (o : Opened). o.orders) same ∙ ap (λ (os : List ℕ). os ++ replicate (request_orders - length os) 0) d.orders,
         ap length (sym d.orders) ∙ orders-length (orders_of h.kind) 0 0 s r.a h.orders r.b r.orders ∙ ap orders_of d.kind,
       )
 

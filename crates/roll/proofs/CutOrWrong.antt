@@ -6,25 +6,28 @@ use mathlib.Core.Bool.{Bool, true, false, cond}
 use mathlib.Core.List.{List, [], ◌∷◌, ◌++◌, append_assoc}
 use mathlib.Core.Logic.{◌⊎◌, inl, inr}
 use native.Mathlib.Omega.{arith}
-use borrow.Author.Tests.{ne_eqb, eqb-true, eqb-false}
+use borrow.Author.Tests.{ne_eqb, eqb-true}
 use lib.Dec.{eqb}
 use lib.ListN.{length, take, drop, length-take, length-append, take-append-drop}
 use lib.Seq.{length-take-le, take_at, drop_at}
-use Rattle.laws.proofs.Cases.{clash, tested}
+use Rattle.laws.proofs.Cases.{clash}
 use Rattle.laws.specs.Total.{total}
 use Rattle.kind.specs.declared.Kind.{Kind}
 use Rattle.term.specs.Terms.{Term}
-use Rattle.number.specs.declared.Number.TheVariants as number
-use Rattle.number.specs.Numbers.{refusal_of}
 use Rattle.number.proofs.Reading.{read_stays}
-use Rattle.roll.specs.declared.header.Opening.TheVariants as opening
 use Rattle.roll.specs.Reading.{Reading, got, refused, and_then, before, term_at, terms_at, Header, header_at, Roll, roll_at}
 use Rattle.roll.specs.Header.{refused_opened, held_header, open_of, judged, checked, check_of}
-use Rattle.roll.proofs.Checked.{checked-reads, checked_refused}
+use Rattle.roll.proofs.Checked.{checked-reads, checked_refused, opened-of}
+use Rattle.std.specs.Prelude.{Ok}
+use Rattle.kind.proofs.Faults.{err-both, cut-or-not}
+use Rattle.roll.specs.declared.header.Opened.{Opened}
+use Rattle.roll.specs.Field.{fault}
 use Rattle.roll.proofs.Filling.{and_then-is}
 use Rattle.roll.proofs.Inside.{term-inside}
 use Rattle.roll.proofs.Mending.{Alike, leads-inside, Kept, Broken, Cut, Long, made_got}
 use Rattle.roll.proofs.Places.{term-kept, header-kept, header-broken, roll-end, place_inside}
+use Rattle.kind.specs.declared.refusals.Refusal.{Refusal}
+use Rattle.kind.specs.declared.refusals.Refusal.TheVariants.{BadRoll, CutRoll}
 
 -- ---- bytes after bytes
 
@@ -41,14 +44,14 @@ module _ (s t : List ℕ) (p : ℕ) (inside : p ≤ length s) where
 -- ---- wrong stays wrong
 
 -- what is refused for another reason than its end has a number there, which stays whatever follows
-pub broken-stays : {A : Type 0} (X : List ℕ → Reading A) (s t : List ℕ) (r p : ℕ) → (r ≡ refusal_of number.Ended → ⊥) → Broken X s 0 r p → X (s ++ t) ≡ refused r p
+pub broken-stays : {A : Type 0} (X : List ℕ → Reading A) (s t : List ℕ) (r : Refusal) (p : ℕ) → (r ≡ CutRoll → ⊥) → Broken X s 0 r p → X (s ++ t) ≡ refused r p
 broken-stays X s t r p other b =
     let inside : p ≤ length s = leads-inside zero-le b.leads in
     let is : X s ≡ refused r p = b.same s refl refl in
     b.same (s ++ t) (begins-alike s t p inside)
     (read_stays s t p (drop_more s t p inside) (λ ended. other (let m = b.missing s refl ended in cc)))
 
-pub ends_stay : {A : Type 0} (X : List ℕ → Reading A) (s t : List ℕ) (r p : ℕ) → (r ≡ refusal_of number.Ended → ⊥) → X s ≡ refused r p → Cut X s 0 r p ⊎ Long X s 0 r p → X (s ++ t) ≡ refused r p
+pub ends_stay : {A : Type 0} (X : List ℕ → Reading A) (s t : List ℕ) (r : Refusal) (p : ℕ) → (r ≡ CutRoll → ⊥) → X s ≡ refused r p → Cut X s 0 r p ⊎ Long X s 0 r p → X (s ++ t) ≡ refused r p
 ends_stay X s t r p other is (inl b) =
     let inside : p ≤ length s = leads-inside zero-le b.leads in
     b.same (s ++ t) (begins-alike s t p inside)
@@ -58,22 +61,22 @@ ends_stay X s t r p other is (inr b) =
     let follow = b.follow in
     b.more (s ++ t) (begins-alike s t p inside) (λ end. follow (omega (arith, inside, length-append s t)))
 
-header-stays : (s t : List ℕ) (r p : ℕ) → (r ≡ refusal_of number.Ended → ⊥) → header_at s ≡ refused r p → header_at (s ++ t) ≡ refused r p
+header-stays : (s t : List ℕ) (r : Refusal) (p : ℕ) → (r ≡ CutRoll → ⊥) → header_at s ≡ refused r p → header_at (s ++ t) ≡ refused r p
 header-stays s t r p other e = broken-stays header_at s t r p other (header-broken s r p e)
 
-roll-stays : (s t : List ℕ) (r p : ℕ) → (r ≡ refusal_of number.Ended → ⊥) → roll_at s ≡ refused r p → roll_at (s ++ t) ≡ refused r p
+roll-stays : (s t : List ℕ) (r : Refusal) (p : ℕ) → (r ≡ CutRoll → ⊥) → roll_at s ≡ refused r p → roll_at (s ++ t) ≡ refused r p
 roll-stays s t r p other e = ends_stay roll_at s t r p other e (roll-end s r p e)
 
 -- ---- a roll begins no other
 
-terms-longer : (left : ℕ) (k : Kind) (l : ℕ) (s t : List ℕ) (at : ℕ) (us : List Term) (end : ℕ) → 0 < length t → terms_at s at left k l ≡ got us end → terms_at (s ++ t) at left k l ≡ refused 7 (length s)
+terms-longer : (left : ℕ) (k : Kind) (l : ℕ) (s t : List ℕ) (at : ℕ) (us : List Term) (end : ℕ) → 0 < length t → terms_at s at left k l ≡ got us end → terms_at (s ++ t) at left k l ≡ refused BadRoll (length s)
 unfolding terms_at
 terms-longer zero k l s t at us end some e = by (eqb at (length s)) refl e
   where
-    by : (b : Bool) → eqb at (length s) ≡ b → cond {A = Reading (List Term)} b (got [] at) (refused 7 at) ≡ got us end → cond {A = Reading (List Term)} (eqb at (length (s ++ t))) (got [] at) (refused 7 at) ≡ refused 7 (length s)
+    by : (b : Bool) → eqb at (length s) ≡ b → cond {A = Reading (List Term)} b (got [] at) (refused BadRoll at) ≡ got us end → cond {A = Reading (List Term)} (eqb at (length (s ++ t))) (got [] at) (refused BadRoll at) ≡ refused BadRoll (length s)
     by true is e =
         let here : at ≡ length s = eqb-true at (length s) is in
-        rw (ne_eqb at (length (s ++ t)) (λ same. omega (arith, here, same, some, length-append s t))) (ap (refused 7) here)
+        rw (ne_eqb at (length (s ++ t)) (λ same. omega (arith, here, same, some, length-append s t))) (ap (refused BadRoll) here)
     by false is e = absurd (clash (cc))
 terms-longer (suc left) k l s t at us end some e =
     let x = and_then-is (term_at s at k l) (λ u next. before (u ∷ []) (terms_at s next left k l)) us end e in
@@ -85,7 +88,7 @@ terms-longer (suc left) k l s t at us end some e =
     ap (λ (y : Reading Term). and_then y (λ u next. before (u ∷ []) (terms_at (s ++ t) next left k l))) again
     ∙ ap (before (u ∷ [])) (terms-longer left k l s t next m.0 end some m.1)
 
-roll-longer : (s t : List ℕ) (r : Roll) (end : ℕ) → 0 < length t → roll_at s ≡ got r end → roll_at (s ++ t) ≡ refused 7 (length s)
+roll-longer : (s t : List ℕ) (r : Roll) (end : ℕ) → 0 < length t → roll_at s ≡ got r end → roll_at (s ++ t) ≡ refused BadRoll (length s)
 unfolding roll_at
 roll-longer s t r end some e =
     let x = and_then-is (header_at s) (terms s) r end e in
@@ -112,27 +115,24 @@ begins-no-other s (b ∷ t) r q end last e f = let wrong = roll-longer s (b ∷ 
 
 -- refused 14 at a place that is at most so far
 abbrev pub Ends : ℕ → {A : Type 0} → Reading A → Type 0
-Ends n x = (p : ℕ) × (x ≡ refused 14 p) × (p ≤ n)
+Ends n x = (p : ℕ) × (x ≡ refused CutRoll p) × (p ≤ n)
 
 -- what reads, reads no beginning of it, and is not refused for good there, is cut
 pub cut-ends : {A : Type 0} (X : List ℕ → Reading A) (s : List ℕ) (a : A) (end n : ℕ) → X s ≡ got a end
     → ((b : A) (last : ℕ) → X (take n s) ≡ got b last → ⊥)
-    → ((r p : ℕ) → (r ≡ 14 → ⊥) → X (take n s) ≡ refused r p → X (take n s ++ drop n s) ≡ refused r p)
-    → ((r p : ℕ) → X (take n s) ≡ refused r p → p ≤ length (take n s))
+    → ((r : Refusal) (p : ℕ) → (r ≡ CutRoll → ⊥) → X (take n s) ≡ refused r p → X (take n s ++ drop n s) ≡ refused r p)
+    → ((r : Refusal) (p : ℕ) → X (take n s) ≡ refused r p → p ≤ length (take n s))
     → Ends n (X (take n s))
 cut-ends {A = A} X s a end n e no-got stays inside = by (X (take n s)) refl
   where
     by : (x : Reading A) → X (take n s) ≡ x → Ends n (X (take n s))
     by (got q last) is = absurd (no-got q last is)
-    by (refused q p) is = tested (eqb q 14) on off
+    by (refused q p) is = choose (cut-or-not q)
       where
-        on : eqb q 14 ≡ true → Ends n (X (take n s))
-        on t = let same : q ≡ 14 = eqb-true q 14 t in (p, rw same at is, omega (arith, inside q p is, length-take n s))
+        choose : (q ≡ CutRoll) ⊎ (q ≡ CutRoll → ⊥) → Ends n (X (take n s))
+        choose (inl same) = (p, rw same at is, omega (arith, inside q p is, length-take n s))
+        choose (inr other) = let wrong = rw (take-append-drop n s) at (stays q p other is) in absurd (clash (cc))
 
-        off : eqb q 14 ≡ false → Ends n (X (take n s))
-        off f = let wrong = rw (take-append-drop n s) at (stays q p (eqb-false q 14 f) is) in absurd (clash (cc))
-
--- a beginning of what begins no other is shorter
 pub begins-shorter : (s : List ℕ) (n : ℕ) → n < length s → drop n s ≡ [] → ⊥
 begins-shorter s n less nothing = omega (arith, less, ap length (take-append-drop n s), length-append (take n s) (drop n s), ap length nothing, length-take n s)
 
@@ -162,7 +162,7 @@ header-cut s h next n e less =
 -- ---- as `open` and `check` tell it
 
 -- what does not read `check` refuses, and where
-refused-checked : (s : List ℕ) (r p : ℕ) → roll_at s ≡ refused r p → check_of s ≡ refused_opened r p
+refused-checked : (s : List ℕ) (r : Refusal) (p : ℕ) → roll_at s ≡ refused r p → check_of s ≡ refused_opened r p
 unfolding roll_at check_of
 refused-checked s r p e = by-header (header_at s) refl e
   where
@@ -178,39 +178,39 @@ refused-checked s r p e = by-header (header_at s) refl e
     by-header (refused q o) is e = let number : q ≡ r = cc in let there : o ≡ p = cc in rw (number, there) refl
 
 -- 1: of a roll that is one, every shorter beginning is refused 14, at a place within it
-pub check-cut : (s : List ℕ) (n : ℕ) → (check_of s).found ≡ opening.Roll → n < length s → (p : ℕ) × (check_of (take n s) ≡ refused_opened 14 p) × (p ≤ n)
-check-cut s n found less =
-    let reads = checked-reads s found in
+pub check-cut : (s : List ℕ) (n : ℕ) (o : Opened) → check_of s ≡ Ok o → n < length s → (p : ℕ) × (check_of (take n s) ≡ refused_opened CutRoll p) × (p ≤ n)
+check-cut s n o found less =
+    let reads = checked-reads s o found in
     let cut = roll-cut s reads.0 reads.1 n reads.2 less in
-    (cut.0, refused-checked (take n s) 14 cut.0 cut.1, cut.2)
+    (cut.0, refused-checked (take n s) CutRoll cut.0 cut.1, cut.2)
 
 -- 2: what is refused 7 is refused 7 at the same place whatever bytes are put after it
-pub check-wrong : (s t : List ℕ) (p : ℕ) → (check_of s).found ≡ opening.Refused 7 p → check_of (s ++ t) ≡ refused_opened 7 p
-check-wrong s t p found = refused-checked (s ++ t) 7 p (roll-stays s t 7 p (λ e. clash (cc)) (checked_refused s (check_of s) 7 p refl found))
+pub check-wrong : (s t : List ℕ) (p : ℕ) → check_of s ≡ refused_opened BadRoll p → check_of (s ++ t) ≡ refused_opened BadRoll p
+check-wrong s t p found = refused-checked (s ++ t) BadRoll p (roll-stays s t BadRoll p (λ e. clash (cc)) (checked_refused s (check_of s) (fault BadRoll p) refl found))
 
 -- 3: what is a roll begins no other
-pub check-begins-no-other : (s t : List ℕ) → (check_of s).found ≡ opening.Roll → (check_of (s ++ t)).found ≡ opening.Roll → t ≡ []
-check-begins-no-other s t one two =
-    let a = checked-reads s one in
-    let b = checked-reads (s ++ t) two in
+pub check-begins-no-other : (s t : List ℕ) (o q : Opened) → check_of s ≡ Ok o → check_of (s ++ t) ≡ Ok q → t ≡ []
+check-begins-no-other s t o q one two =
+    let a = checked-reads s o one in
+    let b = checked-reads (s ++ t) q two in
     begins-no-other s t a.0 b.0 a.1 b.1 a.2 b.2
 
 -- the same of the header: cut before its end it is 14, and wrong stays wrong
-pub open-cut : (s : List ℕ) (n : ℕ) → (open_of s).found ≡ opening.Roll → n < (open_of s).cursor.place → (p : ℕ) × (open_of (take n s) ≡ refused_opened 14 p) × (p ≤ n)
+pub open-cut : (s : List ℕ) (n : ℕ) (o : Opened) → open_of s ≡ Ok o → n < o.cursor.place → (p : ℕ) × (open_of (take n s) ≡ refused_opened CutRoll p) × (p ≤ n)
 unfolding open_of
-open-cut s n found less = by (header_at s) refl found less
+open-cut s n o found less = by (header_at s) refl found
   where
-    by : (x : Reading Header) → header_at s ≡ x → (held_header x).found ≡ opening.Roll → n < (held_header x).cursor.place → (p : ℕ) × (held_header (header_at (take n s)) ≡ refused_opened 14 p) × (p ≤ n)
-    by (got h next) is found less = let cut = header-cut s h next n is less in (cut.0, ap held_header cut.1, cut.2)
-    by (refused r p) is found less = absurd (clash (cc))
+    by : (x : Reading Header) → header_at s ≡ x → held_header x ≡ Ok o → (p : ℕ) × (held_header (header_at (take n s)) ≡ refused_opened CutRoll p) × (p ≤ n)
+    by (got h next) is found =
+        let same : opened-of h next ≡ o = cc in
+        let inside : n < next = rw (← same) at less in
+        let cut = header-cut s h next n is inside in (cut.0, ap held_header cut.1, cut.2)
+    by (refused r p) is found = absurd (clash (cc))
 
-pub open-wrong : (s t : List ℕ) (p : ℕ) → (open_of s).found ≡ opening.Refused 7 p → open_of (s ++ t) ≡ refused_opened 7 p
+pub open-wrong : (s t : List ℕ) (p : ℕ) → open_of s ≡ refused_opened BadRoll p → open_of (s ++ t) ≡ refused_opened BadRoll p
 unfolding open_of
 open-wrong s t p found = by (header_at s) refl found
   where
-    by : (x : Reading Header) → header_at s ≡ x → (held_header x).found ≡ opening.Refused 7 p → held_header (header_at (s ++ t)) ≡ refused_opened 7 p
+    by : (x : Reading Header) → header_at s ≡ x → held_header x ≡ refused_opened BadRoll p → held_header (header_at (s ++ t)) ≡ refused_opened BadRoll p
     by (got h next) is found = absurd (clash (cc))
-    by (refused r o) is found =
-        let number : r ≡ 7 = cc in
-        let there : o ≡ p = cc in
-        ap held_header (header-stays s t 7 p (λ e. clash (cc)) (rw (number, there) at is))
+    by (refused r o) is found = let both = err-both found in ap held_header (header-stays s t BadRoll p (λ e. clash (cc)) (rw (both.0, both.1) at is))

@@ -8,30 +8,34 @@ use borrow.Author.Tests.{lt-ltb, le-ltb, ltb-true, ltb-false, leb-true}
 use lib.Dec.{ltb, leb}
 use lib.ListN.{length, get_or}
 use Rattle.laws.proofs.Cases.{clash, or-false-both}
-use Rattle.number.specs.declared.Number.{Number}
-use Rattle.number.specs.declared.Number.TheVariants as number
+use Rattle.laws.proofs.Pairs.{ok-both}
+use Rattle.number.specs.declared.Unread.{Unread}
+use Rattle.std.specs.Prelude.{Err}
+use Rattle.kind.specs.declared.refusals.Fault.{Fault}
+use Rattle.roll.specs.Field.{fault}
+use Rattle.number.specs.Read.{Number}
+use Rattle.number.specs.Read as number
 use Rattle.number.specs.Numbers.{one_byte, read_at, refusal_of}
 use Rattle.number.proofs.Reading.{read_one}
-use Rattle.roll.specs.declared.field.Field.{Field}
-use Rattle.roll.specs.declared.field.Field.TheVariants as field
+use Rattle.roll.specs.Field.{Field}
+use Rattle.roll.specs.Field as field
 use Rattle.roll.specs.Reading.{wrong_place, opened, within_at}
 use Rattle.roll.specs.inner.Over.{Quick}
+use Rattle.kind.specs.declared.refusals.Refusal.TheVariants.{BadRoll}
 
-unread : (at low high : ℕ) (q : Number) (r : ℕ) → ((n next : ℕ) → q ≡ number.Is n next → ⊥) → r ≡ refusal_of q → field.Refused r at ≡ opened q at low high
-unread at low high (number.Is n next) r one e = absurd (one n next refl)
-unread at low high number.Ended r one e = ap (λ (k : ℕ). field.Refused k at) e
-unread at low high number.NotShortest r one e = ap (λ (k : ℕ). field.Refused k at) e
-unread at low high number.TooLarge r one e = ap (λ (k : ℕ). field.Refused k at) e
-
-pub within-unread : (s : List ℕ) (at low high : ℕ) (q : Number) (r : ℕ) → q ≡ read_at s at → ((n next : ℕ) → q ≡ number.Is n next → ⊥) → r ≡ refusal_of q → field.Refused r at ≡ within_at s at low high
+pub within-unread : (s : List ℕ) (at low high : ℕ) (q : Number) (f : Fault) → q ≡ read_at s at → ((n next : ℕ) → q ≡ number.Is n next → ⊥) → ((why : Unread) → q ≡ Err why → f ≡ fault (refusal_of why) at) → Err f ≡ within_at s at low high
 unfolding within_at
-within-unread s at low high q r is one e = unread at low high q r one e ∙ ap (λ (q : Number). opened q at low high) is
+within-unread s at low high q f is none because = by q refl ∙ ap (λ (q : Number). opened q at low high) is
+  where
+    by : (p : Number) → q ≡ p → Err f ≡ opened p at low high
+    by (number.Is n next) e = absurd (none n next e)
+    by (Err why) e = let same = because why e in rw same
 
-pub within_low : (s : List ℕ) (at low high : ℕ) (q : Number) (n next : ℕ) → q ≡ read_at s at → q ≡ number.Is n next → n < low → field.Refused 7 (wrong_place at next) ≡ within_at s at low high
+pub within_low : (s : List ℕ) (at low high : ℕ) (q : Number) (n next : ℕ) → q ≡ read_at s at → q ≡ number.Is n next → n < low → field.Refused BadRoll (wrong_place at next) ≡ within_at s at low high
 unfolding within_at
 within_low s at low high q n next is e below = rw (sym is ∙ e) (simp (lt-ltb n low below))
 
-pub within-high : (s : List ℕ) (at low high : ℕ) (q : Number) (n next : ℕ) → q ≡ read_at s at → q ≡ number.Is n next → low ≤ n → high < n → field.Refused 7 (wrong_place at next) ≡ within_at s at low high
+pub within-high : (s : List ℕ) (at low high : ℕ) (q : Number) (n next : ℕ) → q ≡ read_at s at → q ≡ number.Is n next → low ≤ n → high < n → field.Refused BadRoll (wrong_place at next) ≡ within_at s at low high
 unfolding within_at
 within-high s at low high q n next is e above beyond = rw (sym is ∙ e) (simp (le-ltb n low above, lt-ltb high n beyond))
 
@@ -66,16 +70,13 @@ pub record Taken (s : List ℕ) (at low high n next : ℕ) : Type 0 where
 opened-is : (at low high n next : ℕ) (q : Number) → opened q at low high ≡ field.Is n next → (low ≤ n) × (n ≤ high) × (q ≡ number.Is n next)
 opened-is at low high n next (number.Is m k) e = by (ltb m low || ltb high m) refl e
   where
-    by : (b : Bool) → (ltb m low || ltb high m) ≡ b → cond b (field.Refused 7 (wrong_place at k)) (field.Is m k) ≡ field.Is n next → (low ≤ n) × (n ≤ high) × (number.Is m k ≡ number.Is n next)
+    by : (b : Bool) → (ltb m low || ltb high m) ≡ b → cond b (field.Refused BadRoll (wrong_place at k)) (field.Is m k) ≡ field.Is n next → (low ≤ n) × (n ≤ high) × (number.Is m k ≡ number.Is n next)
     by true t e = absurd (clash (cc))
     by false f e =
         let no = or-false-both (ltb m low) (ltb high m) f in
-        let same : m ≡ n = cc in
-        let place : k ≡ next = cc in
-        (omega (arith, ltb-false m low no.0), omega (arith, ltb-false high m no.1), cc)
-opened-is at low high n next number.Ended e = absurd (clash (cc))
-opened-is at low high n next number.NotShortest e = absurd (clash (cc))
-opened-is at low high n next number.TooLarge e = absurd (clash (cc))
+        let both = ok-both e in
+        (omega (arith, ltb-false m low no.0, both.0), omega (arith, ltb-false high m no.1, both.0), cc)
+opened-is at low high n next (Err why) e = absurd (clash (cc))
 
 pub taken : (s : List ℕ) (at low high : ℕ) (x : Field) (n next : ℕ) → x ≡ within_at s at low high → x ≡ field.Is n next → Taken s at low high n next
 unfolding within_at

@@ -7,9 +7,10 @@ use native.Mathlib.Omega.{arith}
 use lib.ListN.{length, set, take, replicate, length-set, length-replicate}
 use lib.Seq.{take-suc-set, set_at, append_snoc, length-take-le}
 use Rattle.laws.proofs.Cases.{clash}
-use Rattle.roll.specs.declared.field.Field.{Field}
-use Rattle.roll.specs.declared.field.Field.TheVariants as field
+use Rattle.roll.specs.Field.{Field}
+use Rattle.roll.specs.Field as field
 use Rattle.roll.specs.Reading.{Reading, got, refused, onward, and_then, before}
+use Rattle.std.specs.Prelude.{Err}
 
 -- ---- an array filled from the front
 
@@ -55,7 +56,7 @@ before-is x (refused r place) ys next e = absurd (clash (cc))
 
 pub onward-is : {A : Type 0} (x : Field) (f : ℕ → ℕ → Reading A) (a : A) (end : ℕ) → onward x f ≡ got a end → (n : ℕ) × (next : ℕ) × (x ≡ field.Is n next) × (f n next ≡ got a end)
 onward-is (field.Is n next) f a end e = (n, next, refl, e)
-onward-is (field.Refused r place) f a end e = absurd (clash (cc))
+onward-is (Err why) f a end e = absurd (clash (cc))
 
 pub and_then-is : {A B : Type 0} (x : Reading A) (f : A → ℕ → Reading B) (b : B) (end : ℕ) → and_then x f ≡ got b end → (a : A) × (next : ℕ) × (x ≡ got a next) × (f a next ≡ got b end)
 and_then-is (got a next) f b end e = (a, next, refl, e)

@@ -12,24 +12,24 @@ use Rattle.kind.specs.Limits.{most_order, most_terms, request_orders}
 use Rattle.kind.specs.Kinds.{kind_of, number_of, orders_of}
 use Rattle.kind.specs.declared.Kind.{Kind}
 use Rattle.kind.specs.declared.Kind.TheVariants.{Coulomb}
-use Rattle.kind.specs.declared.Named.{Named}
-use Rattle.kind.specs.declared.Named.TheVariants as named
 use Rattle.laws.proofs.Cases.{clash}
 use Rattle.laws.proofs.Totals.{total-last}
 use Rattle.kind.proofs.Within.{orders-within}
-use Rattle.roll.specs.declared.field.Field.{Field}
-use Rattle.roll.specs.declared.field.Field.TheVariants as field
+use Rattle.roll.specs.Field.{Field}
+use Rattle.roll.specs.Field as field
 use Rattle.roll.specs.declared.header.ReadOrders.{ReadOrders}
-use Rattle.roll.specs.declared.header.Opening.TheVariants as opening
 use Rattle.roll.specs.declared.header.Opened.{Opened}
-use Rattle.roll.specs.declared.cursor.Cursor.{Cursor}
 use Rattle.laws.specs.Total.{total}
 use Rattle.roll.specs.Reading.{Reading, got, refused, onward, and_then, before, within_at, sum_after, orders_at, counted_at, of_kind, header_at}
-use Rattle.roll.specs.Cursor.{no_cursor}
 use Rattle.roll.specs.Header.{refused_opened, held_header, open_kind_of, open_of}
-use Rattle.roll.specs.inner.Held.{held_orders, counted_from, open_counted, FewOrders}
+use Rattle.roll.specs.inner.Held.{held_orders, counted_from}
 use Rattle.roll.proofs.FieldLaws.{taken-below}
 use Rattle.roll.proofs.Filling.{Filled, filled_none, filled_more, taken_more, before-none, before_more, before-is, onward-is}
+use Rattle.std.specs.Prelude.{Option, Some, None, Result, Ok, Err}
+use Rattle.kind.specs.declared.refusals.Fault.{Fault}
+use Rattle.kind.proofs.Faults.{err-is}
+use Rattle.roll.specs.Field.{fault}
+use Rattle.kind.specs.declared.refusals.Refusal.TheVariants.{BadRoll}
 
 -- ---- the orders
 
@@ -90,16 +90,16 @@ ordering-more s at n values place sum l i x o next r f less is e again =
 pub ordering-fits : (s : List ℕ) (at n : ℕ) (values : List ℕ) (place sum l i : ℕ) (x : Field) (o next : ℕ) → Ordering s at n values place sum l i → i < n → x ≡ within_at s place 0 (most_order - sum) → x ≡ field.Is o next → l + o ≤ most_order * request_orders
 ordering-fits s at n values place sum l i x o next f less is e = omega (arith, f.few, f.small, f.places, taken-below s place 0 (most_order - sum) x o next is e)
 
-pub ordering-refused : (s : List ℕ) (at n : ℕ) (values : List ℕ) (place sum l i : ℕ) (x : Field) (r wrong : ℕ) (y : ReadOrders) → Ordering s at n values place sum l i → i < n → x ≡ within_at s place 0 (most_order - sum) → x ≡ field.Refused r wrong → y ≡ held_orders (refused r wrong) → y ≡ held_orders (orders_at s at n 0 0)
-ordering-refused s at n values place sum l i x r wrong y f less is e answer =
-    let rest : orders_at s place (n - i) i sum ≡ refused r wrong = rw e at (turn s place n sum i x less is) in
-    answer ∙ ap held_orders (ap (before (take i values)) (sym rest) ∙ f.whole)
+pub ordering-refused : (s : List ℕ) (at n : ℕ) (values : List ℕ) (place sum l i : ℕ) (x : Field) (why : Fault) → Ordering s at n values place sum l i → i < n → x ≡ within_at s place 0 (most_order - sum) → x ≡ Err why → Err why ≡ held_orders (orders_at s at n 0 0)
+ordering-refused s at n values place sum l i x why f less is e =
+    let rest : orders_at s place (n - i) i sum ≡ refused why.refusal why.place = rw e at (turn s place n sum i x less is) in
+    ap held_orders (ap (before (take i values)) (sym rest) ∙ f.whole)
 
 no_more : (s : List ℕ) (place n i sum : ℕ) → n ≡ 0 → orders_at s place n i sum ≡ got [] place
 unfolding orders_at
 no_more s place n i sum none = rw none
 
-pub ordering-done : (s : List ℕ) (at n : ℕ) (values : List ℕ) (place sum l i : ℕ) → Ordering s at n values place sum l i → n ≤ i → record { found = field.Is l place; values = values } ≡ held_orders (orders_at s at n 0 0)
+pub ordering-done : (s : List ℕ) (at n : ℕ) (values : List ℕ) (place sum l i : ℕ) → Ordering s at n values place sum l i → n ≤ i → Ok (record { values = values; l = l; end = place }) ≡ held_orders (orders_at s at n 0 0)
 ordering-done s at n values place sum l i f done =
     let none = no_more s place (n - i) i sum (omega arith) in
     let whole : got (take i values ++ []) place ≡ orders_at s at n 0 0 = ap (before (take i values)) (sym none) ∙ f.whole in
@@ -107,56 +107,57 @@ ordering-done s at n values place sum l i f done =
     let long : length (take i values) ≡ i = length-take-le i values (omega (arith, f.filled.long, f.places, f.inside)) in
     let zeros = f.filled.zeros in
     let sums = f.sums in
-    let held : record { found = field.Is l place; values = values } ≡ held_orders (got (take i values) place) = cc (long, zeros, sums) in
+    let held : Ok (record { values = values; l = l; end = place }) ≡ held_orders (got (take i values) place) = cc (long, zeros, sums) in
     held ∙ ap held_orders got-all
 
--- ---- a refusal
+-- ---- the kind and the term count
 
-pub refused-made : (r place : ℕ) (n : Cursor) → n ≡ no_cursor → ◌≡◌ {A = Opened} (record { found = opening.Refused r place; cursor = n; orders = replicate request_orders 0 }) (refused_opened r place)
-refused-made r place n e = rw e
-
--- ---- the term count
-
-pub open_made : (k : Kind) (read : ReadOrders) (s : List ℕ) (l at : ℕ) (x : Field) (terms place n : ℕ) → read.found ≡ field.Is l at → x ≡ within_at s at 1 most_terms → x ≡ field.Is terms place → n ≡ number_of k → record { found = opening.Roll; cursor = record { place = place; left = terms; kind = n; l = l }; orders = read.values } ≡ open_counted k read s
-open_made k read s l at x terms place n found is e number = rw (found, ← is, e, number)
-
-pub open-uncounted : (k : Kind) (read : ReadOrders) (s : List ℕ) (l at : ℕ) (x : Field) (r place : ℕ) (y : Opened) → read.found ≡ field.Is l at → x ≡ within_at s at 1 most_terms → x ≡ field.Refused r place → y ≡ refused_opened r place → y ≡ open_counted k read s
-open-uncounted k read s l at x r place y found is e answer = answer ∙ rw (found, ← is, e)
-
-pub open-unordered : (k : Kind) (read : ReadOrders) (s : List ℕ) (r place : ℕ) (y : Opened) → read.found ≡ field.Refused r place → y ≡ refused_opened r place → y ≡ open_counted k read s
-open-unordered k read s r place y found answer = answer ∙ rw found
-
--- ---- the kind
-
-counted_is : (k : Kind) (os : List ℕ) (f : Field) → counted_from k (total os) (os ++ replicate (request_orders - length os) 0) f ≡ held_header (onward f (λ count next. got (record { kind = k; orders = os; terms = count }) next))
-counted_is k os (field.Is n next) = refl
-counted_is k os (field.Refused r place) = refl
-
-open-counted : (k : Kind) (s : List ℕ) (x : Reading (List ℕ)) → open_counted k (held_orders x) s ≡ held_header (and_then x (λ orders next. counted_at s next k orders))
+-- a header of the orders that were read is the header that the definition reads
+orders-are : (s : List ℕ) (k : Kind) (x : Reading (List ℕ)) (read : ReadOrders) → held_orders x ≡ Ok read → held_header (and_then x (λ orders next. counted_at s next k orders)) ≡ counted_from k read (within_at s read.end 1 most_terms)
 unfolding counted_at
-open-counted k s (got os next) = counted_is k os (within_at s next 1 most_terms)
-open-counted k s (refused r place) = refl
+orders-are s k (got os next) read e =
+    let same : record { values = os ++ replicate (request_orders - length os) 0; l = total os; end = next } ≡ read = cc in
+    by (within_at s next 1 most_terms) ∙ ap (λ (r : ReadOrders). counted_from k r (within_at s r.end 1 most_terms)) same
+  where
+    by : (f : Field) → held_header (onward f (λ count next. got (record { kind = k; orders = os; terms = count }) next)) ≡ counted_from k (record { values = os ++ replicate (request_orders - length os) 0; l = total os; end = next }) f
+    by (field.Is n end) = refl
+    by (Err why) = refl
+orders-are s k (refused r place) read e = absurd (clash (cc))
 
-pub kind-opened : (k : Kind) (s : List ℕ) (at count : ℕ) (read : ReadOrders) (y : Opened) → count ≡ orders_of k → read ≡ held_orders (orders_at s at count 0 0) → y ≡ open_counted k read s → y ≡ open_kind_of s at k
+orders-not : (s : List ℕ) (k : Kind) (x : Reading (List ℕ)) (why : Fault) → held_orders x ≡ Err why → Err why ≡ held_header (and_then x (λ orders next. counted_at s next k orders))
+orders-not s k (got os next) why e = absurd (clash (cc))
+orders-not s k (refused r place) why e = let same = err-is (fault r place) why e in rw same
+
+pub kind-opened : (k : Kind) (s : List ℕ) (at n number : ℕ) (y : Result ReadOrders Fault) (read : ReadOrders) (x : Field) (terms place : ℕ) → n ≡ orders_of k → y ≡ held_orders (orders_at s at n 0 0) → y ≡ Ok read → x ≡ within_at s read.end 1 most_terms → x ≡ field.Is terms place → number ≡ number_of k → Ok (record { cursor = record { place = place; left = terms; kind = number; l = read.l }; orders = read.values }) ≡ open_kind_of s at k
 unfolding open_kind_of
-kind-opened k s at count read y counted held answer =
-    answer ∙ ap (λ (r : ReadOrders). open_counted k r s) (held ∙ ap (λ (c : ℕ). held_orders (orders_at s at c 0 0)) counted)
-    ∙ open-counted k s (orders_at s at (orders_of k) 0 0)
+kind-opened k s at n number y read x terms place many is ok count e kind =
+    let counted : counted_from k read (within_at s read.end 1 most_terms) ≡ counted_from k read (field.Is terms place) = ap (counted_from k read) (sym count ∙ e) in
+    rw kind (sym counted) ∙ sym (orders-are s k (orders_at s at (orders_of k) 0 0) read (rw many at (sym is ∙ ok)))
 
-pub open-kind : (s : List ℕ) (most : ℕ) (x : Field) (n next : ℕ) (m : Named) (k : Kind) (y : Opened) → most ≡ number_of Coulomb → x ≡ within_at s 0 0 most → x ≡ field.Is n next → m ≡ kind_of n → m ≡ named.Is k → y ≡ open_kind_of s next k → y ≡ open_of s
+pub kind-uncounted : (k : Kind) (s : List ℕ) (at n : ℕ) (y : Result ReadOrders Fault) (read : ReadOrders) (x : Field) (why : Fault) → n ≡ orders_of k → y ≡ held_orders (orders_at s at n 0 0) → y ≡ Ok read → x ≡ within_at s read.end 1 most_terms → x ≡ Err why → Err why ≡ open_kind_of s at k
+unfolding open_kind_of
+kind-uncounted k s at n y read x why many is ok count e =
+    let counted : counted_from k read (within_at s read.end 1 most_terms) ≡ Err why = ap (counted_from k read) (sym count ∙ e) in
+    sym counted ∙ sym (orders-are s k (orders_at s at (orders_of k) 0 0) read (rw many at (sym is ∙ ok)))
+
+pub kind-unordered : (k : Kind) (s : List ℕ) (at n : ℕ) (y : Result ReadOrders Fault) (why : Fault) → n ≡ orders_of k → y ≡ held_orders (orders_at s at n 0 0) → y ≡ Err why → Err why ≡ open_kind_of s at k
+unfolding open_kind_of
+kind-unordered k s at n y why many is err = orders-not s k (orders_at s at (orders_of k) 0 0) why (rw many at (sym is ∙ err))
+
+pub open-kind : (s : List ℕ) (most : ℕ) (x : Field) (n next : ℕ) (m : Option Kind) (k : Kind) (y : Result Opened Fault) → most ≡ number_of Coulomb → x ≡ within_at s 0 0 most → x ≡ field.Is n next → m ≡ kind_of n → m ≡ Some k → y ≡ open_kind_of s next k → y ≡ open_of s
 unfolding open_of open_kind_of header_at
 open-kind s most x n next m k y limit is e kind e' answer =
     answer
-    ∙ sym (ap (λ (m : Named). held_header (of_kind s next m)) (sym kind ∙ e'))
+    ∙ sym (ap (λ (m : Option Kind). held_header (of_kind s next m)) (sym kind ∙ e'))
     ∙ sym (ap (λ (f : Field). held_header (onward f (λ n next. of_kind s next (kind_of n)))) (ap (within_at s 0 0) (sym limit) ∙ sym is ∙ e))
 
-pub open_unknown : (s : List ℕ) (most : ℕ) (x : Field) (n next : ℕ) (m : Named) (y : Opened) → most ≡ number_of Coulomb → x ≡ within_at s 0 0 most → x ≡ field.Is n next → m ≡ kind_of n → m ≡ named.Unknown → y ≡ refused_opened 7 0 → y ≡ open_of s
+pub open_unknown : (s : List ℕ) (most : ℕ) (x : Field) (n next : ℕ) (m : Option Kind) → most ≡ number_of Coulomb → x ≡ within_at s 0 0 most → x ≡ field.Is n next → m ≡ kind_of n → m ≡ None → refused_opened BadRoll 0 ≡ open_of s
 unfolding open_of header_at
-open_unknown s most x n next m y limit is e kind e' answer = answer ∙ rw (← limit, ← is, e, ← kind, e')
+open_unknown s most x n next m limit is e kind e' = rw (← limit, ← is, e, ← kind, e')
 
-pub open-unread : (s : List ℕ) (most : ℕ) (x : Field) (r place : ℕ) (y : Opened) → most ≡ number_of Coulomb → x ≡ within_at s 0 0 most → x ≡ field.Refused r place → y ≡ refused_opened r place → y ≡ open_of s
+pub open-unread : (s : List ℕ) (most : ℕ) (x : Field) (why : Fault) → most ≡ number_of Coulomb → x ≡ within_at s 0 0 most → x ≡ Err why → Err why ≡ open_of s
 unfolding open_of header_at
-open-unread s most x r place y limit is e answer = answer ∙ rw (← limit, ← is, e)
+open-unread s most x why limit is e = rw (← limit, ← is, e)
 
 pub orders-places : (k : Kind) (n : ℕ) → n ≡ orders_of k → n ≤ request_orders
 orders-places k n e = omega (arith, orders-within k)
@@ -170,14 +171,15 @@ orders-total (suc n) i sum s at os next small e =
     let below = taken-below s at 0 (most_order - sum) (within_at s at 0 (most_order - sum)) o.0 o.1 refl o.2 in
     rw b.2 (omega (arith, orders-total n (i + 1) (sum_after i sum o.0) s o.1 b.0 next (sum-small i sum o.0 small below) b.1))
 
-held-total : (x : Reading (List ℕ)) (most : ℕ) → ((os : List ℕ) (next : ℕ) → x ≡ got os next → total os ≤ most) → (l next : ℕ) → (held_orders x).found ≡ field.Is l next → l ≤ most
-held-total (got os m) most few l next e = let same : total os ≡ l = cc in omega (arith, few os m refl)
-held-total (refused r place) most few l next e = absurd (clash (cc))
-
-pub few-orders : (n : ℕ) (s : List ℕ) (at : ℕ) (read : ReadOrders) → n ≤ request_orders → read ≡ held_orders (orders_at s at n 0 0) → FewOrders read
-few-orders n s at read few is l next e =
-    let most : l ≤ most_order * n = held-total (orders_at s at n 0 0) (most_order * n) (λ os m h. orders-total n 0 0 s at os m (omega arith) h) l next (ap (λ (r : ReadOrders). r.found) (sym is) ∙ e) in
-    omega arith
+pub orders-few : (n : ℕ) (s : List ℕ) (at : ℕ) (y : Result ReadOrders Fault) (read : ReadOrders) → n ≤ request_orders → y ≡ held_orders (orders_at s at n 0 0) → y ≡ Ok read → read.l ≤ most_order * request_orders
+orders-few n s at y read few is ok = by (orders_at s at n 0 0) (λ os m h. orders-total n 0 0 s at os m (omega arith) h) (sym is ∙ ok)
+  where
+    by : (x : Reading (List ℕ)) → ((os : List ℕ) (next : ℕ) → x ≡ got os next → total os ≤ most_order * n) → held_orders x ≡ Ok read → read.l ≤ most_order * request_orders
+    by (got os next) most e =
+        let same : record { values = os ++ replicate (request_orders - length os) 0; l = total os; end = next } ≡ read = cc in
+        let sum : total os ≡ read.l = ap (λ (r : ReadOrders). r.l) same in
+        omega (arith, most os next refl)
+    by (refused r place) most e = absurd (clash (cc))
 
 -- as many orders as were asked for
 pub orders-length : (n i sum : ℕ) (s : List ℕ) (at : ℕ) (os : List ℕ) (next : ℕ) → orders_at s at n i sum ≡ got os next → length os ≡ n

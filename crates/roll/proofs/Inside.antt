@@ -9,8 +9,6 @@ use Rattle.kind.specs.Limits.{most_order, most_scale, most_terms}
 use Rattle.kind.specs.Kinds.{kind_of, number_of, orders_of, table_of, most_l, most_prefactors}
 use Rattle.kind.specs.declared.Kind.{Kind}
 use Rattle.kind.specs.declared.Kind.TheVariants.{Overlap, Kinetic, Nuclear, Moment, Coulomb}
-use Rattle.kind.specs.declared.Named.{Named}
-use Rattle.kind.specs.declared.Named.TheVariants as named
 use Rattle.kind.proofs.KindNumber.{number-kind}
 use Rattle.laws.proofs.Cases.{clash}
 use Rattle.number.proofs.Reading.{read-inside}
@@ -20,6 +18,7 @@ use Rattle.roll.specs.Reading.{got, and_then, before, within_at, prefactors_at, 
 use Rattle.roll.proofs.FieldLaws.{Taken, taken}
 use Rattle.roll.proofs.Filling.{before-is, onward-is, and_then-is}
 use Rattle.roll.proofs.TermsLaws.{prefactors-length}
+use Rattle.std.specs.Prelude.{Option, Some, None}
 
 pub taken-inside : (s : List ℕ) (at low high n next : ℕ) → Taken s at low high n next → (at < next) × (next ≤ length s)
 taken-inside s at low high n next t = read-inside s at n next t.read
@@ -93,15 +92,15 @@ counted-read k orders s at h next e =
     )
 
 -- a header from its orders on
-pub kind-read : (m : Named) (n : ℕ) (s : List ℕ) (at : ℕ) (h : Header) (next : ℕ) → kind_of n ≡ m → of_kind s at m ≡ got h next → (n ≡ number_of h.kind) × ((b : ℕ) × (orders_at s at (orders_of h.kind) 0 0 ≡ got h.orders b) × Taken s b 1 most_terms h.terms next)
-kind-read (named.Is k) n s at h next is e =
+pub kind-read : (m : Option Kind) (n : ℕ) (s : List ℕ) (at : ℕ) (h : Header) (next : ℕ) → kind_of n ≡ m → of_kind s at m ≡ got h next → (n ≡ number_of h.kind) × ((b : ℕ) × (orders_at s at (orders_of h.kind) 0 0 ≡ got h.orders b) × Taken s b 1 most_terms h.terms next)
+kind-read (Some k) n s at h next is e =
     let x = and_then-is (orders_at s at (orders_of k) 0 0) (λ orders m. counted_at s m k orders) h next e in
     let c = counted-read k x.0 s x.1 h next x.3 in
     let kind : h.kind ≡ k = c.0 in (
       number-kind n k is ∙ ap number_of (sym kind),
       (x.1, ap (λ (count : ℕ). orders_at s at count 0 0) (ap orders_of kind) ∙ x.2 ∙ ap (λ (l : List ℕ). got l x.1) (sym c.1), c.2),
     )
-kind-read named.Unknown n s at h next is e = absurd (clash (cc))
+kind-read None n s at h next is e = absurd (clash (cc))
 
 pub header_read : (s : List ℕ) (h : Header) (next : ℕ) → header_at s ≡ got h next → HeaderRead s h next
 unfolding header_at

@@ -2,32 +2,32 @@
 use Prim.Native.Nat.{ℕ, zero, suc, ◌-◌, ◌≤◌, ◌<◌}
 use mathlib.Core.Path.{◌≡◌, refl, sym, ap, ◌∙◌}
 use mathlib.Core.Bool.{Bool, true, false, cond}
-use mathlib.Core.List.{List, [], ◌∷◌}
+use mathlib.Core.List.{List, [], ◌∷◌, ◌++◌}
 use native.Mathlib.Omega.{arith}
 use native.Mathlib.Nat.{not-suc-le-zero}
 use borrow.Author.Tests.{le-ltb}
 use lib.Dec.{eqb}
-use lib.ListN.{length}
-use Rattle.kind.specs.Kinds.{kind_of, table_of, most_l, most_prefactors}
+use lib.ListN.{length, replicate}
+use Rattle.kind.specs.Limits.{request_orders}
+use Rattle.kind.specs.Kinds.{kind_of, most_l}
 use Rattle.kind.specs.declared.Kind.{Kind}
-use Rattle.kind.specs.declared.Named.{Named}
-use Rattle.kind.specs.declared.Named.TheVariants as named
 use Rattle.kind.proofs.KindNumber.{kind-number}
 use Rattle.laws.proofs.Cases.{clash}
 use Rattle.term.specs.Terms.{Term}
 use Rattle.roll.specs.declared.cursor.Cursor.{Cursor}
-use Rattle.roll.specs.declared.field.Field.{Field}
-use Rattle.roll.specs.declared.field.Field.TheVariants as field
-use Rattle.roll.specs.declared.header.Opening.TheVariants as opening
 use Rattle.roll.specs.declared.header.Opened.{Opened}
-use Rattle.roll.specs.Reading.{Reading, got, refused, and_then, before, most_boys, term_at, terms_at, Header, header_at}
+use Rattle.roll.specs.Reading.{Reading, got, refused, and_then, before, term_at, terms_at, Header, header_at}
 use Rattle.roll.specs.Cursor.{step_with, step_as, step_of}
-use Rattle.roll.specs.Header.{refused_opened, cursor_at, held_header, open_of, checked, check_of}
-use Rattle.roll.specs.inner.Judged.{judged_as, Honest}
-use Rattle.roll.specs.inner.Over.{terms_over, judged_over}
-use Rattle.roll.proofs.OverLaws.{went-over}
+use Rattle.roll.specs.Header.{cursor_at, held_header, open_of, judged, checked, check_of}
+use Rattle.roll.specs.inner.Judged.{Honest}
+use Rattle.roll.specs.inner.Over.{over_of}
 use Rattle.roll.proofs.Filling.{before-is, and_then-is}
 use Rattle.roll.proofs.Inside.{header_read, header-inside, orders-most}
+use Rattle.std.specs.Prelude.{⊤, Option, Some, None, Result, Ok, Err}
+use Rattle.kind.specs.declared.refusals.Fault.{Fault}
+use Rattle.kind.proofs.Faults.{err-is}
+use Rattle.roll.specs.Field.{fault}
+use Rattle.kind.specs.declared.refusals.Refusal.TheVariants.{BadRoll}
 
 -- ---- one term of many
 
@@ -36,11 +36,11 @@ unfolding terms_at
 terms-turn zero k l s at x some e = absurd (not-suc-le-zero some)
 terms-turn (suc left) k l s at x some e = let less : suc left - 1 ≡ left = omega arith in rw (less, e)
 
-pub terms-none : (left : ℕ) (k : Kind) (l : ℕ) (s : List ℕ) (at : ℕ) → left ≡ 0 → terms_at s at left k l ≡ cond (eqb at (length s)) (got [] at) (refused 7 at)
+pub terms-none : (left : ℕ) (k : Kind) (l : ℕ) (s : List ℕ) (at : ℕ) → left ≡ 0 → terms_at s at left k l ≡ cond (eqb at (length s)) (got [] at) (refused BadRoll at)
 unfolding terms_at
 terms-none left k l s at e = rw e
 
-pub none_left : (at : ℕ) (ts : List Term) (end : ℕ) (b : Bool) → cond b (got [] at) (refused 7 at) ≡ got ts end → ts ≡ []
+pub none_left : (at : ℕ) (ts : List Term) (end : ℕ) (b : Bool) → cond b (got [] at) (refused BadRoll at) ≡ got ts end → ts ≡ []
 none_left at ts end true e = cc
 none_left at ts end false e = absurd (clash (cc))
 
@@ -58,58 +58,72 @@ terms-count (suc left) k l s at ts end e =
 pub honest-step : (c : Cursor) (s : List ℕ) (h : Honest c s) → step_of c s ≡ step_with h.kind c s
 unfolding step_of
 honest-step c s h =
-    ap (λ (n : Named). step_as n c s) h.is
+    ap (λ (n : Option Kind). step_as n c s) h.is
     ∙ simp (le-ltb (most_l h.kind) c.l h.small, le-ltb (length s) c.place h.inside)
-
--- ---- the terms of a kind, gone over
-
-pub judge-went : (k : Kind) (o : Opened) (s : List ℕ) (boys most table : ℕ) (x : Field) (n next : ℕ) → boys ≡ most_boys k o.cursor.l → most ≡ most_prefactors k o.cursor.l → table ≡ table_of k → x ≡ terms_over s o.cursor.place o.cursor.left boys most table → x ≡ field.Is n next → o ≡ judged_as (named.Is k) o o.cursor s
-judge-went k o s boys most table x n next b m t is e =
-    ap (λ (y : Field). judged_over o y) (sym e) ∙ went-over k o o.cursor.left o.cursor.l s o.cursor.place boys most table x b m t is
-
-pub judge-stopped : (k : Kind) (o : Opened) (s : List ℕ) (boys most table : ℕ) (x : Field) (r place : ℕ) (y : Opened) → boys ≡ most_boys k o.cursor.l → most ≡ most_prefactors k o.cursor.l → table ≡ table_of k → x ≡ terms_over s o.cursor.place o.cursor.left boys most table → x ≡ field.Refused r place → y ≡ refused_opened r place → y ≡ judged_as (named.Is k) o o.cursor s
-judge-stopped k o s boys most table x r place y b m t is e answer =
-    answer ∙ ap (λ (y : Field). judged_over o y) (sym e) ∙ went-over k o o.cursor.left o.cursor.l s o.cursor.place boys most table x b m t is
-
--- an honest cursor's L is within its kind's
-pub judge-small : (o : Opened) (s : List ℕ) (n : Named) (k : Kind) → Honest o.cursor s → n ≡ kind_of o.cursor.kind → n ≡ named.Is k → o.cursor.l ≤ most_l k
-judge-small o s n k h is e = let same : h.kind ≡ k = one h.kind k (sym h.is ∙ sym is ∙ e) in rw same at h.small
-  where
-    one : (a b : Kind) → named.Is a ≡ named.Is b → a ≡ b
-    one a b e = cc
-
-pub judge-kind : (o : Opened) (s : List ℕ) (n : Named) (k : Kind) (y : Opened) → n ≡ kind_of o.cursor.kind → n ≡ named.Is k → y ≡ judged_as (named.Is k) o o.cursor s → y ≡ judged_as (kind_of o.cursor.kind) o o.cursor s
-judge-kind o s n k y is e answer = answer ∙ ap (λ (m : Named). judged_as m o o.cursor s) (sym e ∙ is)
-
-pub judge-unknown : (o : Opened) (s : List ℕ) (n : Named) (y : Opened) → n ≡ kind_of o.cursor.kind → n ≡ named.Unknown → y ≡ refused_opened 7 o.cursor.place → y ≡ judged_as (kind_of o.cursor.kind) o o.cursor s
-judge-unknown o s n y is e answer = answer ∙ ap (λ (m : Named). judged_as m o o.cursor s) (sym e ∙ is)
 
 -- ---- from the header on
 
-header-honest : (s : List ℕ) (x : Reading Header) → header_at s ≡ x → (held_header x).found ≡ opening.Roll → Honest (held_header x).cursor s
-header-honest s (got h next) e found =
+abbrev opened-of : Header → ℕ → Opened
+opened-of h next = record { cursor = cursor_at h next; orders = h.orders ++ replicate (request_orders - length h.orders) 0 }
+
+-- the header's cursor is honest
+header-honest : (s : List ℕ) (x : Reading Header) (o : Opened) → header_at s ≡ x → held_header x ≡ Ok o → Honest o.cursor s
+header-honest s (got h next) o e ok =
     let r = header_read s h next e in
-    record { kind = h.kind; is = kind-number h.kind; small = orders-most h.kind s r.a h.orders r.b r.orders; inside = header-inside s h next r }
-header-honest s (refused r place) e found = absurd (clash (cc))
+    let same : opened-of h next ≡ o = cc in
+    rw (← same) (record { kind = h.kind; is = kind-number h.kind; small = orders-most h.kind s r.a h.orders r.b r.orders; inside = header-inside s h next r })
+header-honest s (refused r place) o e ok = absurd (clash (cc))
 
-pub check-honest : (s : List ℕ) (o : Opened) → o ≡ open_of s → o.found ≡ opening.Roll → Honest o.cursor s
+pub open-honest : (s : List ℕ) (y : Result Opened Fault) (o : Opened) → y ≡ open_of s → y ≡ Ok o → Honest o.cursor s
 unfolding open_of
-check-honest s o is e = rw is (header-honest s (header_at s) refl (ap (λ (o : Opened). o.found) (sym is) ∙ e))
+open-honest s y o is ok = header-honest s (header_at s) o refl (sym is ∙ ok)
 
-header-checked : (s : List ℕ) (x : Reading Header) → (held_header x).found ≡ opening.Roll → judged_as (kind_of (held_header x).cursor.kind) (held_header x) (held_header x).cursor s ≡ checked s x
-header-checked s (got h next) found = ap (λ (n : Named). judged_as n (held_header (got h next)) (cursor_at h next) s) (kind-number h.kind)
-header-checked s (refused r place) found = absurd (clash (cc))
+-- an honest cursor's L is within its kind's
+honest-small : (c : Cursor) (s : List ℕ) (n : Option Kind) (k : Kind) → Honest c s → n ≡ kind_of c.kind → n ≡ Some k → c.l ≤ most_l k
+honest-small c s n k h is e = let same : h.kind ≡ k = one h.kind k (sym h.is ∙ sym is ∙ e) in rw same at h.small
+  where
+    one : (a b : Kind) → Some a ≡ Some b → a ≡ b
+    one a b e = cc
 
-pub check-judged : (s : List ℕ) (o y : Opened) → o ≡ open_of s → o.found ≡ opening.Roll → y ≡ judged_as (kind_of o.cursor.kind) o o.cursor s → y ≡ check_of s
+pub judge-small : (s : List ℕ) (y : Result Opened Fault) (o : Opened) (n : Option Kind) (k : Kind) → y ≡ open_of s → y ≡ Ok o → n ≡ kind_of o.cursor.kind → n ≡ Some k → o.cursor.l ≤ most_l k
+judge-small s y o n k is ok kind e = honest-small o.cursor s n k (open-honest s y o is ok) kind e
+
+-- what a header that reads is judged by
+header-judged : (s : List ℕ) (x : Reading Header) (o : Opened) (n : Option Kind) (k : Kind) → held_header x ≡ Ok o → n ≡ kind_of o.cursor.kind → n ≡ Some k → checked s x ≡ judged (Ok o) (terms_at s o.cursor.place o.cursor.left k o.cursor.l)
+header-judged s (got h next) o n k ok is e =
+    let same : opened-of h next ≡ o = cc in
+    let kind : Some h.kind ≡ Some k = sym (kind-number h.kind) ∙ ap (λ (o : Opened). kind_of o.cursor.kind) same ∙ sym is ∙ e in
+    let same-kind : h.kind ≡ k = one h.kind k kind in
+    rw (← same, ← same-kind)
+  where
+    one : (a b : Kind) → Some a ≡ Some b → a ≡ b
+    one a b e = cc
+header-judged s (refused r place) o n k ok is e = absurd (clash (cc))
+
+pub check-read : (s : List ℕ) (y : Result Opened Fault) (o : Opened) (n : Option Kind) (k : Kind) (x : Result ⊤ Fault) (u : ⊤) → y ≡ open_of s → y ≡ Ok o → n ≡ kind_of o.cursor.kind → n ≡ Some k → x ≡ over_of (terms_at s o.cursor.place o.cursor.left k o.cursor.l) → x ≡ Ok u → Ok o ≡ check_of s
 unfolding open_of check_of
-check-judged s o y is e answer =
-    let roll : (held_header (header_at s)).found ≡ opening.Roll = ap (λ (o : Opened). o.found) (sym is) ∙ e in
-    answer ∙ ap (λ (o : Opened). judged_as (kind_of o.cursor.kind) o o.cursor s) is ∙ header-checked s (header_at s) roll
+check-read s y o n k x u is ok kind e went all = by (terms_at s o.cursor.place o.cursor.left k o.cursor.l) (sym went ∙ all) ∙ sym (header-judged s (header_at s) o n k (sym is ∙ ok) kind e)
+  where
+    by : (z : Reading (List Term)) → over_of z ≡ Ok u → Ok o ≡ judged (Ok o) z
+    by (got ts end) f = refl
+    by (refused r place) f = absurd (clash (cc))
 
-header_refused : (s : List ℕ) (x : Reading Header) (r place : ℕ) → (held_header x).found ≡ opening.Refused r place → held_header x ≡ checked s x
-header_refused s (got h next) r place found = absurd (clash (cc))
-header_refused s (refused r' place') r place found = refl
-
-pub check-refused : (s : List ℕ) (o : Opened) (r place : ℕ) → o ≡ open_of s → o.found ≡ opening.Refused r place → o ≡ check_of s
+pub check-stopped : (s : List ℕ) (y : Result Opened Fault) (o : Opened) (n : Option Kind) (k : Kind) (x : Result ⊤ Fault) (why : Fault) → y ≡ open_of s → y ≡ Ok o → n ≡ kind_of o.cursor.kind → n ≡ Some k → x ≡ over_of (terms_at s o.cursor.place o.cursor.left k o.cursor.l) → x ≡ Err why → Err why ≡ check_of s
 unfolding open_of check_of
-check-refused s o r place is e = is ∙ header_refused s (header_at s) r place (ap (λ (o : Opened). o.found) (sym is) ∙ e)
+check-stopped s y o n k x why is ok kind e went all = by (terms_at s o.cursor.place o.cursor.left k o.cursor.l) (sym went ∙ all) ∙ sym (header-judged s (header_at s) o n k (sym is ∙ ok) kind e)
+  where
+    by : (z : Reading (List Term)) → over_of z ≡ Err why → Err why ≡ judged (Ok o) z
+    by (got ts end) f = absurd (clash (cc))
+    by (refused r place) f = let same = err-is (fault r place) why f in rw same
+
+-- the header's own kind has a name
+pub check-known : {P : Type 0} (s : List ℕ) (y : Result Opened Fault) (o : Opened) (n : Option Kind) → y ≡ open_of s → y ≡ Ok o → n ≡ kind_of o.cursor.kind → n ≡ None → P
+check-known s y o n is ok kind none = let h = open-honest s y o is ok in let known = h.is in absurd (clash (cc))
+
+pub check-refused : (s : List ℕ) (y : Result Opened Fault) (why : Fault) → y ≡ open_of s → y ≡ Err why → Err why ≡ check_of s
+unfolding open_of check_of
+check-refused s y why is err = by (header_at s) (sym is ∙ err)
+  where
+    by : (x : Reading Header) → held_header x ≡ Err why → Err why ≡ checked s x
+    by (got h next) e = absurd (clash (cc))
+    by (refused r place) e = sym e

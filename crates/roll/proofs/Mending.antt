@@ -10,17 +10,21 @@ use lib.Dec.{ltb}
 use lib.ListN.{length, take, drop}
 use Rattle.laws.proofs.Cases.{clash}
 use Rattle.laws.proofs.Lists.{take_less}
-use Rattle.number.specs.declared.Number.{Number}
-use Rattle.number.specs.declared.Number.TheVariants as number
-use Rattle.number.specs.Numbers.{bytes_of, read_at, refusal_of}
+use Rattle.number.specs.Read.{Number}
+use Rattle.number.specs.Read as number
+use Rattle.number.specs.Numbers.{bytes_of, read_at}
 use Rattle.number.proofs.Reading.{read-inside, read_alike}
-use Rattle.roll.specs.declared.field.Field.{Field}
-use Rattle.roll.specs.declared.field.Field.TheVariants as field
+use Rattle.roll.specs.Field.{Field}
+use Rattle.roll.specs.Field as field
 use Rattle.roll.specs.Reading.{Reading, got, refused, wrong_place, opened, within_at, onward, and_then}
 use Rattle.roll.specs.Places.{Leads, here, over}
 use Rattle.roll.proofs.FieldLaws.{taken}
 use Rattle.roll.proofs.Filling.{onward-is}
 use Rattle.roll.proofs.Back.{field_back}
+use Rattle.std.specs.Prelude.{Err}
+use Rattle.kind.specs.declared.refusals.Refusal.{Refusal}
+use Rattle.kind.specs.declared.refusals.Refusal.TheVariants.{BadRoll, CutRoll}
+use Rattle.kind.proofs.Faults.{err-both}
 
 -- t begins as s does, up to a place
 abbrev pub Alike : ℕ → List ℕ → List ℕ → Type 0
@@ -46,16 +50,16 @@ pub record Kept {A : Type 0} (X : List ℕ → Reading A) (s : List ℕ) (at end
   pub leads : Leads s at end
   pub same : (t : List ℕ) → Alike end s t → X t ≡ X s
 
-pub record Broken {A : Type 0} (X : List ℕ → Reading A) (s : List ℕ) (at r p : ℕ) : Type 0 where
+pub record Broken {A : Type 0} (X : List ℕ → Reading A) (s : List ℕ) (at : ℕ) (r : Refusal) (p : ℕ) : Type 0 where
   pub leads : Leads s at p
   pub same : (t : List ℕ) → Alike p s t → read_at t p ≡ read_at s p → X t ≡ refused r p
-  pub missing : (t : List ℕ) → Alike p s t → read_at t p ≡ number.Ended → X t ≡ refused (refusal_of number.Ended) p
+  pub missing : (t : List ℕ) → Alike p s t → read_at t p ≡ number.Ended → X t ≡ refused CutRoll p
   pub mend : List ℕ
   pub value : A
   pub mended : (t rest : List ℕ) → Alike p s t → drop p t ≡ mend ++ rest → (end : ℕ) × (X t ≡ got value end) × (drop end t ≡ rest)
 
 -- some bytes read, wherever they stand
-pub record Some {A : Type 0} (X : ℕ → List ℕ → Reading A) : Type 0 where
+pub record SomeBytes {A : Type 0} (X : ℕ → List ℕ → Reading A) : Type 0 where
   pub bytes : List ℕ
   pub value : A
   pub reads : (t rest : List ℕ) (at : ℕ) → drop at t ≡ bytes ++ rest → (end : ℕ) × (X at t ≡ got value end) × (drop end t ≡ rest)
@@ -65,7 +69,7 @@ pub record Some {A : Type 0} (X : ℕ → List ℕ → Reading A) : Type 0 where
 pub kept-made : {A B : Type 0} (f : A → B) (X : List ℕ → Reading A) (s : List ℕ) (at end : ℕ) → Kept X s at end → Kept (λ t. and_then (X t) (λ a e. got (f a) e)) s at end
 kept-made {A = A} f X s at end k = record { leads = k.leads; same = λ t alike. ap (λ (x : Reading A). and_then x (λ a e. got (f a) e)) (k.same t alike) }
 
-pub broken-made : {A B : Type 0} (f : A → B) (X : List ℕ → Reading A) (s : List ℕ) (at r p : ℕ) → Broken X s at r p → Broken (λ t. and_then (X t) (λ a e. got (f a) e)) s at r p
+pub broken-made : {A B : Type 0} (f : A → B) (X : List ℕ → Reading A) (s : List ℕ) (at : ℕ) (r : Refusal) (p : ℕ) → Broken X s at r p → Broken (λ t. and_then (X t) (λ a e. got (f a) e)) s at r p
 broken-made {A = A} f X s at r p b =
     record {
       leads = b.leads;
@@ -76,7 +80,7 @@ broken-made {A = A} f X s at r p b =
       mended = λ t rest alike is. let m = b.mended t rest alike is in (m.0, ap (λ (x : Reading A). and_then x (λ a e. got (f a) e)) m.1, m.2);
     }
 
-pub some-made : {A B : Type 0} (f : A → B) (X : ℕ → List ℕ → Reading A) → Some X → Some (λ at t. and_then (X at t) (λ a e. got (f a) e))
+pub some-made : {A B : Type 0} (f : A → B) (X : ℕ → List ℕ → Reading A) → SomeBytes X → SomeBytes (λ at t. and_then (X at t) (λ a e. got (f a) e))
 some-made {A = A} f X c =
     record {
       bytes = c.bytes;
@@ -105,7 +109,7 @@ kept_field f s at low high n next end e k =
           ∙ sym (ap (λ (x : Field). onward x (λ n m. f n m s)) e);
     }
 
-pub broken-then : {A : Type 0} (f : ℕ → ℕ → List ℕ → Reading A) (s : List ℕ) (at low high n next r p : ℕ) → within_at s at low high ≡ field.Is n next → Broken (f n next) s next r p → Broken (λ t. onward (within_at t at low high) (λ n m. f n m t)) s at r p
+pub broken-then : {A : Type 0} (f : ℕ → ℕ → List ℕ → Reading A) (s : List ℕ) (at low high n next : ℕ) (r : Refusal) (p : ℕ) → within_at s at low high ≡ field.Is n next → Broken (f n next) s next r p → Broken (λ t. onward (within_at t at low high) (λ n m. f n m t)) s at r p
 broken-then {A = A} f s at low high n next r p e b =
     record {
       leads = field-leads at low high n next e b.leads;
@@ -120,18 +124,16 @@ broken-then {A = A} f s at low high n next r p e b =
     on t alike = ap (λ (x : Field). onward x (λ n m. f n m t)) (field_alike s t at low high n next p e (leads-le b.leads) alike)
 
 -- a number that is refused is refused where it begins
-pub opened-place : (q : Number) (at low high r p : ℕ) → opened q at low high ≡ field.Refused r p → at ≡ p
+pub opened-place : (q : Number) (at low high : ℕ) (r : Refusal) (p : ℕ) → opened q at low high ≡ field.Refused r p → at ≡ p
 opened-place (number.Is n next) at low high r p e = by (ltb n low || ltb high n) e
   where
-    by : (b : Bool) → cond b (field.Refused 7 (wrong_place at next)) (field.Is n next) ≡ field.Refused r p → at ≡ p
-    by true e = cc
+    by : (b : Bool) → cond b (field.Refused BadRoll (wrong_place at next)) (field.Is n next) ≡ field.Refused r p → at ≡ p
+    by true e = (err-both e).1
     by false e = absurd (clash (cc))
-opened-place number.Ended at low high r p e = cc
-opened-place number.NotShortest at low high r p e = cc
-opened-place number.TooLarge at low high r p e = cc
+opened-place (Err why) at low high r p e = (err-both e).1
 
 -- any number within the limits does, where what follows it reads
-pub some_number : {A : Type 0} (f : ℕ → ℕ → List ℕ → Reading A) (low high n : ℕ) → n < 2 ^ 32 → low ≤ n → n ≤ high → Some (f n) → Some (λ at t. onward (within_at t at low high) (λ n m. f n m t))
+pub some_number : {A : Type 0} (f : ℕ → ℕ → List ℕ → Reading A) (low high n : ℕ) → n < 2 ^ 32 → low ≤ n → n ≤ high → SomeBytes (f n) → SomeBytes (λ at t. onward (within_at t at low high) (λ n m. f n m t))
 some_number f low high n small above fits c =
     record {
       bytes = bytes_of n ++ c.bytes;
@@ -142,11 +144,11 @@ some_number f low high n small above fits c =
           (m.0, ap (λ (x : Field). onward x (λ n m. f n m t)) r.1 ∙ m.1, m.2);
     }
 
-pub some-field : {A : Type 0} (f : ℕ → ℕ → List ℕ → Reading A) (low high : ℕ) → low < 2 ^ 32 → low ≤ high → Some (f low) → Some (λ at t. onward (within_at t at low high) (λ n m. f n m t))
+pub some-field : {A : Type 0} (f : ℕ → ℕ → List ℕ → Reading A) (low high : ℕ) → low < 2 ^ 32 → low ≤ high → SomeBytes (f low) → SomeBytes (λ at t. onward (within_at t at low high) (λ n m. f n m t))
 some-field f low high small fits c = some_number f low high low small (omega arith) fits c
 
 -- a number that is refused, where some bytes read from there on
-pub broken-number : {A : Type 0} (f : ℕ → ℕ → List ℕ → Reading A) (s : List ℕ) (at low high r p : ℕ) → within_at s at low high ≡ field.Refused r p → Some (λ at t. onward (within_at t at low high) (λ n m. f n m t)) → Broken (λ t. onward (within_at t at low high) (λ n m. f n m t)) s at r p
+pub broken-number : {A : Type 0} (f : ℕ → ℕ → List ℕ → Reading A) (s : List ℕ) (at low high : ℕ) (r : Refusal) (p : ℕ) → within_at s at low high ≡ field.Refused r p → SomeBytes (λ at t. onward (within_at t at low high) (λ n m. f n m t)) → Broken (λ t. onward (within_at t at low high) (λ n m. f n m t)) s at r p
 unfolding within_at
 broken-number f s at low high r p e there =
     let place : at ≡ p = opened-place (read_at s at) at low high r p e in
@@ -160,7 +162,7 @@ broken-number f s at low high r p e there =
       mended = λ t rest alike is. there.reads t rest at is;
     })
 
-pub broken-field : {A : Type 0} (f : ℕ → ℕ → List ℕ → Reading A) (s : List ℕ) (at low high r p : ℕ) → within_at s at low high ≡ field.Refused r p → low < 2 ^ 32 → low ≤ high → Some (f low) → Broken (λ t. onward (within_at t at low high) (λ n m. f n m t)) s at r p
+pub broken-field : {A : Type 0} (f : ℕ → ℕ → List ℕ → Reading A) (s : List ℕ) (at low high : ℕ) (r : Refusal) (p : ℕ) → within_at s at low high ≡ field.Refused r p → low < 2 ^ 32 → low ≤ high → SomeBytes (f low) → Broken (λ t. onward (within_at t at low high) (λ n m. f n m t)) s at r p
 broken-field f s at low high r p e small fits c = broken-number f s at low high r p e (some-field f low high small fits c)
 
 pub kept-onward : {A : Type 0} (f : ℕ → ℕ → List ℕ → Reading A) (s : List ℕ) (at low high end : ℕ) (a : A) → ((n next : ℕ) → within_at s at low high ≡ field.Is n next → f n next s ≡ got a end → Kept (f n next) s next end)
@@ -169,16 +171,16 @@ kept-onward f s at low high end a then e =
     let o = onward-is (within_at s at low high) (λ n m. f n m s) a end e in
     kept_field f s at low high o.0 o.1 end o.2 (then o.0 o.1 o.2 o.3)
 
-pub broken-onward : {A : Type 0} (f : ℕ → ℕ → List ℕ → Reading A) (s : List ℕ) (at low high r p : ℕ) → low < 2 ^ 32 → low ≤ high → Some (f low)
+pub broken-onward : {A : Type 0} (f : ℕ → ℕ → List ℕ → Reading A) (s : List ℕ) (at low high : ℕ) (r : Refusal) (p : ℕ) → low < 2 ^ 32 → low ≤ high → SomeBytes (f low)
     → ((n next : ℕ) → within_at s at low high ≡ field.Is n next → f n next s ≡ refused r p → Broken (f n next) s next r p)
     → onward (within_at s at low high) (λ n m. f n m s) ≡ refused r p → Broken (λ t. onward (within_at t at low high) (λ n m. f n m t)) s at r p
 broken-onward f s at low high r p small fits c then e = by (within_at s at low high) refl e
   where
     by : (x : Field) → within_at s at low high ≡ x → onward x (λ n m. f n m s) ≡ refused r p → Broken (λ t. onward (within_at t at low high) (λ n m. f n m t)) s at r p
     by (field.Is n next) is e = broken-then f s at low high n next r p is (then n next is e)
-    by (field.Refused q place) is e =
-        let number : q ≡ r = cc in
-        let there : place ≡ p = cc in
+    by (Err why) is e =
+        let number : why.refusal ≡ r = cc in
+        let there : why.place ≡ p = cc in
         broken-field f s at low high r p (rw (number, there) at is) small fits c
 
 -- ---- a reading, then another
@@ -193,7 +195,7 @@ kept_second {A = A} X f s at m end a e k j =
       same = λ t alike. both-alike X f s t at m end a e k (leads-le j.leads) alike ∙ j.same t alike ∙ sym (ap (λ (x : Reading A). and_then x (λ a e. f a e s)) e);
     }
 
-pub broken-first : {A B : Type 0} (X : List ℕ → Reading A) (f : A → ℕ → List ℕ → Reading B) (s : List ℕ) (at r p : ℕ) → ((a : A) → Some (f a)) → Broken X s at r p → Broken (λ t. and_then (X t) (λ a e. f a e t)) s at r p
+pub broken-first : {A B : Type 0} (X : List ℕ → Reading A) (f : A → ℕ → List ℕ → Reading B) (s : List ℕ) (at : ℕ) (r : Refusal) (p : ℕ) → ((a : A) → SomeBytes (f a)) → Broken X s at r p → Broken (λ t. and_then (X t) (λ a e. f a e t)) s at r p
 broken-first {A = A} X f s at r p some b =
     let c = some b.value in
     record {
@@ -208,7 +210,7 @@ broken-first {A = A} X f s at r p some b =
           (n.0, ap (λ (x : Reading A). and_then x (λ a e. f a e t)) m.1 ∙ n.1, n.2);
     }
 
-pub broken-second : {A B : Type 0} (X : List ℕ → Reading A) (f : A → ℕ → List ℕ → Reading B) (s : List ℕ) (at m r p : ℕ) (a : A) → X s ≡ got a m → Kept X s at m → Broken (f a m) s m r p → Broken (λ t. and_then (X t) (λ a e. f a e t)) s at r p
+pub broken-second : {A B : Type 0} (X : List ℕ → Reading A) (f : A → ℕ → List ℕ → Reading B) (s : List ℕ) (at m : ℕ) (r : Refusal) (p : ℕ) (a : A) → X s ≡ got a m → Kept X s at m → Broken (f a m) s m r p → Broken (λ t. and_then (X t) (λ a e. f a e t)) s at r p
 broken-second X f s at m r p a e k b =
     record {
       leads = leads-on k.leads b.leads;
@@ -226,36 +228,36 @@ pub made_got : {A B : Type 0} (f : A → B) (x : Reading A) (b : B) (end : ℕ) 
 made_got f (got a e) b end is = (a, cc)
 made_got f (refused r p) b end is = absurd (clash (cc))
 
-pub made-refused : {A B : Type 0} (f : A → B) (x : Reading A) (r p : ℕ) → and_then x (λ a e. got (f a) e) ≡ refused r p → x ≡ refused r p
+pub made-refused : {A B : Type 0} (f : A → B) (x : Reading A) (r : Refusal) (p : ℕ) → and_then x (λ a e. got (f a) e) ≡ refused r p → x ≡ refused r p
 made-refused f (got a e) r p is = absurd (clash (cc))
 made-refused f (refused q o) r p is = cc
 
 pub kept-got : {A : Type 0} (v a : A) (s : List ℕ) (m end : ℕ) → got v m ≡ got a end → Kept (λ t. got v m) s m end
 kept-got v a s m end e = let same : m ≡ end = cc in rw (← same) (record { leads = here; same = λ t alike. refl })
 
-pub some-got : {A : Type 0} (v : A) → Some (λ at t. got v at)
+pub some-got : {A : Type 0} (v : A) → SomeBytes (λ at t. got v at)
 some-got v = record { bytes = []; value = v; reads = λ t rest at is. (at, refl, is) }
 
 -- ---- readings to the end of the bytes
 
 -- as `Broken`, and what mends it ends the bytes
-pub record Cut {A : Type 0} (X : List ℕ → Reading A) (s : List ℕ) (at r p : ℕ) : Type 0 where
+pub record Cut {A : Type 0} (X : List ℕ → Reading A) (s : List ℕ) (at : ℕ) (r : Refusal) (p : ℕ) : Type 0 where
   pub leads : Leads s at p
   pub same : (t : List ℕ) → Alike p s t → read_at t p ≡ read_at s p → X t ≡ refused r p
-  pub missing : (t : List ℕ) → Alike p s t → read_at t p ≡ number.Ended → X t ≡ refused (refusal_of number.Ended) p
+  pub missing : (t : List ℕ) → Alike p s t → read_at t p ≡ number.Ended → X t ≡ refused CutRoll p
   pub mend : List ℕ
   pub value : A
   pub mended : (t : List ℕ) → Alike p s t → drop p t ≡ mend → X t ≡ got value (length t)
 
 -- everything reads up to the place, and bytes follow
-pub record Long {A : Type 0} (X : List ℕ → Reading A) (s : List ℕ) (at r p : ℕ) : Type 0 where
+pub record Long {A : Type 0} (X : List ℕ → Reading A) (s : List ℕ) (at : ℕ) (r : Refusal) (p : ℕ) : Type 0 where
   pub leads : Leads s at p
   pub value : A
   pub reads : (t : List ℕ) → Alike p s t → length t ≡ p → X t ≡ got value p
   pub more : (t : List ℕ) → Alike p s t → (p ≡ length t → ⊥) → X t ≡ refused r p
   pub follow : p ≡ length s → ⊥
 
-pub made_ends : {A B : Type 0} (f : A → B) (X : List ℕ → Reading A) (s : List ℕ) (at r p : ℕ) → Cut X s at r p ⊎ Long X s at r p → Cut (λ t. and_then (X t) (λ a e. got (f a) e)) s at r p ⊎ Long (λ t. and_then (X t) (λ a e. got (f a) e)) s at r p
+pub made_ends : {A B : Type 0} (f : A → B) (X : List ℕ → Reading A) (s : List ℕ) (at : ℕ) (r : Refusal) (p : ℕ) → Cut X s at r p ⊎ Long X s at r p → Cut (λ t. and_then (X t) (λ a e. got (f a) e)) s at r p ⊎ Long (λ t. and_then (X t) (λ a e. got (f a) e)) s at r p
 made_ends {A = A} {B = B} f X s at r p (inl b) =
     inl (record {
       leads = b.leads;
@@ -277,7 +279,7 @@ made_ends {A = A} f X s at r p (inr b) =
       follow = b.follow;
     })
 
-pub second-ends : {A B : Type 0} (X : List ℕ → Reading A) (f : A → ℕ → List ℕ → Reading B) (s : List ℕ) (at m r p : ℕ) (a : A) → X s ≡ got a m → Kept X s at m → Cut (f a m) s m r p ⊎ Long (f a m) s m r p
+pub second-ends : {A B : Type 0} (X : List ℕ → Reading A) (f : A → ℕ → List ℕ → Reading B) (s : List ℕ) (at m : ℕ) (r : Refusal) (p : ℕ) (a : A) → X s ≡ got a m → Kept X s at m → Cut (f a m) s m r p ⊎ Long (f a m) s m r p
     → Cut (λ t. and_then (X t) (λ a e. f a e t)) s at r p ⊎ Long (λ t. and_then (X t) (λ a e. f a e t)) s at r p
 second-ends X f s at m r p a e k (inl b) =
     inl (record {

@@ -13,12 +13,11 @@ use Rattle.kind.specs.Limits.{most_order, most_scale, most_terms}
 use Rattle.kind.specs.Kinds.{kind_of, number_of, orders_of, table_of, most_l, most_prefactors}
 use Rattle.kind.specs.declared.Kind.{Kind}
 use Rattle.kind.specs.declared.Kind.TheVariants.{Overlap, Coulomb}
-use Rattle.kind.specs.declared.Named.{Named}
-use Rattle.kind.specs.declared.Named.TheVariants as named
+use Rattle.laws.proofs.Pairs.{ok-both}
 use Rattle.laws.proofs.Cases.{clash}
 use Rattle.laws.proofs.Lists.{take_less}
 use Rattle.laws.specs.Total.{total}
-use Rattle.number.specs.declared.Number.TheVariants as number
+use Rattle.number.specs.Read as number
 use Rattle.number.specs.Numbers.{higher, read_from, read_at}
 use Rattle.number.proofs.Reading.{read-ended, read-inside, read_alike}
 use Rattle.term.specs.Terms.{Term}
@@ -30,7 +29,10 @@ use Rattle.roll.proofs.FieldLaws.{taken}
 use Rattle.roll.proofs.Filling.{and_then-is}
 use Rattle.roll.proofs.Inside.{term-inside, header_read, header-inside, orders-most}
 use Rattle.roll.proofs.Back.{terms-back}
-use Rattle.roll.proofs.Mending.{Alike, leads-le, leads-inside, Kept, Broken, Some, kept-made, broken-made, some-made, some-field, kept-onward, broken-onward, kept_second, broken-first, broken-second, made_got, made-refused, kept-got, some-got, Cut, Long, made_ends, second-ends}
+use Rattle.roll.proofs.Mending.{Alike, leads-le, leads-inside, Kept, Broken, SomeBytes, kept-made, broken-made, some-made, some-field, kept-onward, broken-onward, kept_second, broken-first, broken-second, made_got, made-refused, kept-got, some-got, Cut, Long, made_ends, second-ends}
+use Rattle.std.specs.Prelude.{Option, Some, None}
+use Rattle.kind.specs.declared.refusals.Refusal.{Refusal}
+use Rattle.kind.specs.declared.refusals.Refusal.TheVariants.{BadRoll}
 
 -- ---- a term
 
@@ -42,14 +44,14 @@ prefactors-kept (suc count) table s at ps end e =
     (λ p next is e. kept-made (λ qs. (p ∷ []) ++ qs) (λ t. prefactors_at t next count table) s next end
     (let m = made_got (λ qs. (p ∷ []) ++ qs) (prefactors_at s next count table) ps end e in prefactors-kept count table s next m.0 end m.1)) e
 
-pub prefactors-some : (count table : ℕ) → Some (λ at t. prefactors_at t at count table)
+pub prefactors-some : (count table : ℕ) → SomeBytes (λ at t. prefactors_at t at count table)
 unfolding prefactors_at
 prefactors-some zero table = some-got []
 prefactors-some (suc count) table =
     some-field (λ p next t. before (p ∷ []) (prefactors_at t next count table)) 0 (table - 1) (omega arith) zero-le
     (some-made (λ qs. (0 ∷ []) ++ qs) (λ at t. prefactors_at t at count table) (prefactors-some count table))
 
-pub prefactors-broken : (count table : ℕ) (s : List ℕ) (at r p : ℕ) → prefactors_at s at count table ≡ refused r p → Broken (λ t. prefactors_at t at count table) s at r p
+pub prefactors-broken : (count table : ℕ) (s : List ℕ) (at : ℕ) (r : Refusal) (p : ℕ) → prefactors_at s at count table ≡ refused r p → Broken (λ t. prefactors_at t at count table) s at r p
 unfolding prefactors_at
 prefactors-broken zero table s at r p e = absurd (clash (cc))
 prefactors-broken (suc count) table s at r p e =
@@ -65,13 +67,13 @@ count_kept k l scale boys s at u end e =
     (λ count next is e. kept-made (λ ps. record { scale = scale; boys = boys; prefactors = ps }) (λ t. prefactors_at t next count (table_of k)) s next end
     (let m = made_got (λ ps. record { scale = scale; boys = boys; prefactors = ps }) (prefactors_at s next count (table_of k)) u end e in prefactors-kept count (table_of k) s next m.0 end m.1)) e
 
-count-some : (k : Kind) (l scale boys : ℕ) → Some (λ at t. count_at t at k l scale boys)
+count-some : (k : Kind) (l scale boys : ℕ) → SomeBytes (λ at t. count_at t at k l scale boys)
 unfolding count_at
 count-some k l scale boys =
     some-field (λ count next t. and_then (prefactors_at t next count (table_of k)) (λ ps m. got (record { scale = scale; boys = boys; prefactors = ps }) m)) 0 (most_prefactors k l) (omega arith) zero-le
     (some-made (λ ps. record { scale = scale; boys = boys; prefactors = ps }) (λ at t. prefactors_at t at 0 (table_of k)) (prefactors-some 0 (table_of k)))
 
-count-broken : (k : Kind) (l scale boys : ℕ) (s : List ℕ) (at r p : ℕ) → count_at s at k l scale boys ≡ refused r p → Broken (λ t. count_at t at k l scale boys) s at r p
+count-broken : (k : Kind) (l scale boys : ℕ) (s : List ℕ) (at : ℕ) (r : Refusal) (p : ℕ) → count_at s at k l scale boys ≡ refused r p → Broken (λ t. count_at t at k l scale boys) s at r p
 unfolding count_at
 count-broken k l scale boys s at r p e =
     broken-onward (λ count next t. and_then (prefactors_at t next count (table_of k)) (λ ps m. got (record { scale = scale; boys = boys; prefactors = ps }) m)) s at 0 (most_prefactors k l) r p (omega arith) zero-le
@@ -83,11 +85,11 @@ boys-kept : (k : Kind) (l scale : ℕ) (s : List ℕ) (at : ℕ) (u : Term) (end
 unfolding boys_at
 boys-kept k l scale s at u end e = kept-onward (λ boys next t. count_at t next k l scale boys) s at 0 (most_boys k l) end u (λ boys next is e. count_kept k l scale boys s next u end e) e
 
-boys-some : (k : Kind) (l scale : ℕ) → Some (λ at t. boys_at t at k l scale)
+boys-some : (k : Kind) (l scale : ℕ) → SomeBytes (λ at t. boys_at t at k l scale)
 unfolding boys_at
 boys-some k l scale = some-field (λ boys next t. count_at t next k l scale boys) 0 (most_boys k l) (omega arith) zero-le (count-some k l scale 0)
 
-boys-broken : (k : Kind) (l scale : ℕ) (s : List ℕ) (at r p : ℕ) → boys_at s at k l scale ≡ refused r p → Broken (λ t. boys_at t at k l scale) s at r p
+boys-broken : (k : Kind) (l scale : ℕ) (s : List ℕ) (at : ℕ) (r : Refusal) (p : ℕ) → boys_at s at k l scale ≡ refused r p → Broken (λ t. boys_at t at k l scale) s at r p
 unfolding boys_at
 boys-broken k l scale s at r p e =
     broken-onward (λ boys next t. count_at t next k l scale boys) s at 0 (most_boys k l) r p (omega arith) zero-le (count-some k l scale 0)
@@ -97,7 +99,7 @@ pub term-kept : (k : Kind) (l : ℕ) (s : List ℕ) (at : ℕ) (u : Term) (end :
 unfolding term_at
 term-kept k l s at u end e = kept-onward (λ scale next t. boys_at t next k l scale) s at 1 most_scale end u (λ scale next is e. boys-kept k l scale s next u end e) e
 
-term-broken : (k : Kind) (l : ℕ) (s : List ℕ) (at r p : ℕ) → term_at s at k l ≡ refused r p → Broken (λ t. term_at t at k l) s at r p
+term-broken : (k : Kind) (l : ℕ) (s : List ℕ) (at : ℕ) (r : Refusal) (p : ℕ) → term_at s at k l ≡ refused r p → Broken (λ t. term_at t at k l) s at r p
 unfolding term_at
 term-broken k l s at r p e =
     broken-onward (λ scale next t. boys_at t next k l scale) s at 1 most_scale r p (omega arith) (omega arith) (boys-some k l 1)
@@ -113,14 +115,14 @@ orders-kept (suc n) i sum s at os end e =
     (λ o next is e. kept-made (λ qs. (o ∷ []) ++ qs) (λ t. orders_at t next n (i + 1) (sum_after i sum o)) s next end
     (let m = made_got (λ qs. (o ∷ []) ++ qs) (orders_at s next n (i + 1) (sum_after i sum o)) os end e in orders-kept n (i + 1) (sum_after i sum o) s next m.0 end m.1)) e
 
-orders-some : (n i sum : ℕ) → Some (λ at t. orders_at t at n i sum)
+orders-some : (n i sum : ℕ) → SomeBytes (λ at t. orders_at t at n i sum)
 unfolding orders_at
 orders-some zero i sum = some-got []
 orders-some (suc n) i sum =
     some-field (λ o next t. before (o ∷ []) (orders_at t next n (i + 1) (sum_after i sum o))) 0 (most_order - sum) (omega arith) zero-le
     (some-made (λ qs. (0 ∷ []) ++ qs) (λ at t. orders_at t at n (i + 1) (sum_after i sum 0)) (orders-some n (i + 1) (sum_after i sum 0)))
 
-orders-broken : (n i sum : ℕ) (s : List ℕ) (at r p : ℕ) → orders_at s at n i sum ≡ refused r p → Broken (λ t. orders_at t at n i sum) s at r p
+orders-broken : (n i sum : ℕ) (s : List ℕ) (at : ℕ) (r : Refusal) (p : ℕ) → orders_at s at n i sum ≡ refused r p → Broken (λ t. orders_at t at n i sum) s at r p
 unfolding orders_at
 orders-broken zero i sum s at r p e = absurd (clash (cc))
 orders-broken (suc n) i sum s at r p e =
@@ -135,24 +137,24 @@ counted-kept k os s at h end e =
     kept-onward (λ count next t. got (record { kind = k; orders = os; terms = count }) next) s at 1 most_terms end h
     (λ count next is e. kept-got (record { kind = k; orders = os; terms = count }) h s next end e) e
 
-counted-some : (k : Kind) (os : List ℕ) → Some (λ at t. counted_at t at k os)
+counted-some : (k : Kind) (os : List ℕ) → SomeBytes (λ at t. counted_at t at k os)
 unfolding counted_at
 counted-some k os = some-field (λ count next t. got (record { kind = k; orders = os; terms = count }) next) 1 most_terms (omega arith) (omega arith) (some-got (record { kind = k; orders = os; terms = 1 }))
 
-counted-broken : (k : Kind) (os : List ℕ) (s : List ℕ) (at r p : ℕ) → counted_at s at k os ≡ refused r p → Broken (λ t. counted_at t at k os) s at r p
+counted-broken : (k : Kind) (os : List ℕ) (s : List ℕ) (at : ℕ) (r : Refusal) (p : ℕ) → counted_at s at k os ≡ refused r p → Broken (λ t. counted_at t at k os) s at r p
 unfolding counted_at
 counted-broken k os s at r p e =
     broken-onward (λ count next t. got (record { kind = k; orders = os; terms = count }) next) s at 1 most_terms r p (omega arith) (omega arith) (some-got (record { kind = k; orders = os; terms = 1 }))
     (λ count next is e. absurd (clash (cc))) e
 
-pub kind-kept : (m : Named) (s : List ℕ) (at : ℕ) (h : Header) (end : ℕ) → of_kind s at m ≡ got h end → Kept (λ t. of_kind t at m) s at end
-kind-kept (named.Is k) s at h end e =
+pub kind-kept : (m : Option Kind) (s : List ℕ) (at : ℕ) (h : Header) (end : ℕ) → of_kind s at m ≡ got h end → Kept (λ t. of_kind t at m) s at end
+kind-kept (Some k) s at h end e =
     let x = and_then-is (orders_at s at (orders_of k) 0 0) (λ orders next. counted_at s next k orders) h end e in
     kept_second (λ t. orders_at t at (orders_of k) 0 0) (λ os next t. counted_at t next k os) s at x.1 end x.0 x.2
     (orders-kept (orders_of k) 0 0 s at x.0 x.1 x.2) (counted-kept k x.0 s x.1 h end x.3)
-kind-kept named.Unknown s at h end e = absurd (clash (cc))
+kind-kept None s at h end e = absurd (clash (cc))
 
-pub kind-some : (k : Kind) → Some (λ at t. of_kind t at (named.Is k))
+pub kind-some : (k : Kind) → SomeBytes (λ at t. of_kind t at (Some k))
 kind-some k =
     let os = orders-some (orders_of k) 0 0 in
     let c = counted-some k os.value in
@@ -165,20 +167,20 @@ kind-some k =
           (n.0, ap (λ (x : Reading (List ℕ)). and_then x (λ orders next. counted_at t next k orders)) o.1 ∙ n.1, n.2);
     }
 
-pub kind-broken : (m : Named) (s : List ℕ) (at r p : ℕ) → (m ≡ named.Unknown → ⊥) → of_kind s at m ≡ refused r p → Broken (λ t. of_kind t at m) s at r p
-kind-broken (named.Is k) s at r p known e = by (orders_at s at (orders_of k) 0 0) refl e
+pub kind-broken : (m : Option Kind) (s : List ℕ) (at : ℕ) (r : Refusal) (p : ℕ) → (m ≡ None → ⊥) → of_kind s at m ≡ refused r p → Broken (λ t. of_kind t at m) s at r p
+kind-broken (Some k) s at r p known e = by (orders_at s at (orders_of k) 0 0) refl e
   where
-    by : (x : Reading (List ℕ)) → orders_at s at (orders_of k) 0 0 ≡ x → and_then x (λ orders next. counted_at s next k orders) ≡ refused r p → Broken (λ t. of_kind t at (named.Is k)) s at r p
+    by : (x : Reading (List ℕ)) → orders_at s at (orders_of k) 0 0 ≡ x → and_then x (λ orders next. counted_at s next k orders) ≡ refused r p → Broken (λ t. of_kind t at (Some k)) s at r p
     by (got os next) is e =
         broken-second (λ t. orders_at t at (orders_of k) 0 0) (λ os next t. counted_at t next k os) s at next r p os is (orders-kept (orders_of k) 0 0 s at os next is) (counted-broken k os s next r p e)
     by (refused q o) is e =
         let number : q ≡ r = cc in
         let there : o ≡ p = cc in
         broken-first (λ t. orders_at t at (orders_of k) 0 0) (λ os next t. counted_at t next k os) s at r p (λ os. counted-some k os) (orders-broken (orders_of k) 0 0 s at r p (rw (number, there) at is))
-kind-broken named.Unknown s at r p known e = absurd (known refl)
+kind-broken None s at r p known e = absurd (known refl)
 
 -- every number up to the last kind's is a kind
-pub known : (n : ℕ) → n ≤ number_of Coulomb → kind_of n ≡ named.Unknown → ⊥
+pub known : (n : ℕ) → n ≤ number_of Coulomb → kind_of n ≡ None → ⊥
 known zero most e = clash (cc)
 known (suc zero) most e = clash (cc)
 known (suc (suc zero)) most e = clash (cc)
@@ -190,7 +192,7 @@ pub header-kept : (s : List ℕ) (h : Header) (end : ℕ) → header_at s ≡ go
 unfolding header_at
 header-kept s h end e = kept-onward (λ n next t. of_kind t next (kind_of n)) s 0 0 (number_of Coulomb) end h (λ n next is e. kind-kept (kind_of n) s next h end e) e
 
-pub header-broken : (s : List ℕ) (r p : ℕ) → header_at s ≡ refused r p → Broken header_at s 0 r p
+pub header-broken : (s : List ℕ) (r : Refusal) (p : ℕ) → header_at s ≡ refused r p → Broken header_at s 0 r p
 unfolding header_at
 header-broken s r p e =
     broken-onward (λ n next t. of_kind t next (kind_of n)) s 0 0 (number_of Coulomb) r p (omega arith) zero-le (kind-some Overlap)
@@ -209,15 +211,15 @@ plain_fits k l (suc n) = (record { scale-least = omega arith; scale = omega arit
 plain-terms : (k : Kind) (l n : ℕ) (t : List ℕ) (at : ℕ) → l ≤ most_l k → at ≤ length t → drop at t ≡ terms_bytes (replicate n plain) → terms_at t at n k l ≡ got (replicate n plain) (length t)
 plain-terms k l n t at small inside is = rw (length-replicate n plain) at (terms-back k l (replicate n plain) t at small inside (plain_fits k l n) is)
 
-terms-end : (left : ℕ) (k : Kind) (l : ℕ) (s : List ℕ) (at r p : ℕ) → l ≤ most_l k → terms_at s at left k l ≡ refused r p → Cut (λ t. terms_at t at left k l) s at r p ⊎ Long (λ t. terms_at t at left k l) s at r p
+terms-end : (left : ℕ) (k : Kind) (l : ℕ) (s : List ℕ) (at : ℕ) (r : Refusal) (p : ℕ) → l ≤ most_l k → terms_at s at left k l ≡ refused r p → Cut (λ t. terms_at t at left k l) s at r p ⊎ Long (λ t. terms_at t at left k l) s at r p
 unfolding terms_at
 terms-end zero k l s at r p small e = by (eqb at (length s)) refl e
   where
-    by : (b : Bool) → eqb at (length s) ≡ b → cond {A = Reading (List Term)} b (got [] at) (refused 7 at) ≡ refused r p → Cut (λ t. terms_at t at zero k l) s at r p ⊎ Long (λ t. terms_at t at zero k l) s at r p
+    by : (b : Bool) → eqb at (length s) ≡ b → cond {A = Reading (List Term)} b (got [] at) (refused BadRoll at) ≡ refused r p → Cut (λ t. terms_at t at zero k l) s at r p ⊎ Long (λ t. terms_at t at zero k l) s at r p
     by true t e = absurd (clash (cc))
     by false f e =
         let there : at ≡ p = cc in
-        let number : 7 ≡ r = cc in
+        let number : BadRoll ≡ r = cc in
         rw (← there, ← number)
         (inr (record {
           leads = here;
@@ -255,7 +257,7 @@ terms-end (suc left) k l s at r p small e = by (term_at s at k l) refl e (λ nex
 
 -- ---- the roll
 
-pub roll-end : (s : List ℕ) (r p : ℕ) → roll_at s ≡ refused r p → Cut roll_at s 0 r p ⊎ Long roll_at s 0 r p
+pub roll-end : (s : List ℕ) (r : Refusal) (p : ℕ) → roll_at s ≡ refused r p → Cut roll_at s 0 r p ⊎ Long roll_at s 0 r p
 unfolding roll_at
 roll-end s r p e = by (header_at s) refl e
   where
@@ -291,7 +293,7 @@ roll-end s r p e = by (header_at s) refl e
         })
 
 -- everything before the place of a refusal is in order, and the fault begins there
-pub place-of-refusal : (s : List ℕ) (r p : ℕ) → roll_at s ≡ refused r p → FaultAt s r p
+pub place-of-refusal : (s : List ℕ) (r : Refusal) (p : ℕ) → roll_at s ≡ refused r p → FaultAt s r p
 place-of-refusal s r p e = by (roll-end s r p e)
   where
     again : take p (take p s) ≡ take p s
@@ -328,7 +330,7 @@ place-of-refusal s r p e = by (roll-end s r p e)
         by_order : p ≤ length s → (p ≡ length s → ⊥) → p < length s
         by_order le ne = omega arith
 
-pub place_inside : (s : List ℕ) (r p : ℕ) → roll_at s ≡ refused r p → p ≤ length s
+pub place_inside : (s : List ℕ) (r : Refusal) (p : ℕ) → roll_at s ≡ refused r p → p ≤ length s
 place_inside s r p e = by (place-of-refusal s r p e)
   where
     by : FaultAt s r p → p ≤ length s
@@ -336,7 +338,7 @@ place_inside s r p e = by (place-of-refusal s r p e)
     by (byte-there w) = let inside = w.inside in omega arith
 
 -- 01, "Cases": roll bytes 80 00 are 7 at 0
-pub eighty-and-nothing : roll_at (0x80 ∷ 0x00 ∷ []) ≡ refused 7 0
+pub eighty-and-nothing : roll_at (0x80 ∷ 0x00 ∷ []) ≡ refused BadRoll 0
 unfolding roll_at header_at within_at read_at read_from higher
 eighty-and-nothing = refl
 
@@ -347,10 +349,10 @@ leads-next : {s : List ℕ} {at p o : ℕ} → Leads s at p → Leads s at o →
 leads-next here here less = absurd (omega (arith, less))
 leads-next here (over {at} {n} {next} e rest) less = (n, next, e, leads-le rest)
 leads-next {s = s} (over {at} {n} {next} e rest) here less = absurd (omega (arith, less, leads-le rest, (read-inside s at n next e).0))
-leads-next (over {next = next} e p) (over {next = after} e' q) less = let same : after ≡ next = cc in leads-next p (rw same at q) less
+leads-next (over {next = next} e p) (over {next = after} e' q) less = let same : after ≡ next = (ok-both (sym e' ∙ e)).1 in leads-next p (rw same at q) less
 
 -- bytes that are alike up to a later place do not read
-none-later : (s t : List ℕ) (r p o : ℕ) (roll : Roll) (end : ℕ) → FaultAt s r p → Leads s 0 o → p < o → Alike o s t → roll_at t ≡ got roll end → ⊥
+none-later : (s t : List ℕ) (r : Refusal) (p o : ℕ) (roll : Roll) (end : ℕ) → FaultAt s r p → Leads s 0 o → p < o → Alike o s t → roll_at t ≡ got roll end → ⊥
 none-later s t r p o roll end (number-there w) leads less alike reads =
     let n = leads-next w.begins leads less in
     let read : read_at t p ≡ read_at s p = read_alike s t p n.0 n.1 n.2 (take_less s t n.1 o n.3 alike) ∙ sym n.2 in
@@ -373,16 +375,16 @@ record Reads (s : List ℕ) (p : ℕ) : Type 0 where
   pub end : ℕ
   pub reads : roll_at bytes ≡ got roll end
 
-reads_before : (s : List ℕ) (r p : ℕ) → FaultAt s r p → Reads s p
+reads_before : (s : List ℕ) (r : Refusal) (p : ℕ) → FaultAt s r p → Reads s p
 reads_before s r p (number-there w) =
     let b = w.before in
     record { leads = w.begins; bytes = take p s ++ b.rest; alike = take_at (take p s) b.rest p (length-take-le p s w.inside); roll = b.roll; end = b.end; reads = b.reads }
 reads_before s r p (byte-there w) = record { leads = w.begins; bytes = take p s; alike = take-take p p s (omega arith); roll = w.roll; end = p; reads = w.before }
 
-not-later : (s : List ℕ) (r q p o : ℕ) → FaultAt s r p → FaultAt s q o → p < o → ⊥
+not-later : (s : List ℕ) (r q : Refusal) (p o : ℕ) → FaultAt s r p → FaultAt s q o → p < o → ⊥
 not-later s r q p o a b less = let g = reads_before s q o b in none-later s g.bytes r p o g.roll g.end a g.leads less g.alike g.reads
 
-pub place-only : (s : List ℕ) (r q p o : ℕ) → FaultAt s r p → FaultAt s q o → p ≡ o
+pub place-only : (s : List ℕ) (r q : Refusal) (p o : ℕ) → FaultAt s r p → FaultAt s q o → p ≡ o
 place-only s r q p o a b =
     let first = not-later s r q p o a b in
     let second = not-later s q r o p b a in

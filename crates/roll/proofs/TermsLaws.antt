@@ -11,14 +11,16 @@ use Rattle.kind.specs.declared.Kind.{Kind}
 use Rattle.kind.specs.declared.Kind.TheVariants.{Overlap, Kinetic, Nuclear, Moment, Coulomb}
 use Rattle.kind.proofs.Within.{some-entries, table-within}
 use Rattle.laws.proofs.Cases.{clash}
+use Rattle.laws.proofs.Pairs.{ok-both}
+use Rattle.kind.proofs.Faults.{err-is}
+use Rattle.roll.specs.Field.{fault}
+use Rattle.std.specs.Prelude.{Result, Ok, Err}
+use Rattle.kind.specs.declared.refusals.Fault.{Fault}
 use Rattle.term.specs.declared.Term.{Term as Held}
-use Rattle.term.specs.Terms.{no_term}
-use Rattle.roll.specs.declared.field.Field.{Field}
-use Rattle.roll.specs.declared.field.Field.TheVariants as field
-use Rattle.roll.specs.declared.terms.ReadPrefactors.{ReadPrefactors}
-use Rattle.roll.specs.declared.terms.ReadTerm.{ReadTerm}
+use Rattle.roll.specs.Field.{Field}
+use Rattle.roll.specs.Field as field
 use Rattle.roll.specs.Reading.{Reading, got, refused, onward, and_then, before, within_at, prefactors_at, most_boys, count_at, boys_at, term_at}
-use Rattle.roll.specs.inner.Held.{held_prefactors, held_term, term_from, with_prefactors, FewFound}
+use Rattle.roll.specs.inner.Held.{held_prefactors, held_term}
 use Rattle.roll.proofs.FieldLaws.{taken-below}
 use Rattle.roll.proofs.Filling.{Filled, filled_none, filled_more, taken_more, before-none, before_more, before-is, onward-is}
 
@@ -55,16 +57,16 @@ filling-more s at count table values place i x p next f less is e =
           ∙ f.whole);
     }
 
-pub filling-refused : (s : List ℕ) (at count table : ℕ) (values : List ℕ) (place i : ℕ) (x : Field) (r wrong : ℕ) (y : ReadPrefactors) → Filling s at count table values place i → i < count → x ≡ within_at s place 0 (table - 1) → x ≡ field.Refused r wrong → y ≡ held_prefactors (refused r wrong) → y ≡ held_prefactors (prefactors_at s at count table)
-filling-refused s at count table values place i x r wrong y f less is e answer =
-    let rest : prefactors_at s place (count - i) table ≡ refused r wrong = rw e at (turn s place count table i x less is) in
-    answer ∙ ap held_prefactors (ap (before (take i values)) (sym rest) ∙ f.whole)
+pub filling-refused : (s : List ℕ) (at count table : ℕ) (values : List ℕ) (place i : ℕ) (x : Field) (why : Fault) → Filling s at count table values place i → i < count → x ≡ within_at s place 0 (table - 1) → x ≡ Err why → Err why ≡ held_prefactors (prefactors_at s at count table)
+filling-refused s at count table values place i x why f less is e =
+    let rest : prefactors_at s place (count - i) table ≡ refused why.refusal why.place = rw e at (turn s place count table i x less is) in
+    ap held_prefactors (ap (before (take i values)) (sym rest) ∙ f.whole)
 
 no_more : (s : List ℕ) (place table n : ℕ) → n ≡ 0 → prefactors_at s place n table ≡ got [] place
 unfolding prefactors_at
 no_more s place table n none = rw none
 
-pub filling-done : (s : List ℕ) (at count table : ℕ) (values : List ℕ) (place i : ℕ) → Filling s at count table values place i → count ≤ i → record { found = field.Is count place; values = values } ≡ held_prefactors (prefactors_at s at count table)
+pub filling-done : (s : List ℕ) (at count table : ℕ) (values : List ℕ) (place i : ℕ) → Filling s at count table values place i → count ≤ i → Ok (values, place) ≡ held_prefactors (prefactors_at s at count table)
 filling-done s at count table values place i f done =
     let all : i ≡ count = omega (arith, f.inside) in
     let none = no_more s place table (count - i) (omega arith) in
@@ -72,7 +74,7 @@ filling-done s at count table values place i f done =
     let got-all : got (take i values) place ≡ prefactors_at s at count table = ap (λ (l : List ℕ). got l place) (sym (append-nil (take i values))) ∙ whole in
     let long : length (take i values) ≡ i = length-take-le i values (omega (arith, f.filled.long, f.room)) in
     let zeros = f.filled.zeros in
-    let held : record { found = field.Is count place; values = values } ≡ held_prefactors (got (take i values) place) = cc (long, all, zeros) in
+    let held : Ok (values, place) ≡ held_prefactors (got (take i values) place) = cc (long, all, zeros) in
     held ∙ ap held_prefactors got-all
 
 pub prefactors-length : (count table : ℕ) (s : List ℕ) (at : ℕ) (ps : List ℕ) (next : ℕ) → prefactors_at s at count table ≡ got ps next → length ps ≡ count
@@ -83,55 +85,42 @@ prefactors-length (suc count) table s at ps next e =
     let b = before-is o.0 (prefactors_at s o.1 count table) ps next o.3 in
     ap length b.2 ∙ ap suc (prefactors-length count table s o.1 b.0 next b.1)
 
-held-few : (x : Reading (List ℕ)) (count : ℕ) → ((ps : List ℕ) (next : ℕ) → x ≡ got ps next → length ps ≡ count) → (n next : ℕ) → (held_prefactors x).found ≡ field.Is n next → n ≡ count
-held-few (got ps m) count long n next e = let same : length ps ≡ n = cc in sym same ∙ long ps m refl
-held-few (refused r place) count long n next e = absurd (clash (cc))
-
-pub few-found : (count table : ℕ) (s : List ℕ) (at : ℕ) (read : ReadPrefactors) → count ≤ most_l·any → read ≡ held_prefactors (prefactors_at s at count table) → FewFound read
-few-found count table s at read few is n next e =
-    let same : n ≡ count = held-few (prefactors_at s at count table) count (λ ps m h. prefactors-length count table s at ps m h) n next (ap (λ (r : ReadPrefactors). r.found) (sym is) ∙ e) in
-    omega arith
-
 -- ---- a term
 
-pub term-none : (r place : ℕ) (t : Held) → t ≡ no_term → ◌≡◌ {A = ReadTerm} (record { found = field.Refused r place; term = t }) (held_term (refused r place))
-term-none r place t e = rw e
-
-pub term_made : (scale boys : ℕ) (read : ReadPrefactors) (n next : ℕ) → read.found ≡ field.Is n next → record { found = field.Is n next; term = record { scale = scale; boys = boys; count = n; prefactors = read.values } } ≡ with_prefactors scale boys read
-term_made scale boys read n next e = sym (ap (term_from scale boys read.values) e)
-
-pub term-unmade : (scale boys : ℕ) (read : ReadPrefactors) (r place : ℕ) (x : ReadTerm) → read.found ≡ field.Refused r place → x ≡ held_term (refused r place) → x ≡ with_prefactors scale boys read
-term-unmade scale boys read r place x e answer = answer ∙ sym (ap (term_from scale boys read.values) e)
-
 -- a term of prefactors that were read is the term that the definition reads
-term_of_lem : (scale boys : ℕ) (x : Reading (List ℕ)) → with_prefactors scale boys (held_prefactors x) ≡ held_term (and_then x (λ ps end. got (record { scale = scale; boys = boys; prefactors = ps }) end))
-term_of_lem scale boys (got ps next) = refl
-term_of_lem scale boys (refused r place) = refl
-
-pub counted : (k : Kind) (l scale boys : ℕ) (s : List ℕ) (at : ℕ) (most table : ℕ) (x : Field) (count next : ℕ) (read : ReadPrefactors) (y : ReadTerm) → most ≡ most_prefactors k l → x ≡ within_at s at 0 most → x ≡ field.Is count next → table ≡ table_of k → read ≡ held_prefactors (prefactors_at s next count table) → y ≡ with_prefactors scale boys read → y ≡ held_term (count_at s at k l scale boys)
+pub counted : (k : Kind) (l scale boys : ℕ) (s : List ℕ) (at : ℕ) (most table : ℕ) (x : Field) (count next : ℕ) (read : Result (List ℕ × ℕ) Fault) (values : List ℕ) (end : ℕ) → most ≡ most_prefactors k l → x ≡ within_at s at 0 most → x ≡ field.Is count next → table ≡ table_of k → read ≡ held_prefactors (prefactors_at s next count table) → read ≡ Ok (values, end) → Ok (record { scale = scale; boys = boys; count = count; prefactors = values }, end) ≡ held_term (count_at s at k l scale boys)
 unfolding count_at
-counted k l scale boys s at most table x count next read y limit is e size held answer =
-    answer ∙ ap (with_prefactors scale boys) held ∙ term_of_lem scale boys (prefactors_at s next count table) ∙ rw (size, ← limit, sym is ∙ e)
+counted k l scale boys s at most table x count next read values end limit is e size held ok =
+    rw (← limit, sym is ∙ e, ← size) (by (prefactors_at s next count table) (λ ps n h. prefactors-length count table s next ps n h) (sym held ∙ ok))
+  where
+    by : (y : Reading (List ℕ)) → ((ps : List ℕ) (n : ℕ) → y ≡ got ps n → length ps ≡ count) → held_prefactors y ≡ Ok (values, end) → Ok (record { scale = scale; boys = boys; count = count; prefactors = values }, end) ≡ held_term (and_then y (λ ps end. got (record { scale = scale; boys = boys; prefactors = ps }) end))
+    by (got ps n) long e = let both = ok-both e in let many : length ps ≡ count = long ps n refl in cc
+    by (refused r place) long e = absurd (clash (cc))
 
-pub uncounted : (k : Kind) (l scale boys : ℕ) (s : List ℕ) (at : ℕ) (most : ℕ) (x : Field) (r place : ℕ) (y : ReadTerm) → most ≡ most_prefactors k l → x ≡ within_at s at 0 most → x ≡ field.Refused r place → y ≡ held_term (refused r place) → y ≡ held_term (count_at s at k l scale boys)
+pub miscounted : (k : Kind) (l scale boys : ℕ) (s : List ℕ) (at : ℕ) (most table : ℕ) (x : Field) (count next : ℕ) (read : Result (List ℕ × ℕ) Fault) (why : Fault) → most ≡ most_prefactors k l → x ≡ within_at s at 0 most → x ≡ field.Is count next → table ≡ table_of k → read ≡ held_prefactors (prefactors_at s next count table) → read ≡ Err why → Err why ≡ held_term (count_at s at k l scale boys)
 unfolding count_at
-uncounted k l scale boys s at most x r place y limit is e answer = answer ∙ rw (← limit, sym is ∙ e)
+miscounted k l scale boys s at most table x count next read why limit is e size held err =
+    rw (← limit, sym is ∙ e, ← size) (by (prefactors_at s next count table) (sym held ∙ err))
+  where
+    by : (y : Reading (List ℕ)) → held_prefactors y ≡ Err why → Err why ≡ held_term (and_then y (λ ps end. got (record { scale = scale; boys = boys; prefactors = ps }) end))
+    by (got ps n) e = absurd (clash (cc))
+    by (refused r place) e = let same = err-is (fault r place) why e in rw same
 
-pub boys-read : (k : Kind) (l scale : ℕ) (s : List ℕ) (at : ℕ) (most : ℕ) (x : Field) (boys next : ℕ) (y : ReadTerm) → most ≡ most_boys k l → x ≡ within_at s at 0 most → x ≡ field.Is boys next → y ≡ held_term (count_at s next k l scale boys) → y ≡ held_term (boys_at s at k l scale)
-unfolding boys_at
-boys-read k l scale s at most x boys next y limit is e answer = answer ∙ rw (← limit, sym is ∙ e)
+pub uncounted : (k : Kind) (l scale boys : ℕ) (s : List ℕ) (at : ℕ) (most : ℕ) (x : Field) (why : Fault) → most ≡ most_prefactors k l → x ≡ within_at s at 0 most → x ≡ Err why → Err why ≡ held_term (count_at s at k l scale boys)
+unfolding count_at
+uncounted k l scale boys s at most x why limit is e = rw (← limit, sym is ∙ e)
 
-pub boys-unread : (k : Kind) (l scale : ℕ) (s : List ℕ) (at : ℕ) (most : ℕ) (x : Field) (r place : ℕ) (y : ReadTerm) → most ≡ most_boys k l → x ≡ within_at s at 0 most → x ≡ field.Refused r place → y ≡ held_term (refused r place) → y ≡ held_term (boys_at s at k l scale)
-unfolding boys_at
-boys-unread k l scale s at most x r place y limit is e answer = answer ∙ rw (← limit, sym is ∙ e)
+pub term-read : (k : Kind) (l : ℕ) (s : List ℕ) (at most : ℕ) (x y : Field) (scale next boys after : ℕ) (r : Result (Held × ℕ) Fault) → x ≡ within_at s at 1 most_scale → x ≡ field.Is scale next → most ≡ most_boys k l → y ≡ within_at s next 0 most → y ≡ field.Is boys after → r ≡ held_term (count_at s after k l scale boys) → r ≡ held_term (term_at s at k l)
+unfolding term_at boys_at
+term-read k l s at most x y scale next boys after r is e limit then f answer = answer ∙ rw (sym is ∙ e, ← limit, sym then ∙ f)
 
-pub scale-read : (k : Kind) (l : ℕ) (s : List ℕ) (at : ℕ) (x : Field) (scale next : ℕ) (y : ReadTerm) → x ≡ within_at s at 1 most_scale → x ≡ field.Is scale next → y ≡ held_term (boys_at s next k l scale) → y ≡ held_term (term_at s at k l)
+pub boys-unread : (k : Kind) (l : ℕ) (s : List ℕ) (at most : ℕ) (x y : Field) (scale next : ℕ) (why : Fault) → x ≡ within_at s at 1 most_scale → x ≡ field.Is scale next → most ≡ most_boys k l → y ≡ within_at s next 0 most → y ≡ Err why → Err why ≡ held_term (term_at s at k l)
+unfolding term_at boys_at
+boys-unread k l s at most x y scale next why is e limit then f = rw (sym is ∙ e, ← limit, sym then ∙ f)
+
+pub scale-unread : (k : Kind) (l : ℕ) (s : List ℕ) (at : ℕ) (x : Field) (why : Fault) → x ≡ within_at s at 1 most_scale → x ≡ Err why → Err why ≡ held_term (term_at s at k l)
 unfolding term_at
-scale-read k l s at x scale next y is e answer = answer ∙ rw (sym is ∙ e)
-
-pub scale-unread : (k : Kind) (l : ℕ) (s : List ℕ) (at : ℕ) (x : Field) (r place : ℕ) (y : ReadTerm) → x ≡ within_at s at 1 most_scale → x ≡ field.Refused r place → y ≡ held_term (refused r place) → y ≡ held_term (term_at s at k l)
-unfolding term_at
-scale-unread k l s at x r place y is e answer = answer ∙ rw (sym is ∙ e)
+scale-unread k l s at x why is e = rw (sym is ∙ e)
 
 -- a kind's limits fit the places that are there for them
 pub few-prefactors : (k : Kind) (l : ℕ) → l ≤ most_l k → most_prefactors k l ≤ most_l·any

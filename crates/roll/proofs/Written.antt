@@ -25,6 +25,7 @@ use Rattle.roll.specs.Fits.{CentresFit, Below, TermFits, TermsFit, RollFits}
 use Rattle.roll.proofs.FieldLaws.{Taken, taken}
 use Rattle.roll.proofs.Filling.{before-is, onward-is, and_then-is}
 use Rattle.roll.proofs.Inside.{term-read, header_read, Centre, centre}
+use Rattle.kind.specs.declared.refusals.Refusal.TheVariants.{BadRoll}
 
 pub taken-bytes : (s : List ℕ) (at low high n next : ℕ) → Bytes s → Taken s at low high n next → drop at s ≡ bytes_of n ++ drop next s
 taken-bytes s at low high n next bytes t = (reads_only s at n next bytes t.read).bytes
@@ -64,7 +65,7 @@ terms-none : (k : Kind) (l : ℕ) (s : List ℕ) (at : ℕ) (ts : List Term) (en
 unfolding terms_at terms_bytes
 terms-none k l s at ts end e = by (eqb at (length s)) refl e
   where
-    by : (b : Bool) → eqb at (length s) ≡ b → cond b (got [] at) (refused 7 at) ≡ got ts end → TermsRead 0 k l s at ts end
+    by : (b : Bool) → eqb at (length s) ≡ b → cond b (got [] at) (refused BadRoll at) ≡ got ts end → TermsRead 0 k l s at ts end
     by true t e =
         let none : [] ≡ ts = cc in
         let place : at ≡ length s = eqb-true at (length s) t in

@@ -1,25 +1,24 @@
 -- 02, Q-6: what a cabinet with the limits of before says. 01's reading once more, with a reader's limits as a parameter: only the lines that cite a limit differ from
 -- Reading, Header and Cursor. With our limits it is the reader (`OneReading`), so one text is read with both. The limits alone are of before: what is cut is 14, as since Q-5.
 -- Then Q-6's sentences, `OldRolls` and `OldCabinet`. Proved in proofs/Before.antt and proofs/BeforeRolls.antt.
-use Rattle.std.specs.Prelude.{ℕ, zero, suc, ◌+◌, ◌*◌, ◌-◌, ◌^◌, ◌≤◌, ◌<◌, ◌≡◌, cond, ◌||◌, List, [], ◌∷◌, ◌++◌, map, ltb, eqb, length, get_or, take}
+use Rattle.std.specs.Prelude.{ℕ, zero, suc, ◌+◌, ◌*◌, ◌-◌, ◌^◌, ◌≤◌, ◌<◌, ◌≡◌, cond, ◌||◌, List, [], ◌∷◌, ◌++◌, map, ltb, eqb, length, get_or, take, Option, Some, None, Result, Ok}
 use Rattle.laws.specs.Total.{total}
 use Rattle.kind.specs.Limits.{most_order, most_terms, most_scale}
 use Rattle.kind.specs.Kinds.{kind_of, number_of, orders_of}
 use Rattle.kind.specs.declared.Kind.{Kind}
 use Rattle.kind.specs.declared.Kind.TheVariants.{Overlap, Kinetic, Nuclear, Moment, Coulomb}
-use Rattle.kind.specs.declared.Named.{Named}
-use Rattle.kind.specs.declared.Named.TheVariants as named
 use Rattle.term.specs.Terms.{Term}
 use Rattle.number.specs.Numbers.{Bytes, length_of}
 use Rattle.roll.specs.declared.cursor.Cursor.{Cursor}
-use Rattle.roll.specs.declared.cursor.Found.TheVariants as found
 use Rattle.roll.specs.declared.cursor.Step.{Step}
 use Rattle.roll.specs.declared.header.Opened.{Opened}
 use Rattle.roll.specs.Bytes.{terms_bytes, roll_bytes}
 use Rattle.roll.specs.Reading.{Reading, got, refused, within_at, onward, and_then, before, sum_after, Header, header_at, boys_at, Roll, roll_at}
 use Rattle.roll.specs.Fits.{RollFits}
 use Rattle.roll.specs.Header.{refused_opened, held_header, open_of, judged, check_of, refusal_of}
-use Rattle.roll.specs.Cursor.{refused_step, stepped, end_or, step_of, refusal_of as step_refusal}
+use Rattle.roll.specs.Cursor.{Stepped, refused_step, stepped, end_or, step_of}
+use Rattle.kind.specs.declared.refusals.Refusal.TheVariants.{BadRoll}
+use Rattle.kind.specs.declared.refusals.Fault.{Fault}
 
 -- ---- limits
 
@@ -56,9 +55,9 @@ orders_under m s at (suc n) i sum = onward (within_at s at 0 (m.order - sum)) (�
 unfoldable pub counted_under : ReaderLimits → List ℕ → ℕ → Kind → List ℕ → Reading Header
 counted_under m s at k orders = onward (within_at s at 1 m.terms) (λ count next. got (record { kind = k; orders = orders; terms = count }) next)
 
-abbrev pub of_kind_under : ReaderLimits → List ℕ → ℕ → Named → Reading Header
-of_kind_under m s at (named.Is k) = and_then (orders_under m s at (orders_of k) 0 0) (λ orders next. counted_under m s next k orders)
-of_kind_under m s at named.Unknown = refused 7 0
+abbrev pub of_kind_under : ReaderLimits → List ℕ → ℕ → Option Kind → Reading Header
+of_kind_under m s at (Some k) = and_then (orders_under m s at (orders_of k) 0 0) (λ orders next. counted_under m s next k orders)
+of_kind_under m s at None = refused BadRoll 0
 
 unfoldable pub header_under : ReaderLimits → List ℕ → Reading Header
 header_under m s = onward (within_at s 0 0 (number_of Coulomb)) (λ n next. of_kind_under m s next (kind_of n))
@@ -68,7 +67,7 @@ unfoldable pub term_under : ReaderLimits → List ℕ → ℕ → Kind → ℕ �
 term_under m s at k l = onward (within_at s at 1 m.scale) (λ scale next. boys_at s next k l scale)
 
 unfoldable pub terms_under : ReaderLimits → List ℕ → ℕ → ℕ → Kind → ℕ → Reading (List Term)
-terms_under m s at zero k l = cond (eqb at (length s)) (got [] at) (refused 7 at)
+terms_under m s at zero k l = cond (eqb at (length s)) (got [] at) (refused BadRoll at)
 terms_under m s at (suc left) k l = and_then (term_under m s at k l) (λ t next. before (t ∷ []) (terms_under m s next left k l))
 
 unfoldable pub roll_under : ReaderLimits → List ℕ → Reading Roll
@@ -79,25 +78,25 @@ roll_under m s =
 
 -- ---- open, check and next
 
-unfoldable pub open_under : ReaderLimits → List ℕ → Opened
+unfoldable pub open_under : ReaderLimits → List ℕ → Result Opened Fault
 open_under m s = held_header (header_under m s)
 
-abbrev pub checked_under : ReaderLimits → List ℕ → Reading Header → Opened
+abbrev pub checked_under : ReaderLimits → List ℕ → Reading Header → Result Opened Fault
 checked_under m s (got h next) = judged (held_header (got h next)) (terms_under m s next h.terms h.kind (total h.orders))
 checked_under m s (refused r place) = refused_opened r place
 
-unfoldable pub check_under : ReaderLimits → List ℕ → Opened
+unfoldable pub check_under : ReaderLimits → List ℕ → Result Opened Fault
 check_under m s = checked_under m s (header_under m s)
 
-abbrev pub step_under : ReaderLimits → Kind → Cursor → List ℕ → Step
+abbrev pub step_under : ReaderLimits → Kind → Cursor → List ℕ → Stepped
 step_under m k c s = cond (eqb c.left 0) (end_or s c.place) (stepped c (term_under m s c.place k c.l))
 
 -- L beyond the kind's
-abbrev pub step_as_under : ReaderLimits → Named → Cursor → List ℕ → Step
-step_as_under m (named.Is k) c s = cond (ltb (most_l_under m k) c.l || ltb (length s) c.place) (refused_step 7 c.place) (step_under m k c s)
-step_as_under m named.Unknown c s = refused_step 7 c.place
+abbrev pub step_as_under : ReaderLimits → Option Kind → Cursor → List ℕ → Stepped
+step_as_under m (Some k) c s = cond (ltb (most_l_under m k) c.l || ltb (length s) c.place) (refused_step BadRoll c.place) (step_under m k c s)
+step_as_under m None c s = refused_step BadRoll c.place
 
-unfoldable pub next_under : ReaderLimits → Cursor → List ℕ → Step
+unfoldable pub next_under : ReaderLimits → Cursor → List ℕ → Stepped
 next_under m c s = step_as_under m (kind_of c.kind) c s
 
 -- with our limits: the reader
@@ -143,9 +142,9 @@ pub record OldRolls : Type 0 where
   pub reads : (s : List ℕ) (r : Roll) (end : ℕ) → roll_under limits_before s ≡ got r end → roll_at s ≡ got r end
   -- and its open, check and next answer as they did, unless they said 7: a roll, a term, the end and 14 stay.
   -- (A held term has more places for prefactors now, zeros behind its own; the term is the same.)
-  pub opens : (s : List ℕ) → (refusal_of (open_under limits_before s).found ≡ 7 → ⊥) → open_of s ≡ open_under limits_before s
-  pub checks : (s : List ℕ) → (refusal_of (check_under limits_before s).found ≡ 7 → ⊥) → check_of s ≡ check_under limits_before s
-  pub steps : (c : Cursor) (s : List ℕ) → (step_refusal (next_under limits_before c s).found ≡ 7 → ⊥) → step_of c s ≡ next_under limits_before c s
+  pub opens : (s : List ℕ) → (refusal_of (open_under limits_before s) ≡ 7 → ⊥) → open_of s ≡ open_under limits_before s
+  pub checks : (s : List ℕ) → (refusal_of (check_under limits_before s) ≡ 7 → ⊥) → check_of s ≡ check_under limits_before s
+  pub steps : (c : Cursor) (s : List ℕ) → (refusal_of (next_under limits_before c s) ≡ 7 → ⊥) → step_of c s ≡ next_under limits_before c s
   -- what it reads are the writings of the kinds, orders and terms that keep the limits of before, and no other bytes
   pub written : (r : Roll) → RollFits r → Keeps limits_before r → roll_under limits_before (writing r) ≡ got r (length (writing r))
   pub no_other : (s : List ℕ) (r : Roll) (end : ℕ) → Bytes s → roll_under limits_before s ≡ got r end → (s ≡ writing r) × RollFits r × Keeps limits_before r
@@ -154,13 +153,13 @@ pub record OldRolls : Type 0 where
 
 -- its header is refused 7 at a place
 pub record RefusedAt (s : List ℕ) (place : ℕ) : Type 0 where
-  pub opens : open_under limits_before s ≡ refused_opened 7 place
-  pub checks : check_under limits_before s ≡ refused_opened 7 place
+  pub opens : open_under limits_before s ≡ refused_opened BadRoll place
+  pub checks : check_under limits_before s ≡ refused_opened BadRoll place
 
 -- its header opens as ours does, and its terms are refused 7 at a place
 pub record StopsAt (s : List ℕ) (place : ℕ) : Type 0 where
   pub opens : open_under limits_before s ≡ open_of s
-  pub checks : check_under limits_before s ≡ refused_opened 7 place
+  pub checks : check_under limits_before s ≡ refused_opened BadRoll place
 
 pub record OldCabinet : Type 0 where
   -- "A roll with a higher order is refused by an old cabinet with 7 at the order that passes 4": the kind and each order before it have one byte
@@ -171,7 +170,7 @@ pub record OldCabinet : Type 0 where
   pub at-scale : (r : Roll) → RollFits r → (i : ℕ) → NoneAbove limits_before.order (centre_sums r.orders) → length r.terms ≤ limits_before.terms → FirstAbove limits_before.scale (scales r.terms) i
       → StopsAt (writing r) (1 + orders_of r.kind + length_of (length r.terms) + length (terms_bytes (take i r.terms)))
   -- and a step of its cursor at a term of a higher scale is 7 at the term's place
-  pub at-step : (c : Cursor) (s : List ℕ) → (step_of c s).found ≡ found.Term → limits_before.scale < (step_of c s).term.scale → next_under limits_before c s ≡ refused_step 7 c.place
+  pub at-step : (c : Cursor) (s : List ℕ) → (x : Step) → step_of c s ≡ Ok (Some x) → limits_before.scale < x.term.scale → next_under limits_before c s ≡ refused_step BadRoll c.place
   -- all of these rolls read now
   pub reads_now : (r : Roll) → RollFits r → roll_at (writing r) ≡ got r (length (writing r))
 
@@ -194,14 +193,14 @@ counted_of count = record { kind = Overlap; orders = 0 ∷ 0 ∷ 0 ∷ 0 ∷ 0 �
 pub record OldCases : Type 0 where
   -- Ax4 reads; Ax5 is refused at its x, and Ax3 y2 at its y, with which the sum passes
   pub last-order : roll_under limits_before (overlap 4 0 (0x01 ∷ [])) ≡ got (overlap_of 4 0 1) 11
-  pub order-above : roll_under limits_before (overlap 5 0 (0x01 ∷ [])) ≡ refused 7 1
-  pub sum-above : roll_under limits_before (overlap 3 2 (0x01 ∷ [])) ≡ refused 7 2
+  pub order-above : roll_under limits_before (overlap 5 0 (0x01 ∷ [])) ≡ refused BadRoll 1
+  pub sum-above : roll_under limits_before (overlap 3 2 (0x01 ∷ [])) ≡ refused BadRoll 2
   -- 65,535 and 65,536 terms
   pub last-count : header_under limits_before (counted (0xff ∷ 0xff ∷ 0x03 ∷ [])) ≡ got (counted_of 65535) 10
-  pub count-above : header_under limits_before (counted (0x80 ∷ 0x80 ∷ 0x04 ∷ [])) ≡ refused 7 7
+  pub count-above : header_under limits_before (counted (0x80 ∷ 0x80 ∷ 0x04 ∷ [])) ≡ refused BadRoll 7
   -- scale 65,536 and 65,537
   pub last-scale : roll_under limits_before (overlap 0 0 (0x80 ∷ 0x80 ∷ 0x04 ∷ [])) ≡ got (overlap_of 0 0 65536) 13
-  pub scale-above : roll_under limits_before (overlap 0 0 (0x81 ∷ 0x80 ∷ 0x04 ∷ [])) ≡ refused 7 8
+  pub scale-above : roll_under limits_before (overlap 0 0 (0x81 ∷ 0x80 ∷ 0x04 ∷ [])) ≡ refused BadRoll 8
   -- what was refused reads now
   pub order-now : roll_at (overlap 5 0 (0x01 ∷ [])) ≡ got (overlap_of 5 0 1) 11
   pub sum-now : roll_at (overlap 3 2 (0x01 ∷ [])) ≡ got (overlap_of 3 2 1) 11

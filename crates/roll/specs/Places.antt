@@ -1,8 +1,10 @@
 -- 01, "The roll": the place of refusal 7 (since 02, Q-5: and 14) is where the number that is missing, cut or wrong begins, or the first byte too many.
 -- Said of the place alone, so that it can be held against the reading: everything before it is in order, and the fault begins there.
 use Rattle.std.specs.Prelude.{ℕ, ◌≤◌, ◌<◌, ◌≡◌, List, ◌++◌, length, take}
-use Rattle.number.specs.declared.Number.TheVariants as number
-use Rattle.number.specs.Numbers.{read_at, refusal_of}
+use Rattle.kind.specs.declared.refusals.Refusal.{Refusal}
+use Rattle.kind.specs.declared.refusals.Refusal.TheVariants.{CutRoll}
+use Rattle.number.specs.Read as number
+use Rattle.number.specs.Numbers.{read_at}
 use Rattle.roll.specs.Reading.{got, refused, Roll, roll_at}
 
 -- whole numbers, one after the other, lead from a place to another
@@ -18,18 +20,18 @@ pub record InOrder (s : List ℕ) : Type 0 where
   pub reads : roll_at (s ++ rest) ≡ got roll end
 
 -- where the number that is missing, cut or wrong begins
-pub record WrongNumber (s : List ℕ) (refusal place : ℕ) : Type 0 where
+pub record WrongNumber (s : List ℕ) (refusal : Refusal) (place : ℕ) : Type 0 where
   pub inside : place ≤ length s
   -- a number begins there, and all before it is in order
   pub begins : Leads s 0 place
   pub before : InOrder (take place s)
   -- without it, it is missing there
-  pub missing : roll_at (take place s) ≡ refused (refusal_of number.Ended) place
+  pub missing : roll_at (take place s) ≡ refused CutRoll place
   -- with it, the roll is refused there, whatever follows
   pub wrong : (rest : List ℕ) → read_at (take place s ++ rest) place ≡ read_at s place → roll_at (take place s ++ rest) ≡ refused refusal place
 
 -- the first byte too many
-pub record TooMany (s : List ℕ) (refusal place : ℕ) : Type 0 where
+pub record TooMany (s : List ℕ) (refusal : Refusal) (place : ℕ) : Type 0 where
   pub inside : place < length s
   pub begins : Leads s 0 place
   -- the bytes before it are a roll
@@ -38,6 +40,6 @@ pub record TooMany (s : List ℕ) (refusal place : ℕ) : Type 0 where
   -- whatever follows them is refused there
   pub wrong : (rest : List ℕ) → 0 < length rest → roll_at (take place s ++ rest) ≡ refused refusal place
 
-pub data FaultAt (s : List ℕ) (refusal place : ℕ) : Type 0 where
+pub data FaultAt (s : List ℕ) (refusal : Refusal) (place : ℕ) : Type 0 where
   number-there : WrongNumber s refusal place → FaultAt s refusal place
   byte-there : TooMany s refusal place → FaultAt s refusal place

@@ -1,23 +1,23 @@
 -- 01, "The roll": what a roll says from a place on, and the first rule that it breaks, with the place (D-9).
-use Rattle.std.specs.Prelude.{ℕ, zero, suc, ◌+◌, ◌-◌, ◌%◌, cond, ◌||◌, List, [], ◌∷◌, ◌++◌, ltb, eqb, length}
+use Rattle.std.specs.Prelude.{ℕ, zero, suc, ◌+◌, ◌-◌, ◌%◌, cond, ◌||◌, List, [], ◌∷◌, ◌++◌, ltb, eqb, length, Option, Some, None, Err}
 use Rattle.laws.specs.Total.{total}
 use Rattle.kind.specs.Limits.{most_order, most_terms, most_scale}
 use Rattle.kind.specs.Kinds.{kind_of, number_of, orders_of, table_of, most_prefactors, uses_boys}
 use Rattle.kind.specs.declared.Kind.{Kind}
 use Rattle.kind.specs.declared.Kind.TheVariants.{Coulomb}
-use Rattle.kind.specs.declared.Named.{Named}
-use Rattle.kind.specs.declared.Named.TheVariants as named
+use Rattle.kind.specs.declared.refusals.Refusal.{Refusal}
+use Rattle.kind.specs.declared.refusals.Refusal.TheVariants.{BadRoll}
 use Rattle.term.specs.Terms.{Term}
-use Rattle.number.specs.declared.Number.{Number}
-use Rattle.number.specs.declared.Number.TheVariants as number
+use Rattle.number.specs.Read.{Number}
+use Rattle.number.specs.Read as number
 use Rattle.number.specs.Numbers.{read_at, refusal_of}
-use Rattle.roll.specs.declared.field.Field.{Field}
-use Rattle.roll.specs.declared.field.Field.TheVariants as field
+use Rattle.roll.specs.Field.{Field}
+use Rattle.roll.specs.Field as field
 
 -- what was read and the place after it, or a refusal with its place
 pub data Reading (A : Type 0) : Type 0 where
   got : A → ℕ → Reading A
-  refused : ℕ → ℕ → Reading A
+  refused : Refusal → ℕ → Reading A
 
 -- ---- a number and its limits: a `Field` is the number with the place after it, or a refusal
 
@@ -27,14 +27,12 @@ wrong_place at next = at
 
 -- a number that breaks its limits is 7
 abbrev pub limited : ℕ → ℕ → ℕ → ℕ → ℕ → Field
-limited n next at low high = cond (ltb n low || ltb high n) (field.Refused 7 (wrong_place at next)) (field.Is n next)
+limited n next at low high = cond (ltb n low || ltb high n) (field.Refused BadRoll (wrong_place at next)) (field.Is n next)
 
 -- a number that cannot be read ends the reading at once, with the refusal of its reason where it begins (D-8)
 abbrev pub opened : Number → ℕ → ℕ → ℕ → Field
 opened (number.Is n next) at low high = limited n next at low high
-opened number.Ended at low high = field.Refused (refusal_of number.Ended) at
-opened number.NotShortest at low high = field.Refused (refusal_of number.NotShortest) at
-opened number.TooLarge at low high = field.Refused (refusal_of number.TooLarge) at
+opened (Err why) at low high = field.Refused (refusal_of why) at
 
 unfoldable pub within_at : List ℕ → ℕ → ℕ → ℕ → Field
 within_at s at low high = opened (read_at s at) at low high
@@ -43,7 +41,7 @@ within_at s at low high = opened (read_at s at) at low high
 
 abbrev pub onward : {A : Type 0} → Field → (ℕ → ℕ → Reading A) → Reading A
 onward (field.Is n next) rest = rest n next
-onward (field.Refused r place) rest = refused r place
+onward (Err e) rest = refused e.refusal e.place
 
 abbrev pub and_then : {A B : Type 0} → Reading A → (A → ℕ → Reading B) → Reading B
 and_then (got a next) rest = rest a next
@@ -74,9 +72,9 @@ unfoldable pub counted_at : List ℕ → ℕ → Kind → List ℕ → Reading H
 counted_at s at k orders = onward (within_at s at 1 most_terms) (λ count next. got (record { kind = k; orders = orders; terms = count }) next)
 
 -- the kind's own number of orders
-abbrev pub of_kind : List ℕ → ℕ → Named → Reading Header
-of_kind s at (named.Is k) = and_then (orders_at s at (orders_of k) 0 0) (λ orders next. counted_at s next k orders)
-of_kind s at named.Unknown = refused 7 0
+abbrev pub of_kind : List ℕ → ℕ → Option Kind → Reading Header
+of_kind s at (Some k) = and_then (orders_at s at (orders_of k) 0 0) (λ orders next. counted_at s next k orders)
+of_kind s at None = refused BadRoll 0
 
 -- order: kind; orders; term count (D-10, D-57)
 unfoldable pub header_at : List ℕ → Reading Header
@@ -109,7 +107,7 @@ term_at s at k l = onward (within_at s at 1 most_scale) (λ scale next. boys_at 
 
 -- as many terms as the count says, and nothing follows
 unfoldable pub terms_at : List ℕ → ℕ → ℕ → Kind → ℕ → Reading (List Term)
-terms_at s at zero k l = cond (eqb at (length s)) (got [] at) (refused 7 at)
+terms_at s at zero k l = cond (eqb at (length s)) (got [] at) (refused BadRoll at)
 terms_at s at (suc left) k l = and_then (term_at s at k l) (λ t next. before (t ∷ []) (terms_at s next left k l))
 
 -- ---- the roll

@@ -2,7 +2,7 @@
 ghost use Rattle.std.specs.Prelude.{◌+◌, min, true, ◌≡◌};
 ghost use Rattle.roll.specs.inner.Again.{seen_at, head_at, boys_at, end_at, Short};
 
-use number::{Number, one_byte, wide};
+use number::{one_byte, wide};
 
 // A number of a roll and the place after it.
 #[derive(Clone, Copy)]
@@ -25,10 +25,8 @@ pub fn number_at(roll: &[u8], at: usize) -> Seen
     ensures { result ≡ seen_at roll.now at }
 {
     match number::read(roll, at) {
-        Number::Is(value, next) => Seen { value, next },
-        Number::Ended => Seen { value: 0, next: at },
-        Number::NotShortest => Seen { value: 0, next: at },
-        Number::TooLarge => Seen { value: 0, next: at },
+        Ok((value, next)) => Seen { value, next },
+        Err(_) => Seen { value: 0, next: at },
     }
 }
 

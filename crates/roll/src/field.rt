@@ -1,16 +1,14 @@
 // A number of a roll, from one limit to another.
-ghost use Rattle.std.specs.Prelude.{◌≡◌, true};
+ghost use Rattle.std.specs.Prelude.{◌≡◌, true, Err};
+ghost use Rattle.number.specs.declared.Unread.{Unread};
+ghost use Rattle.number.specs.Numbers.{refusal_of};
+ghost use Rattle.kind.specs.declared.refusals.Refusal.TheVariants.{BadRoll};
+ghost use Rattle.roll.specs.Field.{fault};
 ghost use Rattle.roll.specs.Reading.{within_at};
 ghost use Rattle.roll.specs.inner.Over.{Quick};
 
-use number::{Number, one_byte, wide};
-
-// What was read and the place after it, or the refusal and its place.
-#[derive(Clone, Copy)]
-pub enum Field {
-    Is(u32, usize),
-    Refused(u8, usize),
-}
+use kind::{Fault, Refusal};
+use number::{Unread, one_byte, wide};
 
 // Whether the number here is one byte, and within its limits. Nothing is lent on here, so that the compiler keeps the roll in registers.
 fn is_quick(roll: &[u8], at: usize, low: u32, high: u32) -> bool
@@ -20,24 +18,19 @@ fn is_quick(roll: &[u8], at: usize, low: u32, high: u32) -> bool
         return false;
     }
     let b = wide(roll[at]);
-    if one_byte(b) {
-        if low <= b {
-            return b <= high;
-        }
-    }
-    false
+    one_byte(b) && low <= b && b <= high
 }
 
 // Such a number.
-fn quick(roll: &[u8], at: usize, low: u32, high: u32) -> Field
+fn quick(roll: &[u8], at: usize, low: u32, high: u32) -> Result<(u32, usize), Fault>
     requires { Quick roll.now at low high }
     ensures { result ≡ within_at roll.now at low high }
 {
-    Field::Is(wide(roll[at]), at + 1)
+    Ok((wide(roll[at]), at + 1))
 }
 
-// The number at a place, from `low` to `high`. Most are one byte.
-pub fn within(roll: &[u8], at: usize, low: u32, high: u32) -> Field
+// The number at a place, from `low` to `high`, and the place after it. Most are one byte.
+pub fn within(roll: &[u8], at: usize, low: u32, high: u32) -> Result<(u32, usize), Fault>
     ensures { result ≡ within_at roll.now at low high }
 {
     if is_quick(roll, at, low, high) {
@@ -47,18 +40,38 @@ pub fn within(roll: &[u8], at: usize, low: u32, high: u32) -> Field
 }
 
 // The same by the number's reader (D-69).
-fn read_within(roll: &[u8], at: usize, low: u32, high: u32) -> Field
+fn read_within(roll: &[u8], at: usize, low: u32, high: u32) -> Result<(u32, usize), Fault>
     ensures { result ≡ within_at roll.now at low high }
 {
     let read = number::read(roll, at);
-    let Number::Is(n, next) = read else {
-        return Field::Refused(number::refusal_of(read), at);
+    let Ok((n, next)) = read else {
+        return Err(unread(read, at));
     };
-    if n < low {
-        return Field::Refused(7, at);
+    if n < low || high < n {
+        return Err(bad_roll(at));
     }
-    if n <= high {
-        return Field::Is(n, next);
+    Ok((n, next))
+}
+
+// Why no number stands at a place.
+fn unread(read: Result<(u32, usize), Unread>, place: usize) -> Fault
+    ensures { (why : Unread) → read ≡ Err why → result ≡ fault (refusal_of why) place }
+{
+    match read {
+        Ok(_) => bad_roll(place),
+        Err(why) => Fault {
+            refusal: Refusal::from(why),
+            place,
+        },
     }
-    Field::Refused(7, at)
+}
+
+// What breaks a rule of a roll, at a place.
+pub(crate) fn bad_roll(place: usize) -> Fault
+    ensures { result ≡ fault BadRoll place }
+{
+    Fault {
+        refusal: Refusal::BadRoll,
+        place,
+    }
 }

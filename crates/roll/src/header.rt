@@ -1,44 +1,27 @@
 // The header of a roll: kind, orders and term count.
 ghost use Rattle.std.specs.Prelude.{◌≡◌, ◌+◌, ◌≤◌};
 ghost use Rattle.kind.specs.Limits.{most_order, request_orders};
-ghost use Rattle.roll.specs.Reading.{refused, sum_after, orders_at};
-ghost use Rattle.roll.specs.Header.{refused_opened, open_kind_of, open_of};
-ghost use Rattle.roll.specs.inner.Held.{held_orders, FewOrders, open_counted};
+ghost use Rattle.roll.specs.Reading.{sum_after, orders_at};
+ghost use Rattle.roll.specs.Header.{open_kind_of, open_of};
+ghost use Rattle.roll.specs.inner.Held.{held_orders};
 
-use crate::cursor::{Cursor, no_cursor};
-use crate::field::{Field, within};
-use kind::{Kind, Named};
+use crate::cursor::Cursor;
+use crate::field::{bad_roll, within};
+use kind::{Fault, Kind};
 
-// Whether a roll opens; a refusal has its number and place.
-#[derive(Clone, Copy)]
-pub enum Opening {
-    Roll,
-    Refused(u8, usize),
-}
-
-// A roll's orders and the cursor at its first term; zeros beside a refusal.
+// A roll's orders, zeros after them, and the cursor at its first term.
 #[derive(Clone, Copy)]
 pub struct Opened {
-    pub found: Opening,
     pub cursor: Cursor,
     pub orders: [u8; Kind::ORDERS],
 }
 
-// A roll's orders, L where they were read, zeros after them and beside a refusal.
+// The orders of a roll, zeros after them, their sum, and the place after them.
 #[derive(Clone, Copy)]
 struct ReadOrders {
-    found: Field,
     values: [u8; Kind::ORDERS],
-}
-
-// What stands beside a refusal.
-fn no_orders(refusal: u8, place: usize) -> ReadOrders
-    ensures { result ≡ held_orders (refused refusal place) }
-{
-    ReadOrders {
-        found: Field::Refused(refusal, place),
-        values: [0; Kind::ORDERS],
-    }
+    l: u32,
+    end: usize,
 }
 
 // The order sum on a centre after its order number `i`; after its third order the next centre begins.
@@ -46,14 +29,11 @@ fn sum_after(i: usize, sum: u32, order: u32) -> u32
     requires { sum + order ≤ most_order }
     ensures { result ≡ sum_after i sum order }
 {
-    if i % 3 == 2 {
-        return 0;
-    }
-    sum + order
+    if i % 3 == 2 { 0 } else { sum + order }
 }
 
-// The first `n` orders of a roll, x y z by centre, and their sum.
-fn orders(roll: &[u8], at: usize, n: usize) -> ReadOrders
+// The first `n` orders of a roll, x y z by centre.
+fn orders(roll: &[u8], at: usize, n: usize) -> Result<ReadOrders, Fault>
     requires { n ≤ request_orders }
     ensures { result ≡ held_orders (orders_at roll.now at n 0 0) }
 {
@@ -61,78 +41,43 @@ fn orders(roll: &[u8], at: usize, n: usize) -> ReadOrders
     let mut place = at;
     let mut sum = 0;
     let mut l = 0;
-    let mut i = 0;
-    while i < n {
-        match within(roll, place, 0, Kind::MOST_ORDER as u32 - sum) {
-            Field::Is(order, next) => {
-                values[i] = order as u8;
-                place = next;
-                sum = sum_after(i, sum, order);
-                l += order;
-            }
-            Field::Refused(refusal, wrong) => return no_orders(refusal, wrong),
-        }
-        i += 1;
+    for i in 0..n {
+        let (order, next) = within(roll, place, 0, Kind::MOST_ORDER as u32 - sum)?;
+        values[i] = order as u8;
+        place = next;
+        sum = sum_after(i, sum, order);
+        l += order;
     }
-    ReadOrders {
-        found: Field::Is(l, place),
+    Ok(ReadOrders {
         values,
-    }
+        l,
+        end: place,
+    })
 }
 
-// A refusal, with zeros beside it.
-pub fn refused_roll(refusal: u8, place: usize) -> Opened
-    ensures { result ≡ refused_opened refusal place }
-{
-    let cursor = no_cursor();
-    Opened {
-        found: Opening::Refused(refusal, place),
-        cursor,
-        orders: [0; Kind::ORDERS],
-    }
-}
-
-// The term count ends the header.
-fn open_count(roll: &[u8], kind: Kind, read: ReadOrders) -> Opened
-    requires { FewOrders read }
-    ensures { result ≡ open_counted kind read roll.now }
-{
-    let found = read.found;
-    let orders = read.values;
-    match found {
-        Field::Is(l, at) => match within(roll, at, 1, Kind::MOST_TERMS) {
-            Field::Is(terms, place) => Opened {
-                found: Opening::Roll,
-                cursor: Cursor {
-                    place,
-                    left: terms,
-                    kind: kind.number(),
-                    l: l as u8,
-                },
-                orders,
-            },
-            Field::Refused(refusal, place) => refused_roll(refusal, place),
-        },
-        Field::Refused(refusal, place) => refused_roll(refusal, place),
-    }
-}
-
-// A header from its orders on, of a kind that has a name: what both forms of a roll have.
-pub fn open_kind(roll: &[u8], at: usize, kind: Kind) -> Opened
+// A header from its orders on, of a kind that has a name: what both forms of a roll have. The term count ends it.
+pub fn open_kind(roll: &[u8], at: usize, kind: Kind) -> Result<Opened, Fault>
     ensures { result ≡ open_kind_of roll.now at kind }
 {
-    open_count(roll, kind, orders(roll, at, kind.orders()))
+    let read = orders(roll, at, kind.orders())?;
+    let (terms, place) = within(roll, read.end, 1, Kind::MOST_TERMS)?;
+    let cursor = Cursor {
+        place,
+        left: terms,
+        kind: kind.number(),
+        l: read.l as u8,
+    };
+    let orders = read.values;
+    Ok(Opened { cursor, orders })
 }
 
 // A roll's kind, orders and term count; the terms are not looked at (D-12).
-pub fn open(roll: &[u8]) -> Opened
+pub fn open(roll: &[u8]) -> Result<Opened, Fault>
     ensures { result ≡ open_of roll.now }
 {
-    match within(roll, 0, 0, Kind::Coulomb.number() as u32) {
-        Field::Is(number, next) => match Kind::of(number as u8) {
-            Named::Is(kind) => open_kind(roll, next, kind),
-            Named::Unknown => refused_roll(7, 0),
-        },
-        Field::Refused(refusal, place) => refused_roll(refusal, place),
+    let (number, next) = within(roll, 0, 0, Kind::Coulomb.number() as u32)?;
+    match Kind::of(number as u8) {
+        Some(kind) => open_kind(roll, next, kind),
+        None => Err(bad_roll(0)),
     }
 }

@@ -10,8 +10,8 @@ mod over;
 mod terms;
 
 pub use again::{Head, Seen, boys_at, end_at, head_at, number_at};
-pub use cursor::{Cursor, Found, Step, no_cursor};
-pub use field::{Field, within};
-pub use header::{Opened, Opening, open, open_kind, refused_roll};
+pub use cursor::{Cursor, Step, no_cursor};
+pub use field::within;
+pub use header::{Opened, open, open_kind};
 pub use judge::check;
 pub use terms::most_boys;

@@ -17,9 +17,10 @@ use lib.Ieee.Nearest.{div_mono}
 use lib.Ieee.Order.{le_of_values}
 use lib.Ieee.Positive.{positive, num, den, den_pos, le→cross, positive_of_value, positive-finite, above_of_le}
 use lib.Ieee.Scale.{finite}
+use Rattle.std.specs.Prelude.{Ok, Err}
+use Rattle.kind.specs.declared.refusals.Refusal.TheVariants.{InputNotFinite, BelowZero}
 use Rattle.geometry.specs.Floats.{zero as 0·0}
 use Rattle.root.specs.declared.Part.{Part}
-use Rattle.root.specs.declared.Rooted.TheVariants.{Is, Refused}
 use Rattle.root.specs.Root.{units_in_one, in_units, square, dropped, kept, root_of, rooted_of}
 use Rattle.root.specs.Nearest.{NearerThan, Enclosed, negative, NearestTo}
 use Rattle.root.specs.inner.Digits.{hidden, nearer}
@@ -188,11 +189,11 @@ no_number : ◌≡◌ {A = ℕ} 0 1 → ⊥
 no_number h = omega arith
 
 -- whatever `root` answers for a float is nearest
-pub answer-nearest : (x r : Float) → T (fits binary64 x) → rooted_of x ≡ Is r → NearestTo x r
+pub answer-nearest : (x r : Float) → T (fits binary64 x) → rooted_of x ≡ Ok r → NearestTo x r
 unfolding rooted_of
 answer-nearest x r F e = go (finite x) (lt x 0·0) refl refl e
   where
-    go : (a b : Bool) → finite x ≡ a → lt x 0·0 ≡ b → cond a (cond b (Refused 18) (Is (root_of x))) (Refused 8) ≡ Is r → NearestTo x r
+    go : (a b : Bool) → finite x ≡ a → lt x 0·0 ≡ b → cond a (cond b (Err BelowZero) (Ok (root_of x))) (Err InputNotFinite) ≡ Ok r → NearestTo x r
     go true true p q e = let z : ◌≡◌ {A = ℕ} 0 1 = cc in absurd (no_number z)
     go true false p q e = let z : root_of x ≡ r = cc in subst (λ (y : Float). NearestTo x y) z (root-nearest x F (subst T (sym p) tt) q)
     go false b p q e = let z : ◌≡◌ {A = ℕ} 0 1 = cc in absurd (no_number z)

@@ -12,8 +12,9 @@ use lib.Ieee.Bits.{of_bits-to_bits, nan_bits_above}
 use lib.Ieee.Exact.{HasValue}
 use lib.Ieee.Fits.{up_pos}
 use lib.Ieee.Scale.{finite}
+use Rattle.std.specs.Prelude.{Ok, Err}
+use Rattle.kind.specs.declared.refusals.Refusal.TheVariants.{InputNotFinite, BelowZero}
 use Rattle.geometry.specs.Floats.{zero as 0·0}
-use Rattle.root.specs.declared.Rooted.TheVariants.{Is, Refused}
 use Rattle.root.specs.Root.{units_in_one, in_units, nearest_root, root_of, rooted_of}
 use Rattle.root.specs.inner.Digits.{infinite, bits_units, BitsTold}
 use Rattle.root.proofs.Patterns.{bits-value, units_of, bits-finite}
@@ -134,14 +135,14 @@ finite-bits b r t =
 
 -- ---- the refusals
 module _ (x : Float) (t : Bool) (e : t ≡ finite x) where
-  pub refused-below : t ≡ true → lt x 0·0 ≡ true → Refused 18 ≡ rooted_of x
+  pub refused-below : t ≡ true → lt x 0·0 ≡ true → Err BelowZero ≡ rooted_of x
   unfolding rooted_of
   refused-below p l = rw (← e, p, l)
 
-  pub rooted : t ≡ true → lt x 0·0 ≡ false → (r : Float) → r ≡ root_of x → Is r ≡ rooted_of x
+  pub rooted : t ≡ true → lt x 0·0 ≡ false → (r : Float) → r ≡ root_of x → Ok r ≡ rooted_of x
   unfolding rooted_of
-  rooted p l r f = rw (← e, p, l) (ap Is f)
+  rooted p l r f = rw (← e, p, l) (ap Ok f)
 
-  pub refused-infinite : t ≡ false → Refused 8 ≡ rooted_of x
+  pub refused-infinite : t ≡ false → Err InputNotFinite ≡ rooted_of x
   unfolding rooted_of
   refused-infinite p = rw (← e, p)

@@ -1,12 +1,13 @@
 -- 02, Q-12: the root of an f64 is the nearest f64 to the exact root, ties to even, said over whole numbers by comparing squares.
 use Prim.Native.Nat.{ℕ, zero, suc, ◌+◌, ◌-◌, ◌*◌, ◌/◌, ◌^◌, compare}
-use Rattle.std.specs.Prelude.{true, false, cond, leb, Float}
+use Rattle.std.specs.Prelude.{true, false, cond, leb, Float, Result, Ok, Err}
 use Rattle.std.specs.Float.{nan, inf, fin, binary64}
 use Rattle.std.specs.Float.Ieee.{prec, low, up, down, size, nearest, units, lt}
 use Rattle.std.specs.Float.Ieee.Scale.{finite}
+use Rattle.kind.specs.declared.refusals.Refusal.{Refusal}
+use Rattle.kind.specs.declared.refusals.Refusal.TheVariants.{InputNotFinite, BelowZero}
+use Rattle.kind.specs.Refusals.{refusal_number}
 use Rattle.geometry.specs.Floats.{zero as 0·0}
-use Rattle.root.specs.declared.Rooted.{Rooted}
-use Rattle.root.specs.declared.Rooted.TheVariants.{Is, Refused}
 
 -- the smallest f64 above 0 is 2^-1074, a unit: every finite f64 is a whole number of units
 abbrev pub units_in_one : ℕ
@@ -58,10 +59,10 @@ root_of (fin true (suc m) e) = nan
 root_of (fin false (suc m) e) = nearest_root (in_units (fin false (suc m) e))
 
 -- 8 for a float that isn't finite, then 18 for one below 0; −0.0 is not below 0
-unfoldable pub rooted_of : Float → Rooted
-rooted_of x = cond (finite x) (cond (lt x 0·0) (Refused 18) (Is (root_of x))) (Refused 8)
+unfoldable pub rooted_of : Float → Result Float Refusal
+rooted_of x = cond (finite x) (cond (lt x 0·0) (Err BelowZero) (Ok (root_of x))) (Err InputNotFinite)
 
 -- the number that 02 gives each case; 0 is success
-abbrev pub refusal_of : Rooted → ℕ
-refusal_of (Is r) = 0
-refusal_of (Refused n) = n
+abbrev pub refusal_of : Result Float Refusal → ℕ
+refusal_of (Ok r) = 0
+refusal_of (Err refusal) = refusal_number refusal

@@ -5,14 +5,10 @@ ghost use Rattle.std.specs.Prelude.{◌+◌, ◌-◌, ◌*◌, ◌^◌, ◌≤�
 ghost use Rattle.root.specs.Root.{units_in_one, root_of, rooted_of};
 ghost use Rattle.root.specs.inner.Digits.{hidden, infinite, DigitTold, FurtherMay, WholeTold, RootTold, NearerTold, ZerosTold, bits_units, ScaledTold, BitsTold};
 
+use kind::Refusal;
+
 // The leading digit of a float, which its bits leave out.
 const HIDDEN: u64 = 0x10_0000_0000_0000;
-
-#[derive(Clone, Copy)]
-pub enum Rooted {
-    Is(f64),
-    Refused(u8),
-}
 
 // The root of a number so far, cut to a whole number, and what is left beside its square.
 #[derive(Clone, Copy)]
@@ -44,10 +40,7 @@ fn digit(part: Part, pair: u64) -> Part
             rest: rest - odd,
         };
     }
-    Part {
-        root: root,
-        rest: rest,
-    }
+    Part { root, rest }
 }
 
 // As many digits more as `base` has zeros, in one division: a number below base² follows.
@@ -125,7 +118,7 @@ fn even(digits: u64, power: u64) -> Scaled
 {
     if power % 2 == 0 {
         return Scaled {
-            digits: digits,
+            digits,
             half: power / 2,
         };
     }
@@ -182,14 +175,14 @@ pub fn root_of(x: f64) -> f64
 }
 
 // The root of a finite float of 0.0 or above; 8 for a float that is not finite, then 18 for one below 0.0.
-pub fn root(x: f64) -> Rooted
+pub fn root(x: f64) -> Result<f64, Refusal>
     ensures { result ≡ rooted_of x }
 {
-    if geometry::finite(x) {
-        if x < 0.0 {
-            return Rooted::Refused(18);
-        }
-        return Rooted::Is(root_of(x));
+    if !geometry::finite(x) {
+        return Err(Refusal::InputNotFinite);
     }
-    Rooted::Refused(8)
+    if x < 0.0 {
+        return Err(Refusal::BelowZero);
+    }
+    Ok(root_of(x))
 }

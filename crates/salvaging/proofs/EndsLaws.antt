@@ -100,10 +100,10 @@ module _ (n : ℕ) (s : List ℕ) (most terms place count : ℕ) (e : Ending n s
       let t = turned less false (le-ltb most (end_at n s place) (omega arith)) in
       rw is (record { within = omega arith; whole = (whole-first n s place (terms - (count + 1)) (next less)).1; all = omega (arith, t) })
 
-  pub ending-done : terms ≤ count → count ≡ ends_within n s most 0 terms
+  pub ending-done : terms ≤ count → terms ≡ ends_within n s most 0 terms
   ending-done done =
       let none = e.all ∙ ap (λ (m : ℕ). count + ends_within n s most place m) (left-none terms count done) in
-      omega (arith, none, none_left n s most place)
+      omega (arith, none, none_left n s most place, e.within)
 
 pub ends-few : (n : ℕ) (s : List ℕ) (most at left : ℕ) → ends_within n s most at left ≤ left
 unfolding ends_within

@@ -12,11 +12,11 @@ use Rattle.kind.specs.Kinds.{kind_of, number_of}
 use Rattle.kind.specs.declared.Kind.{Kind}
 use Rattle.kind.specs.declared.Kind.TheVariants.{Coulomb}
 use Rattle.kind.proofs.Within.{number-within}
-use Rattle.number.specs.declared.Number.{Number}
-use Rattle.number.specs.declared.Number.TheVariants as number
+use Rattle.number.specs.Read.{Number}
+use Rattle.number.specs.Read as number
 use Rattle.number.specs.Numbers.{bytes_of, read_at, Bytes}
 use Rattle.number.proofs.Writing.{bytes-last}
-use Rattle.roll.specs.declared.field.Field.TheVariants as field
+use Rattle.roll.specs.Field as field
 use Rattle.roll.specs.Bytes.{numbers_bytes}
 use Rattle.roll.specs.Reading.{Reading, got, refused, opened, within_at, onward, Header, of_kind, header_at}
 use Rattle.form2.specs.Bytes.{form_two}
@@ -27,6 +27,7 @@ use Rattle.salvaging.specs.Salvage.{form_of, header_in}
 use Rattle.salvaging.specs.inner.Forms.{first_in}
 use Rattle.salvaging.proofs.FormsLaws.{form-below, second-form}
 use Rattle.salvaging.proofs.Fresh.{header_is}
+use Rattle.kind.specs.declared.refusals.Refusal.TheVariants.{BadRoll, CutRoll}
 
 -- ---- a header that reads
 
@@ -78,16 +79,16 @@ abbrev two : List ℕ → Number → Reading Header
 two s x = onward (opened x 0 form_two (form_two + number_of Coulomb)) (λ n next. of_kind s next (kind_of (n - form_two)))
 
 -- both readers refuse it alike, at its first byte, so it does not matter which of them is asked
-pub neither-alike : (s : List ℕ) → Neither s → (header_at s ≡ header_at2 s) × ((header_at s ≡ refused 7 0) ⊎ (header_at s ≡ refused 14 0))
+pub neither-alike : (s : List ℕ) → Neither s → (header_at s ≡ header_at2 s) × ((header_at s ≡ refused BadRoll 0) ⊎ (header_at s ≡ refused CutRoll 0))
 unfolding header_at header_at2 within_at
 neither-alike s none = by (read_at s 0) refl
   where
-    by : (x : Number) → read_at s 0 ≡ x → (one s (read_at s 0) ≡ two s (read_at s 0)) × ((one s (read_at s 0) ≡ refused 7 0) ⊎ (one s (read_at s 0) ≡ refused 14 0))
+    by : (x : Number) → read_at s 0 ≡ x → (one s (read_at s 0) ≡ two s (read_at s 0)) × ((one s (read_at s 0) ≡ refused BadRoll 0) ⊎ (one s (read_at s 0) ≡ refused CutRoll 0))
     by (number.Is n next) e =
-        let first : one s (read_at s 0) ≡ refused 7 0 =
-        ap (one s) e ∙ ap (λ (b : Bool). onward (cond b (field.Refused 7 0) (field.Is n next)) (λ n next. of_kind s next (kind_of n))) (above n (none.not-one n next e)) in
-        let second : two s (read_at s 0) ≡ refused 7 0 =
-        ap (two s) e ∙ ap (λ (b : Bool). onward (cond b (field.Refused 7 0) (field.Is n next)) (λ n next. of_kind s next (kind_of (n - form_two)))) (outside n (none.not-two n next e)) in
+        let first : one s (read_at s 0) ≡ refused BadRoll 0 =
+        ap (one s) e ∙ ap (λ (b : Bool). onward (cond b (field.Refused BadRoll 0) (field.Is n next)) (λ n next. of_kind s next (kind_of n))) (above n (none.not-one n next e)) in
+        let second : two s (read_at s 0) ≡ refused BadRoll 0 =
+        ap (two s) e ∙ ap (λ (b : Bool). onward (cond b (field.Refused BadRoll 0) (field.Is n next)) (λ n next. of_kind s next (kind_of (n - form_two)))) (outside n (none.not-two n next e)) in
         (first ∙ sym second, inl first)
     by number.Ended e = (ap (one s) e ∙ sym (ap (two s) e), inr (ap (one s) e))
     by number.NotShortest e = (ap (one s) e ∙ sym (ap (two s) e), inl (ap (one s) e))

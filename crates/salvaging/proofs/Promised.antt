@@ -15,33 +15,34 @@ use Rattle.kind.specs.Limits.{most_terms}
 use Rattle.kind.specs.Kinds.{kind_of, number_of, orders_of, most_l}
 use Rattle.kind.specs.declared.Kind.{Kind}
 use Rattle.kind.specs.declared.Kind.TheVariants.{Coulomb}
-use Rattle.kind.specs.declared.Named.{Named}
 use Rattle.kind.proofs.KindNumber.{kind-number}
 use Rattle.kind.proofs.Within.{number-within}
 use Rattle.number.specs.Numbers.{bytes_of, length_of, Bytes}
 use Rattle.term.specs.Terms.{Term}
-use Rattle.roll.specs.declared.field.Field.{Field}
+use Rattle.roll.specs.Field.{Field}
 use Rattle.roll.specs.Bytes.{numbers_bytes, roll_bytes}
-use Rattle.roll.specs.Reading.{Reading, got, refused, onward, Header, of_kind, header_at, Roll, roll_at}
+use Rattle.roll.specs.Reading.{Reading, got, refused, onward, Header, of_kind, header_at, Roll}
 use Rattle.roll.specs.Fits.{CentresFit, TermsFit, RollFits}
 use Rattle.roll.proofs.Back.{field_back, kind-back}
 use Rattle.roll.proofs.Written.{roll-read}
 use Rattle.form2.specs.Bytes.{form_two, roll_bytes2}
-use Rattle.form2.specs.Reading.{header_at2, roll_at2}
+use Rattle.form2.specs.Reading.{header_at2}
 use Rattle.form2.proofs.Written.{roll-read2}
 use Rattle.expansion.specs.Expanding.{◌exceeds◌, too_many}
 use Rattle.salvaging.specs.declared.forms.Form.{Form}
 use Rattle.salvaging.specs.declared.forms.Form.TheVariants.{One, Two}
 use Rattle.salvaging.specs.declared.After.TheVariants as after
 use Rattle.salvaging.specs.declared.Told.{Told}
-use Rattle.salvaging.specs.declared.Salvaged.{Salvaged}
-use Rattle.salvaging.specs.declared.Salvaged.TheVariants as answer
-use Rattle.salvaging.specs.Salvage.{form_of, header_in, request_of, fresh_terms, fresh_roll, Leading, leading, leading_of, after_of, told_of, salvaged_in, bytes_out, salvaged_of, out_of, terms_from}
+use Rattle.salvaging.specs.Salvage.{Salvaged, form_of, header_in, request_of, fresh_terms, fresh_roll, Leading, leading, leading_of, after_of, told_of, salvaged_in, bytes_out, salvaged_of, out_of, terms_from, read_in, header_of}
 use Rattle.salvaging.specs.inner.Forms.{term_bytes_in, terms_bytes_in}
 use Rattle.salvaging.proofs.InForms.{term-there, terms-next, terms-none}
 use Rattle.salvaging.proofs.Kept.{lead-more, lead-place, lead-few, lead-reads, lead-most}
 use Rattle.salvaging.proofs.Fresh.{head_of, fresh-fits, fresh-some, fresh-bytes, header_is}
 use Rattle.salvaging.proofs.FirstByte.{form-taken}
+use Rattle.std.specs.Prelude.{Option, Ok, Err}
+use Rattle.kind.specs.declared.refusals.Fault.{Fault}
+use Rattle.roll.specs.Field.{fault}
+use Rattle.kind.specs.declared.refusals.Refusal.TheVariants.{TooManyTerms, StartBeyondEnd, NoRoom}
 
 -- ---- what is written
 
@@ -55,16 +56,16 @@ pub record WrittenAnew (s out : List ℕ) (start : ℕ) (told : Told) : Type 0 w
   pub few : length (fresh_terms h) ≤ most_terms
   pub written : out_of s out start ≡ placed out start (fresh_roll (form_of s) h)
 
-pub salvage-writes : (s out : List ℕ) (start : ℕ) (told : Told) → salvaged_of s out start ≡ answer.Roll told → WrittenAnew s out start told
+pub salvage-writes : (s out : List ℕ) (start : ℕ) (told : Told) → salvaged_of s out start ≡ Ok told → WrittenAnew s out start told
 unfolding salvaged_of out_of salvaged_in fresh_terms
 salvage-writes s out start told e = by (header_in (form_of s) s) refl e
   where
-    by : (x : Reading Header) → header_in (form_of s) s ≡ x → salvaged_in (form_of s) s x out start ≡ answer.Roll told → WrittenAnew s out start told
+    by : (x : Reading Header) → header_in (form_of s) s ≡ x → salvaged_in (form_of s) s x out start ≡ Ok told → WrittenAnew s out start told
     by (refused n place) reads e = absurd (clash (cc))
     by (got h next) reads e = on (start exceeds length out) (too_many h.kind (request_of h)) (start + length (fresh_roll (form_of s) h) exceeds length out) refl refl e
       where
         on : (five four six : Bool) → too_many h.kind (request_of h) ≡ four → (start + length (fresh_roll (form_of s) h) exceeds length out) ≡ six
-            → cond five (answer.Refused 5 0) (cond four (answer.Refused 4 0) (cond six (answer.Refused 6 0) (answer.Roll (told_of (form_of s) s h next)))) ≡ answer.Roll told → WrittenAnew s out start told
+            → cond {A = Salvaged} five (Err (fault StartBeyondEnd 0)) (cond four (Err (fault TooManyTerms 0)) (cond six (Err (fault NoRoom 0)) (Ok (told_of (form_of s) s h next)))) ≡ Ok told → WrittenAnew s out start told
         on true four six p q e = absurd (clash (cc))
         on false true six p q e = absurd (clash (cc))
         on false false true p q e = absurd (clash (cc))
@@ -82,9 +83,9 @@ salvage-writes s out start told e = by (header_in (form_of s) s) refl e
             }
 
 -- a refusal changes nothing
-pub refusal-changes-nothing : (s out : List ℕ) (start n place : ℕ) → salvaged_of s out start ≡ answer.Refused n place → out_of s out start ≡ out
+pub refusal-changes-nothing : (s out : List ℕ) (start : ℕ) (why : Fault) → salvaged_of s out start ≡ Err why → out_of s out start ≡ out
 unfolding out_of
-refusal-changes-nothing s out start n place e = ap (λ (x : Salvaged). bytes_out x (form_of s) (header_in (form_of s) s) out start) e
+refusal-changes-nothing s out start why e = ap (λ (x : Salvaged). bytes_out x (form_of s) (header_in (form_of s) s) out start) e
 
 -- ---- what is kept, and what is anew
 
@@ -142,7 +143,7 @@ header-there One h s rest places sums some most is =
     let r = kind-back k h.orders h.terms s rest x.0 places sums some most x.2 in (
       r.0,
       ap (λ (y : Field). onward y (λ n next. of_kind s next (kind_of n))) x.1
-          ∙ ap (λ (m : Named). of_kind s x.0 m) (kind-number k)
+          ∙ ap (λ (m : Option Kind). of_kind s x.0 m) (kind-number k)
           ∙ r.1,
       r.2,
     )
@@ -155,7 +156,7 @@ header-there Two h s rest places sums some most is =
     let number : form_two + number_of k - form_two ≡ number_of k = omega arith in (
       r.0,
       ap (λ (y : Field). onward y (λ n next. of_kind s next (kind_of (n - form_two)))) x.1
-          ∙ ap (λ (m : Named). of_kind s x.0 m) (ap kind_of number ∙ kind-number k)
+          ∙ ap (λ (m : Option Kind). of_kind s x.0 m) (ap kind_of number ∙ kind-number k)
           ∙ r.1,
       r.2,
     )
@@ -223,14 +224,6 @@ damage-behind f s h n bytes fresh few same =
 
 -- ---- a roll that is whole
 
--- the reader of each form
-abbrev pub read_in : Form → List ℕ → Reading Roll
-read_in One s = roll_at s
-read_in Two s = roll_at2 s
-
-abbrev pub header_of : Roll → Header
-header_of r = record { kind = r.kind; orders = r.orders; terms = length r.terms }
-
 -- its bytes are its writing, and it keeps the limits
 read_is : (f : Form) (s : List ℕ) (r : Roll) (end : ℕ) → Bytes s → read_in f s ≡ got r end → (s ≡ head_of f (header_of r) ++ (bytes_of (length r.terms) ++ terms_bytes_in f [] r.terms)) × RollFits r
 unfolding roll_bytes roll_bytes2
@@ -271,14 +264,14 @@ whole-told f s h next bytes reads fresh tail roll =
         rw (a, b, c, d, eq-eqb h.terms h.terms refl, eq-eqb (length s) (length s) refl, none) refl
 
 -- with few terms and room, what is told is the answer
-room-told : (f : Form) (s : List ℕ) (h : Header) (next : ℕ) (out : List ℕ) (start : ℕ) → length (fresh_terms h) ≤ most_terms → start + length (fresh_roll f h) ≤ length out → salvaged_in f s (got h next) out start ≡ answer.Roll (told_of f s h next)
+room-told : (f : Form) (s : List ℕ) (h : Header) (next : ℕ) (out : List ℕ) (start : ℕ) → length (fresh_terms h) ≤ most_terms → start + length (fresh_roll f h) ≤ length out → salvaged_in f s (got h next) out start ≡ Ok (told_of f s h next)
 unfolding salvaged_in fresh_terms
 room-told f s h next out start few room =
     rw (le-ltb (length out) start (omega (arith, room)), le-ltb most_terms (length (fresh_terms h)) few, le-ltb (length out) (start + length (fresh_roll f h)) room) refl
 
 -- a roll that reads and whose terms are its request's expansion: all of that is told, and the bytes written are its own
 pub whole-roll : (f : Form) (s : List ℕ) (r : Roll) (end : ℕ) → Bytes s → read_in f s ≡ got r end → r.terms ≡ fresh_terms (header_of r) → (out : List ℕ) (start : ℕ) → start + length s ≤ length out
-    → (salvaged_of s out start ≡ answer.Roll (all_kept s r)) × (out_of s out start ≡ placed out start s)
+    → (salvaged_of s out start ≡ Ok (all_kept s r)) × (out_of s out start ≡ placed out start s)
 unfolding salvaged_of out_of
 whole-roll f s r end bytes e own out start room =
     let h = header_of r in
@@ -290,14 +283,14 @@ whole-roll f s r end bytes e own out start room =
     let tail : drop there.0 s ≡ terms_bytes_in f [] (fresh_terms h) = there.2 ∙ ap (terms_bytes_in f []) own in
     let roll : fresh_roll f h ≡ s = fresh-bytes h fits.places f ∙ ap (λ (us : List Term). head_of f h ++ (bytes_of (length us) ++ terms_bytes_in f [] us)) (sym own) ∙ sym x.0 in
     let told = whole-told f s h there.0 bytes there.1 fresh tail roll in
-    let is : salvaged_in (form_of s) s (header_in (form_of s) s) out start ≡ answer.Roll (all_kept s r) =
+    let is : salvaged_in (form_of s) s (header_in (form_of s) s) out start ≡ Ok (all_kept s r) =
     ap (λ (g : Form). salvaged_in g s (header_in g s) out start) form
     ∙ ap (λ (y : Reading Header). salvaged_in f s y out start) there.1
     ∙ room-told f s h there.0 out start (omega (arith, fresh.count, fresh.few)) (omega (arith, room, ap length roll))
-    ∙ ap answer.Roll told in (
+    ∙ ap (λ (t : Told). Ok t) told in (
       is,
       ap (λ (y : Salvaged). bytes_out y (form_of s) (header_in (form_of s) s) out start) is
-          ∙ ap (λ (g : Form). bytes_out (answer.Roll (all_kept s r)) g (header_in g s) out start) form
-          ∙ ap (λ (y : Reading Header). bytes_out (answer.Roll (all_kept s r)) f y out start) there.1
+          ∙ ap (λ (g : Form). bytes_out (Ok (all_kept s r)) g (header_in g s) out start) form
+          ∙ ap (λ (y : Reading Header). bytes_out (Ok (all_kept s r)) f y out start) there.1
           ∙ ap (placed out start) roll,
     )

@@ -14,18 +14,15 @@ use Rattle.laws.specs.Placed.{placed}
 use Rattle.laws.specs.Total.{total}
 use Rattle.kind.specs.Limits.{most_terms}
 use Rattle.kind.specs.Kinds.{kind_of}
-use Rattle.kind.specs.declared.Named.{Named}
-use Rattle.kind.specs.declared.Named.TheVariants.{Is}
 use Rattle.kind.proofs.KindNumber.{kind-number}
 use Rattle.number.specs.Numbers.{length_of, Bytes}
 use Rattle.roll.specs.declared.cursor.Cursor.{Cursor}
 use Rattle.roll.specs.declared.header.Opened.{Opened}
-use Rattle.roll.specs.declared.header.Opening.TheVariants as opening
 use Rattle.roll.specs.Reading.{Reading, got, refused, Header}
 use Rattle.roll.specs.Header.{cursor_at, held_header}
 use Rattle.form2.specs.Bytes.{shared}
 use Rattle.expansion.specs.declared.Expanded.{Expanded}
-use Rattle.expansion.specs.declared.Expanded.TheVariants as expanded
+use Rattle.expansion.specs.Answer.{Answer, Roll, Refused}
 use Rattle.expansion.specs.Expanding.{◌exceeds◌, too_many, terms_of, kind_in, named_in, out_in, FormTold}
 use Rattle.expansion.specs.inner.Requests.{RequestWithin}
 use Rattle.expansion.proofs.Demanded.{answered, cut}
@@ -33,14 +30,20 @@ use Rattle.salvaging.specs.declared.forms.Form.{Form}
 use Rattle.salvaging.specs.declared.After.{After}
 use Rattle.salvaging.specs.declared.After.TheVariants as after
 use Rattle.salvaging.specs.declared.Told.{Told}
-use Rattle.salvaging.specs.declared.Salvaged.{Salvaged}
-use Rattle.salvaging.specs.declared.Salvaged.TheVariants as answer
-use Rattle.salvaging.specs.Salvage.{form_of, header_in, roll_in, request_of, fresh_terms, fresh_roll, Leading, leading, leading_of, after_of, told_of, salvaged_in, bytes_out, salvaged_of, out_of, SalvageTold}
+use Rattle.salvaging.specs.Salvage.{Salvaged, form_of, header_in, roll_in, request_of, fresh_terms, fresh_roll, Leading, leading, leading_of, after_of, told_of, salvaged_in, bytes_out, salvaged_of, out_of, SalvageTold}
 use Rattle.salvaging.specs.inner.Ends.{behind, Whole, ends_within}
 use Rattle.salvaging.specs.inner.Forms.{terms_bytes_in}
 use Rattle.salvaging.specs.inner.Renewing.{after_by, ToldMay, ToldFrom, RenewMay, RenewTold}
 use Rattle.salvaging.proofs.Fresh.{HeaderIs, header_is, header-long, request-within, fresh-fits, fresh_from, fresh-tail}
 use Rattle.salvaging.proofs.Kept.{terms-whole, ends-lead, lead-place}
+use Rattle.std.specs.Prelude.{Option, Some, Result, Ok, Err}
+use Rattle.kind.specs.declared.refusals.Refusal.{Refusal}
+use Rattle.kind.specs.declared.refusals.Fault.{Fault}
+use Rattle.kind.proofs.Faults.{err-is}
+use Rattle.roll.specs.Field.{fault}
+use Rattle.roll.proofs.Checked.{opened-of}
+use Rattle.kind.specs.declared.refusals.Refusal.TheVariants.{TooManyTerms, StartBeyondEnd, NoRoom}
+use Rattle.kind.specs.declared.Kind.{Kind}
 
 -- ---- a damaged roll against the fresh one
 
@@ -110,9 +113,9 @@ module _ (f : Form) (s : List ℕ) (c : Cursor) (fresh : List ℕ) (terms : ℕ)
 -- ---- the request of a header worked out afresh
 
 -- what `expanded` answers of a header's request, told of the roll
-abbrev pub as_salvaged : Told → Expanded → Salvaged
-as_salvaged told (expanded.Roll long count) = answer.Roll told
-as_salvaged told (expanded.Refused n) = answer.Refused n 0
+abbrev pub as_salvaged : Told → Answer → Salvaged
+as_salvaged t (Ok e) = Ok t
+as_salvaged t (Err r) = Err (fault r 0)
 
 module _ (f : Form) (s : List ℕ) (h : Header) (next : ℕ) (within : RequestWithin h.kind (request_of h)) (out : List ℕ) (start : ℕ) where
   -- the tests of both, and what they come to
@@ -121,39 +124,42 @@ module _ (f : Form) (s : List ℕ) (h : Header) (next : ℕ) (within : RequestWi
   answered-as = rw (within.low_sums, within.none-unused) (by (start exceeds length out) (too_many h.kind (request_of h)) (start + length (roll_in f h.kind (request_of h)) exceeds length out))
     where
       by : (five four six : Bool) →
-          cond five (answer.Refused 5 0) (cond four (answer.Refused 4 0) (cond six (answer.Refused 6 0) (answer.Roll (told_of f s h next))))
-          ≡ as_salvaged (told_of f s h next) (cond five (expanded.Refused 5) (cond four (expanded.Refused 4) (cond six (expanded.Refused 6) (expanded.Roll (length (roll_in f h.kind (request_of h))) (length (terms_of h.kind (request_of h)))))))
+          cond {A = Salvaged} five (Err (fault StartBeyondEnd 0)) (cond four (Err (fault TooManyTerms 0)) (cond six (Err (fault NoRoom 0)) (Ok (told_of f s h next))))
+          ≡ as_salvaged (told_of f s h next) (cond five (Refused StartBeyondEnd) (cond four (Refused TooManyTerms) (cond six (Refused NoRoom) (Roll (length (roll_in f h.kind (request_of h))) (length (terms_of h.kind (request_of h)))))))
       by true four six = refl
       by false true six = refl
       by false false true = refl
       by false false false = refl
 
 -- what is known of a header's request, whichever the answer
-record Asked (f : Form) (s : List ℕ) (h : Header) (next : ℕ) (before : List ℕ) (start : ℕ) (w : Expanded) (now : List ℕ) : Type 0 where
+record Asked (f : Form) (s : List ℕ) (h : Header) (next : ℕ) (before : List ℕ) (start : ℕ) (w : Answer) (now : List ℕ) : Type 0 where
   pub parts : HeaderIs f s h next
   pub within : RequestWithin h.kind (request_of h)
   pub answer : w ≡ kind_in (roll_in f) h.kind (request_of h) before start
-  pub out : now ≡ out_in (roll_in f) w (Is h.kind) (request_of h) before start
+  pub out : now ≡ out_in (roll_in f) w (Some h.kind) (request_of h) before start
 
-module _ (f : Form) (s : List ℕ) (o : Opened) (before : List ℕ) (start : ℕ) (may : RenewMay f s o) (w : Expanded) (now : List ℕ) (told : FormTold (roll_in f) o.cursor.kind o.orders before start w now) where
+module _ (f : Form) (s : List ℕ) (o : Opened) (before : List ℕ) (start : ℕ) (may : RenewMay f s o) (w : Answer) (now : List ℕ) (told : FormTold (roll_in f) o.cursor.kind o.orders before start w now) where
   abbrev hd : Header
   hd = may.header.h
+
+  opened-is : o ≡ opened-of hd may.header.next
+  opened-is = let is = may.held in cc
 
   asked : Asked f s may.header.h may.header.next before start w now
   unfolding request_of
   asked =
       let parts = header_is f s hd may.header.next may.bytes may.header.reads in
-      let kind : kind_of o.cursor.kind ≡ Is hd.kind = ap (λ (x : Opened). kind_of x.cursor.kind) may.held ∙ kind-number hd.kind in
-      let orders : o.orders ≡ request_of hd = ap (λ (x : Opened). x.orders) may.held in
-      let is : w ≡ kind_in (roll_in f) hd.kind (request_of hd) before start = told.answer ∙ ap₂ (λ (n : Named) (os : List ℕ). named_in (roll_in f) n os before start) kind orders in
+      let kind : kind_of o.cursor.kind ≡ Some hd.kind = ap (λ (x : Opened). kind_of x.cursor.kind) opened-is ∙ kind-number hd.kind in
+      let orders : o.orders ≡ request_of hd = ap (λ (x : Opened). x.orders) opened-is in
+      let is : w ≡ kind_in (roll_in f) hd.kind (request_of hd) before start = told.answer ∙ ap₂ (λ (n : Option Kind) (os : List ℕ). named_in (roll_in f) n os before start) kind orders in
       record {
         parts = parts;
         within = request-within hd parts.places parts.sums;
         answer = is;
         out =
             told.out
-            ∙ ap (λ (x : Expanded). out_in (roll_in f) x (kind_of o.cursor.kind) o.orders before start) (sym told.answer)
-            ∙ ap₂ (λ (n : Named) (os : List ℕ). out_in (roll_in f) w n os before start) kind orders;
+            ∙ ap (λ (x : Answer). out_in (roll_in f) x (kind_of o.cursor.kind) o.orders before start) (sym told.answer)
+            ∙ ap₂ (λ (n : Option Kind) (os : List ℕ). out_in (roll_in f) w n os before start) kind orders;
       }
 
   -- the answer that the definition gives
@@ -164,17 +170,23 @@ module _ (f : Form) (s : List ℕ) (o : Opened) (before : List ℕ) (start : ℕ
       ∙ sym (answered-as f s hd may.header.next a.within before start)
       ∙ ap (λ (x : Reading Header). salvaged_in f s x before start) (sym may.header.reads)
 
-  pub renew-refused : (n : ℕ) → w ≡ expanded.Refused n → RenewTold f s before start (answer.Refused n 0) now
+  pub renew-refused : (n : Refusal) → w ≡ Err n → RenewTold f s before start (Err (fault n 0)) now
   renew-refused n e =
       let a = asked in
       let told_is = told_of f s hd may.header.next in
-      let is : answer.Refused n 0 ≡ salvaged_in f s (header_in f s) before start = ap (as_salvaged told_is) (sym e) ∙ salvaged told_is refl in
+      let is : Err (fault n 0) ≡ salvaged_in f s (header_in f s) before start = ap (as_salvaged told_is) (sym e) ∙ salvaged told_is refl in
       record {
         answer = is;
-        out = a.out ∙ ap (λ (x : Expanded). out_in (roll_in f) x (Is hd.kind) (request_of hd) before start) e ∙ ap (λ (x : Salvaged). bytes_out x f (header_in f s) before start) is;
+        out = a.out ∙ ap (λ (x : Answer). out_in (roll_in f) x (Some hd.kind) (request_of hd) before start) e ∙ ap (λ (x : Salvaged). bytes_out x f (header_in f s) before start) is;
       }
 
-  module _ (long count : ℕ) (e : w ≡ expanded.Roll long count) where
+  module _ (fresh : Expanded) (e : w ≡ Ok fresh) where
+    abbrev long : ℕ
+    long = fresh.length
+
+    abbrev count : ℕ
+    count = fresh.terms
+
     -- its length and count, its room, and where it stands
     record Renewed : Type 0 where
       pub long-is : long ≡ length (fresh_roll f may.header.h)
@@ -192,7 +204,7 @@ module _ (f : Form) (s : List ℕ) (o : Opened) (before : List ℕ) (start : ℕ
         let begins : start ≤ length before = ltb-false (length before) start r.five in
         let room = ltb-false (length before) (start + length (roll_in f hd.kind (request_of hd))) r.six in
         let few = ltb-false most_terms (length (terms_of hd.kind (request_of hd))) r.four in
-        let stands : now ≡ placed before start (roll_in f hd.kind (request_of hd)) = a.out ∙ ap (λ (x : Expanded). out_in (roll_in f) x (Is hd.kind) (request_of hd) before start) e in
+        let stands : now ≡ placed before start (roll_in f hd.kind (request_of hd)) = a.out ∙ ap (λ (x : Answer). out_in (roll_in f) x (Some hd.kind) (request_of hd) before start) e in
         record {
           long-is = r.long-is;
           count-is = r.count-is;
@@ -218,7 +230,7 @@ module _ (f : Form) (s : List ℕ) (o : Opened) (before : List ℕ) (start : ℕ
         let next = may.header.next in
         let ts = fresh_terms hd in
         let same : start + long - start ≡ long = omega arith in
-        let cursor : o.cursor ≡ cursor_at hd next = ap (λ (x : Opened). x.cursor) may.held in
+        let cursor : o.cursor ≡ cursor_at hd next = ap (λ (x : Opened). x.cursor) opened-is in
         let long-head = header-long f s hd next parts in
         let place : o.cursor.place ≡ next = ap (λ (x : Cursor). x.place) cursor in
         let stored : length_of o.cursor.left ≡ length_of hd.terms = ap (λ (x : Cursor). length_of x.left) cursor in
@@ -241,38 +253,36 @@ module _ (f : Form) (s : List ℕ) (o : Opened) (before : List ℕ) (start : ℕ
           whole = rw (from_is, ends.0, r.count-is) whole;
         })
 
-    pub renew-told : (r : Told) → ToldFrom f s r → RenewTold f s before start (answer.Roll r) now
+    pub renew-told : (r : Told) → ToldFrom f s r → RenewTold f s before start (Ok r) now
     renew-told r from =
         let both : got from.header.h from.header.next ≡ got hd may.header.next = sym from.header.reads ∙ may.header.reads in
         let one : from.header.h ≡ hd = cc in
         let two : from.header.next ≡ may.header.next = cc in
-        let is : answer.Roll r ≡ salvaged_in f s (header_in f s) before start = ap (as_salvaged r) (sym e) ∙ salvaged r (from.is ∙ ap₂ (told_of f s) one two) in
+        let is : Ok r ≡ salvaged_in f s (header_in f s) before start = ap (as_salvaged r) (sym e) ∙ salvaged r (from.is ∙ ap₂ (told_of f s) one two) in
         record {
           answer = is;
-          out = renewed.stands ∙ ap (λ (x : Reading Header). bytes_out (answer.Roll r) f x before start) (sym may.header.reads) ∙ ap (λ (x : Salvaged). bytes_out x f (header_in f s) before start) is;
+          out = renewed.stands ∙ ap (λ (x : Reading Header). bytes_out (Ok r) f x before start) (sym may.header.reads) ∙ ap (λ (x : Salvaged). bytes_out x f (header_in f s) before start) is;
         }
 
 -- ---- the header first
 
-module _ (f : Form) (s : List ℕ) (o : Opened) (is : o ≡ held_header (header_in f s)) where
-  pub renew-first : Bytes s → o.found ≡ opening.Roll → RenewMay f s o
-  renew-first bytes found = by (header_in f s) refl
+module _ (f : Form) (s : List ℕ) (y : Result Opened Fault) (is : y ≡ held_header (header_in f s)) where
+  pub renew-first : (o : Opened) → Bytes s → y ≡ Ok o → RenewMay f s o
+  renew-first o bytes found = by (header_in f s) refl
     where
       by : (x : Reading Header) → header_in f s ≡ x → RenewMay f s o
-      by (got h next) e = record { header = record { h = h; next = next; reads = e }; bytes = bytes; held = is ∙ ap held_header e }
-      by (refused n place) e = let not = sym found ∙ ap (λ (x : Opened). x.found) (is ∙ ap held_header e) in absurd (clash (cc))
+      by (got h next) e = record { header = record { h = h; next = next; reads = e }; bytes = bytes; held = sym found ∙ is ∙ ap held_header e }
+      by (refused r place) e = let not = sym found ∙ is ∙ ap held_header e in absurd (clash (cc))
 
-  pub salvage-refused : (n place : ℕ) (before : List ℕ) (start : ℕ) → f ≡ form_of s → o.found ≡ opening.Refused n place → SalvageTold s before start (answer.Refused n place) before
+  pub salvage-refused : (why : Fault) (before : List ℕ) (start : ℕ) → f ≡ form_of s → y ≡ Err why → SalvageTold s before start (Err why) before
   unfolding salvaged_of out_of salvaged_in
-  salvage-refused n place before start form found = by (header_in f s) refl
+  salvage-refused why before start form found = by (header_in f s) refl
     where
-      by : (x : Reading Header) → header_in f s ≡ x → SalvageTold s before start (answer.Refused n place) before
-      by (got h next) e = let not = sym found ∙ ap (λ (x : Opened). x.found) (is ∙ ap held_header e) in absurd (clash (cc))
-      by (refused m q) e =
-          let same = sym (ap (λ (x : Opened). x.found) (is ∙ ap held_header e)) ∙ found in
-          let number : m ≡ n = cc in
-          let there : q ≡ place = cc in
-          let reads : header_in (form_of s) s ≡ refused n place = ap (λ (g : Form). header_in g s) (sym form) ∙ e ∙ ap₂ (λ (a b : ℕ). refused a b) number there in
+      by : (x : Reading Header) → header_in f s ≡ x → SalvageTold s before start (Err why) before
+      by (got h next) e = let not = sym found ∙ is ∙ ap held_header e in absurd (clash (cc))
+      by (refused r place) e =
+          let same : fault r place ≡ why = err-is (fault r place) why (sym (is ∙ ap held_header e) ∙ found) in
+          let reads : header_in (form_of s) s ≡ refused why.refusal why.place = ap (λ (g : Form). header_in g s) (sym form) ∙ e ∙ ap (λ (w : Fault). refused w.refusal w.place) same in
           record {
             answer = ap (λ (x : Reading Header). salvaged_in (form_of s) s x before start) (sym reads);
             out = ap (λ (x : Reading Header). bytes_out (salvaged_in (form_of s) s x before start) (form_of s) x before start) (sym reads);

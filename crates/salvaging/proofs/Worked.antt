@@ -20,9 +20,10 @@ use Rattle.form2.specs.Reading.{header_at2, further_count_at, shared_at, boys_at
 use Rattle.expansion.specs.Expanding.{roll_of, roll_of2}
 use Rattle.salvaging.specs.declared.After.{After}
 use Rattle.salvaging.specs.declared.After.TheVariants.{Unknown, None, Bytes}
-use Rattle.salvaging.specs.declared.Salvaged.{Salvaged}
-use Rattle.salvaging.specs.declared.Salvaged.TheVariants.{Roll, Refused}
-use Rattle.salvaging.specs.Salvage.{form_of, request_of, fresh_terms, fresh_roll, leading, leading_of, told_of, salvaged_in, salvaged_of, out_of}
+use Rattle.salvaging.specs.Salvage.{Salvaged, form_of, request_of, fresh_terms, fresh_roll, leading, leading_of, told_of, salvaged_in, salvaged_of, out_of}
+use Rattle.std.specs.Prelude.{Ok, Err}
+use Rattle.roll.specs.Field.{fault}
+use Rattle.kind.specs.declared.refusals.Refusal.TheVariants.{StartBeyondEnd, NoRoom, BadRoll, CutRoll}
 
 -- ---- in form 1
 
@@ -54,7 +55,7 @@ case roll room start answer = record { roll = roll; room = room; start = start; 
 
 -- of two fresh terms in so many bytes
 abbrev two : ℕ → ℕ → ℕ → Bool → After → Salvaged
-two long kept anew other after = Roll (record { length = long; terms = 2; kept = kept; anew = anew; miscounted = other; after = after })
+two long kept anew other after = Ok (record { length = long; terms = 2; kept = kept; anew = anew; miscounted = other; after = after })
 
 abbrev pub cases : List Case
 cases =
@@ -82,16 +83,16 @@ cases =
     case (head2 2 ++ terms) 19 0 (two 19 0 2 false Unknown)
     ∷
     -- the header: no byte, a kind of neither form, an order above the limit, a count that is cut
-    case [] 17 0 (Refused 14 0)
-    ∷ case (0x05 ∷ []) 17 0 (Refused 7 0)
-    ∷ case (0x00 ∷ 0x07 ∷ []) 17 0 (Refused 7 1)
-    ∷ case (0x10 ∷ 0x01 ∷ 0x00 ∷ 0x00 ∷ 0x01 ∷ 0x00 ∷ 0x00 ∷ []) 17 0 (Refused 14 7)
+    case [] 17 0 (Err (fault CutRoll 0))
+    ∷ case (0x05 ∷ []) 17 0 (Err (fault BadRoll 0))
+    ∷ case (0x00 ∷ 0x07 ∷ []) 17 0 (Err (fault BadRoll 1))
+    ∷ case (0x10 ∷ 0x01 ∷ 0x00 ∷ 0x00 ∷ 0x01 ∷ 0x00 ∷ 0x00 ∷ []) 17 0 (Err (fault CutRoll 7))
     ∷
     -- a start beyond the output, whatever its room, and only where the header reads; no room
-    case (head 2 ++ terms) 17 18 (Refused 5 0)
-    ∷ case (head 2 ++ terms) 0 1 (Refused 5 0)
-    ∷ case [] 0 1 (Refused 14 0)
-    ∷ case (head 2 ++ terms) 17 1 (Refused 6 0)
+    case (head 2 ++ terms) 17 18 (Err (fault StartBeyondEnd 0))
+    ∷ case (head 2 ++ terms) 0 1 (Err (fault StartBeyondEnd 0))
+    ∷ case [] 0 1 (Err (fault CutRoll 0))
+    ∷ case (head 2 ++ terms) 17 1 (Err (fault NoRoom 0))
     ∷ []
 
 pub computed : map (λ (c : Case). salvaged_of c.roll (replicate c.room 0) c.start) cases ≡ map (λ (c : Case). c.answer) cases

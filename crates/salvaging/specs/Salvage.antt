@@ -1,21 +1,22 @@
 -- 02, Q-8: the salvage of a damaged roll, in the paper's order: the header, the expansion worked out afresh, what is told of both, the refusals.
-use Rattle.std.specs.Prelude.{ℕ, zero, suc, ◌+◌, ◌-◌, ◌≡◌, cond, not, List, [], ◌∷◌, ◌++◌, eqb, length, replicate}
+use Rattle.std.specs.Prelude.{ℕ, zero, suc, ◌+◌, ◌-◌, ◌≡◌, cond, not, List, [], ◌∷◌, ◌++◌, eqb, length, replicate, Result, Ok, Err}
 use Rattle.laws.specs.Placed.{placed}
 use Rattle.laws.specs.Total.{total}
 use Rattle.kind.specs.Limits.{request_orders}
 use Rattle.kind.specs.declared.Kind.{Kind}
+use Rattle.kind.specs.declared.refusals.Refusal.TheVariants.{TooManyTerms, StartBeyondEnd, NoRoom}
+use Rattle.kind.specs.declared.refusals.Fault.{Fault}
 use Rattle.term.specs.Terms.{Term, same_term}
-use Rattle.roll.specs.Reading.{Reading, got, refused, and_then, before, Header, header_at, term_at}
+use Rattle.roll.specs.Field.{fault}
+use Rattle.roll.specs.Reading.{Reading, got, refused, and_then, before, Header, header_at, term_at, Roll, roll_at}
 use Rattle.form2.specs.Header.{is_form2}
-use Rattle.form2.specs.Reading.{header_at2, term_after}
+use Rattle.form2.specs.Reading.{header_at2, term_after, roll_at2}
 use Rattle.expansion.specs.Expanding.{◌exceeds◌, too_many, terms_of, roll_of, roll_of2}
 use Rattle.salvaging.specs.declared.forms.Form.{Form}
 use Rattle.salvaging.specs.declared.forms.Form.TheVariants.{One, Two}
 use Rattle.salvaging.specs.declared.After.{After}
 use Rattle.salvaging.specs.declared.After.TheVariants as after
 use Rattle.salvaging.specs.declared.Told.{Told}
-use Rattle.salvaging.specs.declared.Salvaged.{Salvaged}
-use Rattle.salvaging.specs.declared.Salvaged.TheVariants as answer
 
 -- ---- "If the header reads, whichever form": "The header is kind, orders and term count."
 
@@ -98,21 +99,25 @@ told_of f s h next =
       after = after_of s fresh lead;
     }
 
+-- what is told, or a refusal with its place
+abbrev pub Salvaged : Type 0
+Salvaged = Result Told Fault
+
 -- ---- "Refusals: 7 or 14 for the header, then 5, 4 and 6."
 
 unfoldable pub salvaged_in : Form → List ℕ → Reading Header → List ℕ → ℕ → Salvaged
-salvaged_in f s (refused n place) out start = answer.Refused n place
+salvaged_in f s (refused r place) out start = Err (fault r place)
 salvaged_in f s (got h next) out start =
-    cond (start exceeds length out) (answer.Refused 5 0)
-    (cond (too_many h.kind (request_of h)) (answer.Refused 4 0)
-    (cond (start + length (fresh_roll f h) exceeds length out) (answer.Refused 6 0)
-    (answer.Roll (told_of f s h next))))
+    cond (start exceeds length out) (Err (fault StartBeyondEnd 0))
+    (cond (too_many h.kind (request_of h)) (Err (fault TooManyTerms 0))
+    (cond (start + length (fresh_roll f h) exceeds length out) (Err (fault NoRoom 0))
+    (Ok (told_of f s h next))))
 
 -- a refusal changes no byte; a success only those of the fresh roll
 abbrev pub bytes_out : Salvaged → Form → Reading Header → List ℕ → ℕ → List ℕ
-bytes_out (answer.Refused n place) f header out start = out
-bytes_out (answer.Roll told) f (refused n place) out start = out
-bytes_out (answer.Roll told) f (got h next) out start = placed out start (fresh_roll f h)
+bytes_out (Err e) f header out start = out
+bytes_out (Ok told) f (refused r place) out start = out
+bytes_out (Ok told) f (got h next) out start = placed out start (fresh_roll f h)
 
 unfoldable pub salvaged_of : List ℕ → List ℕ → ℕ → Salvaged
 salvaged_of s out start = salvaged_in (form_of s) s (header_in (form_of s) s) out start
@@ -130,3 +135,12 @@ pub record SalvageTold (s before : List ℕ) (start : ℕ) (r : Salvaged) (now :
 unfoldable pub terms_from : Form → List ℕ → ℕ → ℕ → Kind → ℕ → List ℕ → Reading (List Term)
 terms_from f s at zero k l earlier = got [] at
 terms_from f s at (suc n) k l earlier = and_then (term_in f s at k l earlier) (λ t next. before (t ∷ []) (terms_from f s next n k l t.prefactors))
+
+-- a whole roll, and its header
+
+abbrev pub read_in : Form → List ℕ → Reading Roll
+read_in One s = roll_at s
+read_in Two s = roll_at2 s
+
+abbrev pub header_of : Roll → Header
+header_of r = record { kind = r.kind; orders = r.orders; terms = length r.terms }

@@ -39,16 +39,14 @@ fn ends_within(fresh: &[u8], behind: usize, most: usize, terms: u32) -> u32
     ensures { result ≡ ends_within behind fresh.now most 0 terms }
 {
     let mut place = 0;
-    let mut count = 0;
-    while count < terms {
+    for count in 0..terms {
         let end = term_end(fresh, place, behind);
         if most < end {
             return count;
         }
         place = end;
-        count += 1;
     }
-    count
+    terms
 }
 
 // How many fresh terms stand, byte for byte, at the beginning of other bytes.

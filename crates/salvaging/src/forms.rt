@@ -6,7 +6,7 @@ ghost use Rattle.expansion.specs.Expanding.{FormTold};
 ghost use Rattle.salvaging.specs.Salvage.{form_of, header_in, roll_in};
 
 use expansion::Expanded;
-use kind::Kind;
+use kind::{Fault, Kind, Refusal};
 use roll::Opened;
 
 // The two forms of a roll.
@@ -17,7 +17,7 @@ pub enum Form {
 }
 
 // Form 2 begins with kind + 16; all else is read as form 1.
-pub(crate) fn form_of(roll: &[u8]) -> Form
+pub fn form_of(roll: &[u8]) -> Form
     ensures { result ≡ form_of roll.now }
 {
     if form2::is_form2(roll) {
@@ -27,23 +27,17 @@ pub(crate) fn form_of(roll: &[u8]) -> Form
 }
 
 // A form 2 roll's header, as form 1 tells it.
-fn opened2(roll: &[u8]) -> Opened
+fn opened2(roll: &[u8]) -> Result<Opened, Fault>
     ensures { result ≡ held_header (header_at2 roll.now) }
 {
-    let opened = form2::open2(roll);
-    let found = opened.found;
-    let first = opened.cursor;
-    let cursor = first.cursor;
+    let opened = form2::open2(roll)?;
+    let cursor = opened.cursor.cursor;
     let orders = opened.orders;
-    Opened {
-        found,
-        cursor,
-        orders,
-    }
+    Ok(Opened { cursor, orders })
 }
 
 // A roll's kind, orders and term count.
-pub(crate) fn opened(form: Form, roll: &[u8]) -> Opened
+pub(crate) fn opened(form: Form, roll: &[u8]) -> Result<Opened, Fault>
     ensures { result ≡ held_header (header_in form roll.now) }
 {
     match form {
@@ -59,7 +53,7 @@ pub(crate) fn expanded(
     orders: [u8; Kind::ORDERS],
     out: &mut [u8],
     start: usize,
-) -> Expanded
+) -> Result<Expanded, Refusal>
     ensures { FormTold (roll_in form) kind orders out.old start result out.new }
 {
     match form {

@@ -9,10 +9,10 @@ ghost use Rattle.salvaging.specs.Salvage.{SalvageTold};
 ghost use Rattle.salvaging.specs.inner.Renewing.{after_by, ToldMay, ToldFrom, RenewMay, RenewTold};
 
 use crate::ends::leading;
-use crate::forms::{expanded, form_of, opened};
-use expansion::Expanded;
-pub use forms::Form;
-use roll::{Cursor, Opened, Opening};
+use crate::forms::{expanded, opened};
+pub use forms::{Form, form_of};
+use kind::Fault;
+use roll::{Cursor, Opened};
 
 // What follows the last term: it is told only where every fresh term was read and equal.
 #[derive(Clone, Copy)]
@@ -32,13 +32,6 @@ pub struct Told {
     pub anew: u32,
     pub miscounted: bool,
     pub after: After,
-}
-
-// What a salvage tells, or a refusal with its place.
-#[derive(Clone, Copy)]
-pub enum Salvaged {
-    Roll(Told),
-    Refused(u8, usize),
 }
 
 // What follows the last term of a roll whose terms were all read and equal, or not all.
@@ -76,30 +69,27 @@ fn compared(form: Form, roll: &[u8], cursor: Cursor, fresh: &[u8], terms: u32) -
 }
 
 // Works out the request of a header that reads and writes it in the header's form, where it has room.
-fn renew(form: Form, roll: &[u8], opened: Opened, out: &mut [u8], start: usize) -> Salvaged
+fn renew(
+    form: Form,
+    roll: &[u8],
+    opened: Opened,
+    out: &mut [u8],
+    start: usize,
+) -> Result<Told, Fault>
     requires { RenewMay form roll.now opened }
     ensures { RenewTold form roll.now out.old start result out.new }
 {
     let cursor = opened.cursor;
-    let orders = opened.orders;
-    let written = expanded(form, cursor.kind, orders, out, start);
-    match written {
-        Expanded::Roll(length, terms) => {
-            Salvaged::Roll(compared(form, roll, cursor, &out[start..start + length], terms))
-        }
-        Expanded::Refused(refusal) => Salvaged::Refused(refusal, 0),
-    }
+    let fresh = expanded(form, cursor.kind, opened.orders, out, start)?;
+    let end = start + fresh.length;
+    Ok(compared(form, roll, cursor, &out[start..end], fresh.terms))
 }
 
-// Writes a damaged roll anew from a start place on, in its own form, and tells how much of it was whole.
-pub fn salvage(roll: &[u8], out: &mut [u8], start: usize) -> Salvaged
+// Writes a damaged roll anew from a start place on, in its own form, and tells how much of it was whole; or a refusal with its place.
+pub fn salvage(roll: &[u8], out: &mut [u8], start: usize) -> Result<Told, Fault>
     ensures { SalvageTold roll.now out.old start result out.new }
 {
     let form = form_of(roll);
-    let opened = opened(form, roll);
-    let found = opened.found;
-    match found {
-        Opening::Roll => renew(form, roll, opened, out, start),
-        Opening::Refused(refusal, place) => Salvaged::Refused(refusal, place),
-    }
+    let opened = opened(form, roll)?;
+    renew(form, roll, opened, out, start)
 }

@@ -7,59 +7,46 @@ ghost use Rattle.std.specs.Prelude.{◌≡◌};
 ghost use Rattle.text.specs.Digits.{decimal_of};
 ghost use Rattle.saying.specs.Said.{advanced, PieceTold, NamedTold, EachTold};
 
-use text::Written;
-
 // The place after `n` more bytes, where the room has them.
-fn advance(room: usize, at: usize, n: usize) -> Written
-    ensures { result ≡ advanced room (Written.To at) n }
+fn advance(room: usize, at: usize, n: usize) -> Option<usize>
+    ensures { result ≡ advanced room (Some at) n }
 {
-    if room < at {
-        return Written::NoRoom;
-    }
-    if room - at < n {
-        return Written::NoRoom;
-    }
-    Written::To(at + n)
+    at.checked_add(n).filter(|next| *next <= room)
 }
 
 // What was said, where the room has it.
-fn within(room: usize, w: Written) -> Written
+fn within(room: usize, w: Option<usize>) -> Option<usize>
     ensures { result ≡ advanced room w 0 }
 {
-    match w {
-        Written::To(at) => advance(room, at, 0),
-        Written::NoRoom => Written::NoRoom,
-    }
+    advance(room, w?, 0)
 }
 
 // Bytes after what was said. Where they don't fit into the bytes lent, those stay as they are.
-pub fn say(out: &mut [u8], room: usize, w: Written, bytes: &[u8]) -> Written
+pub fn say(out: &mut [u8], room: usize, w: Option<usize>, bytes: &[u8]) -> Option<usize>
     ensures { PieceTold room out.old w bytes.now result out.new }
 {
-    match w {
-        Written::To(at) => {
-            text::put(out, at, bytes);
-            advance(room, at, bytes.len())
-        }
-        Written::NoRoom => Written::NoRoom,
-    }
+    let at = w?;
+    text::put(out, at, bytes);
+    advance(room, at, bytes.len())
 }
 
 // A number in decimal.
-pub fn say_number(out: &mut [u8], room: usize, w: Written, n: u64) -> Written
+pub fn say_number(out: &mut [u8], room: usize, w: Option<usize>, n: u64) -> Option<usize>
     ensures { PieceTold room out.old w (decimal_of n) result out.new }
 {
-    match w {
-        Written::To(at) => {
-            text::decimal(out, at, n);
-            advance(room, at, text::places(n))
-        }
-        Written::NoRoom => Written::NoRoom,
-    }
+    let at = w?;
+    text::decimal(out, at, n);
+    advance(room, at, text::places(n))
 }
 
 // Bytes, then a number.
-pub fn say_named(out: &mut [u8], room: usize, w: Written, name: &[u8], n: u64) -> Written
+pub fn say_named(
+    out: &mut [u8],
+    room: usize,
+    w: Option<usize>,
+    name: &[u8],
+    n: u64,
+) -> Option<usize>
     ensures { NamedTold room out.old w name.now n result out.new }
 {
     let named = say(out, room, w, name);
@@ -67,14 +54,18 @@ pub fn say_named(out: &mut [u8], room: usize, w: Written, name: &[u8], n: u64) -
 }
 
 // Numbers, each after a mark.
-pub fn say_each(out: &mut [u8], room: usize, w: Written, mark: &[u8], values: &[u8]) -> Written
+pub fn say_each(
+    out: &mut [u8],
+    room: usize,
+    w: Option<usize>,
+    mark: &[u8],
+    values: &[u8],
+) -> Option<usize>
     ensures { EachTold room out.old w mark.now values.now result out.new }
 {
     let mut said = within(room, w);
-    let mut i = 0;
-    while i < values.len() {
-        said = say_named(out, room, said, mark, values[i] as u64);
-        i += 1;
+    for &value in values {
+        said = say_named(out, room, said, mark, value as u64);
     }
     said
 }

@@ -2,20 +2,21 @@
 use Prim.Native.Nat.{ℕ, zero, suc, ◌+◌, ◌*◌, ◌-◌, ◌/◌, ◌≤◌, ◌<◌}
 use mathlib.Core.Path.{◌≡◌, refl, sym, ap, ◌∙◌}
 use mathlib.Core.Bool.{true, false}
-use mathlib.Core.List.{List, [], ◌∷◌, ◌++◌, map, flat_map, flatten}
+use mathlib.Core.List.{List, [], ◌∷◌, ◌++◌, map, flat_map, flatten, append_assoc}
 use native.Mathlib.Numerals.{add-one}
 use native.Mathlib.Omega.{arith}
 use native.Mathlib.Nat.{mul-le-mul, not-suc-le-zero, le_of_suc-le-suc}
 use borrow.Author.Tests.{lt-ltb, le-ltb, le-leb, lt-leb}
 use lib.Dec.{ltb, leb}
 use lib.ListN.{length, get_or, take, drop, length-append, length-map, length-drop, drop_of_length-le}
-use lib.Seq.{sets, length-sets, drop-cons}
+use lib.Seq.{sets, sets-eq, length-sets, drop-cons, drop-drop}
 use borrow.Rule.Slice.PartMut.{put_mid}
+use Rattle.std.specs.Prelude.{Ok, Err}
+use Rattle.kind.specs.declared.refusals.Refusal.TheVariants.{OrderSum, StartBeyondEnd, NoRoom}
 use Rattle.kind.specs.Limits.{most_order}
 use Rattle.laws.proofs.Lists.{flatten-append, sets-append}
 use Rattle.laws.proofs.Parts.{part-all, part-put}
 use Rattle.shell.specs.declared.Triple.{Triple}
-use Rattle.shell.specs.declared.Listed.TheVariants as listed
 use Rattle.shell.specs.Shells.{descending, triples, shell_bytes, listed_at, listed_out, ListTold}
 use Rattle.shell.specs.inner.Rows.{triple_orders, row_of, row_orders, most_triples, Counts}
 
@@ -123,6 +124,13 @@ pub bytes_count : (m : ℕ) → length (shell_bytes m) ≡ 3 * length (triples m
 unfolding shell_bytes
 bytes_count m = rw (rows_all m) (rows-bytes m 0 (m + 1) (omega arith))
 
+-- ---- putting a triple down
+
+pub triple-put : (out part : List ℕ) (at k : ℕ) (t : Triple) → at + 3 ≤ length out → k ≡ 3 → part ≡ triple_orders t → put_mid at k out part ≡ sets out at (triple_orders t)
+triple-put out part at k t room three is =
+    let after : drop k (drop at out) ≡ drop (at + 3) out = rw three (drop-drop 3 at out) in
+    rw (is, after) (sym (append_assoc (take at out) (triple_orders t) (drop (at + 3) out)) ∙ sym (sets-eq (triple_orders t) out at room))
+
 -- ---- putting a row down
 
 -- what is left of the row from z on, three bytes for each before it, makes the row
@@ -150,6 +158,10 @@ unfolding flatten
 putting-row-done m row at before out z p within all =
     let none : drop z (row_of m (m - row)) ≡ [] = drop_of_length-le (row_of m (m - row)) {i = z} (omega (arith, row-length m row within)) in
     rw none at p.stores
+
+pub putting-row-last : (m row at : ℕ) (before out after : List ℕ) (z : ℕ) (t : Triple) → PuttingRow m row at before out z → row ≤ m → z ≤ row → row ≤ z → triple_orders t ≡ row_orders m row z → after ≡ sets out (at + 3 * z) (triple_orders t) → after ≡ sets before at (flatten (row_of m (m - row)))
+putting-row-last m row at before out after z t p within inside last is put =
+    putting-row-done m row at before after (z + 1) (putting-row-more m row at before out after z t p within inside is put) within (omega arith)
 
 -- ---- putting the list down
 
@@ -187,13 +199,16 @@ pub putting-done : (m : ℕ) (before out : List ℕ) (row at : ℕ) → Putting 
 unfolding flatten
 putting-done m before out row at p all = rw (rows_none m row all) at p.stores
 
+pub putting-last : (m : ℕ) (before out after : List ℕ) (row at : ℕ) → Putting m before out row at → row ≤ m → m ≤ row → after ≡ sets out at (flatten (row_of m (m - row))) → after ≡ sets before 0 (shell_bytes m)
+putting-last m before out after row at p within last put = putting-done m before after (row + 1) (at + 3 * (row + 1)) (putting-more m before out after row at p within put) (omega arith)
+
 -- ---- what is told of it
 
-pub told-high : (m start : ℕ) (out : List ℕ) → most_order < m → ListTold m out start (listed.Refused 2) out
+pub told-high : (m start : ℕ) (out : List ℕ) → most_order < m → ListTold m out start (Err OrderSum) out
 unfolding listed_at listed_out
 told-high m start out above = let high : ltb most_order m ≡ true = lt-ltb most_order m above in record { answer = simp high; out = simp high }
 
-pub told-beyond : (m start : ℕ) (out : List ℕ) → m ≤ most_order → length out < start → ListTold m out start (listed.Refused 5) out
+pub told-beyond : (m start : ℕ) (out : List ℕ) → m ≤ most_order → length out < start → ListTold m out start (Err StartBeyondEnd) out
 unfolding listed_at listed_out
 told-beyond m start out low-m past =
     let low : ltb most_order m ≡ false = le-ltb most_order m low-m in
@@ -201,7 +216,7 @@ told-beyond m start out low-m past =
     let none : leb (start + length (shell_bytes m)) (length out) ≡ false = lt-leb (start + length (shell_bytes m)) (length out) (omega arith) in
     record { answer = simp (low, beyond); out = simp (low, none) }
 
-pub told-full : (m start count : ℕ) (out : List ℕ) → m ≤ most_order → start ≤ length out → count ≡ length (triples m) → length out - start < 3 * count → ListTold m out start (listed.Refused 6) out
+pub told-full : (m start count : ℕ) (out : List ℕ) → m ≤ most_order → start ≤ length out → count ≡ length (triples m) → length out - start < 3 * count → ListTold m out start (Err NoRoom) out
 unfolding listed_at listed_out
 told-full m start count out low-m inside counted over =
     let low : ltb most_order m ≡ false = le-ltb most_order m low-m in
@@ -214,7 +229,7 @@ told-full m start count out low-m inside counted over =
 pub part_room : (m start count : ℕ) (out : List ℕ) → count ≡ length (triples m) → 3 * count ≤ length out - start → length (shell_bytes m) ≤ length (take (length out - start) (drop start out))
 part_room m start count out counted fits = rw (part-all out start) (omega (arith, bytes_count m, length-drop start out))
 
-pub told-list : (m start count : ℕ) (out part : List ℕ) → m ≤ most_order → start ≤ length out → count ≡ length (triples m) → 3 * count ≤ length out - start → part ≡ sets (take (length out - start) (drop start out)) 0 (shell_bytes m) → ListTold m out start (listed.Bytes (3 * count) count) (put_mid start (length out - start) out part)
+pub told-list : (m start count : ℕ) (out part : List ℕ) → m ≤ most_order → start ≤ length out → count ≡ length (triples m) → 3 * count ≤ length out - start → part ≡ sets (take (length out - start) (drop start out)) 0 (shell_bytes m) → ListTold m out start (Ok (record { length = 3 * count; triples = count })) (put_mid start (length out - start) out part)
 unfolding listed_at listed_out
 told-list m start count out part low-m inside counted fits put =
     let low : ltb most_order m ≡ false = le-ltb most_order m low-m in

@@ -3,6 +3,8 @@ use Prim.Native.Nat.{ℕ}
 use mathlib.Core.List.{List}
 use contract.Lifetimes.{Lfts}
 use Rattle.laws.proofs.Contract.{Alone, alone, Lent, ◌then◌, ◌▸◌, end}
+use Rattle.std.specs.Prelude.{Result}
+use Rattle.kind.specs.declared.refusals.Refusal.{Refusal}
 use Rattle.shell.specs.declared.Listed.{Listed}
 use Rattle.shell.specs.Shells.{listed_at, listed_out, shell2_of, shell4_of}
 use Rattle.shell.proofs.get_ijk_list.Reads.{Post as GetIjkList}
@@ -16,5 +18,5 @@ pub get-shell4-only : (a b c d number : ℕ) → let g = a ▸ b ▸ c ▸ d ▸
 get-shell4-only a b c d number = alone (λ r p. p)
 
 pub get-ijk-list-only : (κs : Lfts 1) (m : ℕ) (out : Lent ℕ) (start : ℕ) →
-    Alone {A = Listed × List ℕ} (λ x. GetIjkList κs (m ▸ out ▸ start ▸ end) x.0 (m ▸ out then x.1 ▸ start ▸ end)) (listed_at m out.now start, listed_out m out.now start)
+    Alone {A = Result Listed Refusal × List ℕ} (λ x. GetIjkList κs (m ▸ out ▸ start ▸ end) x.0 (m ▸ out then x.1 ▸ start ▸ end)) (listed_at m out.now start, listed_out m out.now start)
 get-ijk-list-only κs m out start = alone (λ x p i. (p.answer i, p.out i))

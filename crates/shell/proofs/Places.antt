@@ -14,8 +14,7 @@ use mir.Val.{Fits}
 use Rattle.laws.proofs.Cases.{tested}
 use Rattle.laws.proofs.Counting.{fits_below}
 use Rattle.shell.specs.declared.Triple.{Triple}
-use Rattle.shell.specs.declared.Component.{Component}
-use Rattle.shell.specs.Shells.{triples, beside, found}
+use Rattle.shell.specs.Shells.{triples, beside}
 use Rattle.shell.specs.inner.Rows.{triple_orders, row_of, row_orders, Counts}
 use Rattle.shell.proofs.Listing.{get_d_map, rows_from, row-length, row_at, rows_all, rows_more, triples-twice}
 
@@ -91,8 +90,8 @@ module _ (xs ys : List (List ℕ)) (most k number : ℕ) (y : Counts ys most k) 
   pub stands-beside : (p q : List ℕ) → p ≡ get_or xs (number / k) [] → q ≡ get_or ys (number % k) [] → p ++ q ≡ get_or (beside xs ys) number []
   stands-beside p q first second = rw (first, second, y.is) (sym (beside_at xs ys number below))
 
-  pub found-beside : (p q : List ℕ) (x : Component) → p ≡ get_or xs (number / k) [] → q ≡ get_or ys (number % k) [] → x ≡ found (p ++ q) → x ≡ found (get_or (beside xs ys) number [])
-  found-beside p q x first second answer = answer ∙ ap found (stands-beside p q first second)
+  pub found-beside : (p q r : List ℕ) → p ≡ get_or xs (number / k) [] → q ≡ get_or ys (number % k) [] → r ≡ p ++ q → r ≡ get_or (beside xs ys) number []
+  found-beside p q r first second answer = answer ∙ stands-beside p q first second
 
 -- ---- the triples of a shell
 

@@ -5,29 +5,16 @@ ghost use Rattle.std.specs.Prelude.{◌+◌, ◌*◌, ◌-◌, ◌≤◌, ◌<�
 ghost use mathlib.Core.List.{[], ◌++◌, flatten};
 ghost use Rattle.std.proofs.lemmas.List.Edits.{sets};
 ghost use Rattle.kind.specs.Limits.{most_order};
-ghost use Rattle.shell.specs.Shells.{triples, shell_bytes, ListTold, pairs, quadruples, refused, found, component, shell2_of, shell4_of};
+ghost use Rattle.shell.specs.Shells.{triples, shell_bytes, ListTold, pairs, quadruples, component, shell2_of, shell4_of};
 ghost use Rattle.shell.specs.inner.Rows.{triple_orders, pair_orders, row_of, row_orders, most_triples, Counts};
 
-use kind::Kind;
+use kind::{Kind, Refusal};
 
 // The list's length in bytes and its triples (D-31).
-#[derive(Clone, Copy)]
-pub enum Listed {
-    Bytes(usize, u32),
-    Refused(u8),
-}
-
-#[derive(Clone, Copy)]
-pub enum Sought {
-    Component,
-    Refused(u8),
-}
-
-// The orders of a component stand by shell, zeros after them and beside a refusal (D-36).
-#[derive(Clone, Copy)]
-pub struct Component {
-    pub found: Sought,
-    pub orders: [u8; Kind::ORDERS],
+#[derive(Clone, Copy, Debug, PartialEq, Eq)]
+pub struct Listed {
+    pub length: usize,
+    pub triples: u32,
 }
 
 #[derive(Clone, Copy)]
@@ -41,15 +28,6 @@ struct Triple {
 struct Pair {
     first: Triple,
     second: Triple,
-}
-
-fn refused(number: u8) -> Component
-    ensures { result ≡ refused number }
-{
-    Component {
-        found: Sought::Refused(number),
-        orders: [0; Kind::ORDERS],
-    }
 }
 
 // How many triples a shell has.
@@ -106,24 +84,21 @@ fn pair_at(a: u8, b: u8, number: usize) -> Pair
     Pair { first, second }
 }
 
-fn component_of(first: Pair, second: Pair) -> Component
-    ensures { result ≡ found (pair_orders first ++ pair_orders second) }
+// The orders of a component stand by shell.
+fn component_of(first: Pair, second: Pair) -> [u8; Kind::ORDERS]
+    ensures { result ≡ pair_orders first ++ pair_orders second }
 {
     let p = first.first;
     let q = first.second;
     let r = second.first;
     let s = second.second;
-    let orders = [p.x, p.y, p.z, q.x, q.y, q.z, r.x, r.y, r.z, s.x, s.y, s.z];
-    Component {
-        found: Sought::Component,
-        orders,
-    }
+    [p.x, p.y, p.z, q.x, q.y, q.z, r.x, r.y, r.z, s.x, s.y, s.z]
 }
 
 // The component at a number of four shells: the second pair runs fastest (D-29).
-fn quadruple_at(a: u8, b: u8, c: u8, d: u8, number: usize) -> Component
+fn quadruple_at(a: u8, b: u8, c: u8, d: u8, number: usize) -> [u8; Kind::ORDERS]
     requires { (b ≤ most_order) × (c ≤ most_order) × (d ≤ most_order) × (number < length (quadruples a b c d)) }
-    ensures { result ≡ found (get_or (quadruples a b c d) number []) }
+    ensures { result ≡ get_or (quadruples a b c d) number [] }
 {
     let fastest = pair_count(c, d);
     let first = pair_at(a, b, number / fastest);
@@ -131,30 +106,27 @@ fn quadruple_at(a: u8, b: u8, c: u8, d: u8, number: usize) -> Component
     component_of(first, second)
 }
 
-fn numbered(a: u8, b: u8, c: u8, d: u8, number: usize) -> Component
+fn numbered(a: u8, b: u8, c: u8, d: u8, number: usize) -> Result<[u8; Kind::ORDERS], Refusal>
     requires { (a ≤ most_order) × (b ≤ most_order) × (c ≤ most_order) × (d ≤ most_order) }
     ensures { result ≡ component (quadruples a b c d) number }
 {
     if pair_count(a, b) * pair_count(c, d) <= number {
-        return refused(13);
+        return Err(Refusal::ComponentNumber);
     }
-    quadruple_at(a, b, c, d, number)
+    Ok(quadruple_at(a, b, c, d, number))
 }
 
-pub fn get_shell4(a: u8, b: u8, c: u8, d: u8, number: u32) -> Component
+pub fn get_shell4(a: u8, b: u8, c: u8, d: u8, number: u32) -> Result<[u8; Kind::ORDERS], Refusal>
     ensures { result ≡ shell4_of a b c d number }
 {
-    if too_high(a, b) {
-        return refused(2);
-    }
-    if too_high(c, d) {
-        return refused(2);
+    if too_high(a, b) || too_high(c, d) {
+        return Err(Refusal::OrderSum);
     }
     numbered(a, b, c, d, number as usize)
 }
 
-// A pair is a quadruple whose last two shells have one triple each, 0 0 0 (D-30).
-pub fn get_shell2(a: u8, b: u8, number: u32) -> Component
+// A pair is a quadruple whose last two shells have one triple each, 0 0 0 (D-30): zeros stand after its six orders.
+pub fn get_shell2(a: u8, b: u8, number: u32) -> Result<[u8; Kind::ORDERS], Refusal>
     ensures { result ≡ shell2_of a b number }
 {
     get_shell4(a, b, 0, 0, number)
@@ -163,19 +135,14 @@ pub fn get_shell2(a: u8, b: u8, number: u32) -> Component
 fn too_high(a: u8, b: u8) -> bool
     ensures { result ≡ (ltb most_order a || ltb most_order b) }
 {
-    if Kind::MOST_ORDER < a as usize {
-        return true;
-    }
-    Kind::MOST_ORDER < b as usize
+    Kind::MOST_ORDER < a as usize || Kind::MOST_ORDER < b as usize
 }
 
 fn put(out: &mut [u8], at: usize, t: Triple)
     requires { at + 3 ≤ length out.old }
     ensures { out.new ≡ sets out.old at (triple_orders t) }
 {
-    out[at] = t.x;
-    out[at + 1] = t.y;
-    out[at + 2] = t.z;
+    out[at..at + 3].copy_from_slice(&[t.x, t.y, t.z]);
 }
 
 // A row of a shell's list from a place on.
@@ -183,10 +150,8 @@ fn put_row(out: &mut [u8], at: usize, m: u8, row: usize)
     requires { (row ≤ m) × (at + 3 * (row + 1) ≤ length out.old) }
     ensures { out.new ≡ sets out.old at (flatten (row_of m (m - row))) }
 {
-    let mut z = 0;
-    while z <= row {
+    for z in 0..=row {
         put(out, at + 3 * z, in_row(m, row, z));
-        z += 1;
     }
 }
 
@@ -195,28 +160,29 @@ fn put_list(out: &mut [u8], m: u8)
     requires { length (shell_bytes m) ≤ length out.old }
     ensures { out.new ≡ sets out.old 0 (shell_bytes m) }
 {
-    let mut row = 0;
     let mut at = 0;
-    while row <= m as usize {
+    for row in 0..=m as usize {
         put_row(out, at, m, row);
-        row += 1;
-        at += 3 * row;
+        at += 3 * (row + 1);
     }
 }
 
-pub fn get_ijk_list(m: u8, out: &mut [u8], start: usize) -> Listed
+pub fn get_ijk_list(m: u8, out: &mut [u8], start: usize) -> Result<Listed, Refusal>
     ensures { ListTold m out.old start result out.new }
 {
     if Kind::MOST_ORDER < m as usize {
-        return Listed::Refused(2);
+        return Err(Refusal::OrderSum);
     }
     if out.len() < start {
-        return Listed::Refused(5);
+        return Err(Refusal::StartBeyondEnd);
     }
     let triples = count(m);
     if out.len() - start < 3 * triples {
-        return Listed::Refused(6);
+        return Err(Refusal::NoRoom);
     }
     put_list(&mut out[start..], m);
-    Listed::Bytes(3 * triples, triples as u32)
+    Ok(Listed {
+        length: 3 * triples,
+        triples: triples as u32,
+    })
 }

@@ -12,8 +12,6 @@ use Rattle.laws.specs.Total.{total}
 use Rattle.laws.proofs.Cases.{clash, tested}
 use Rattle.laws.proofs.SameLaws.{same-numbers-refl, same-numbers-is}
 use Rattle.kind.specs.declared.Kind.{Kind}
-use Rattle.kind.specs.declared.Named.{Named}
-use Rattle.kind.specs.declared.Named.TheVariants.{Is, Unknown}
 use Rattle.kind.specs.Kinds.{kind_of, number_of, orders_of}
 use Rattle.kind.proofs.KindNumber.{kind-number}
 use Rattle.kind.proofs.Within.{number-within}
@@ -21,7 +19,6 @@ use Rattle.term.specs.Terms.{Term}
 use Rattle.number.specs.Numbers.{bytes_of}
 use Rattle.number.proofs.Writing.{bytes-last}
 use Rattle.roll.specs.declared.header.Opened.{Opened}
-use Rattle.roll.specs.declared.header.Opening.TheVariants as opening
 use Rattle.roll.specs.Bytes.{numbers_bytes, terms_bytes, roll_bytes}
 use Rattle.roll.specs.Reading.{Reading, got, refused, Header, header_at, terms_at, roll_at}
 use Rattle.roll.specs.Header.{refused_opened, held_header, open_of, check_of}
@@ -31,15 +28,14 @@ use Rattle.form2.specs.Bytes.{shared}
 use Rattle.form2.specs.Header.{is_form2}
 use Rattle.form2.specs.Reading.{header_at2}
 use Rattle.form2.proofs.HeaderLaws.{form2-low}
-use Rattle.expansion.specs.declared.Expanded.{Expanded}
-use Rattle.expansion.specs.declared.Expanded.TheVariants.{Roll, Refused}
+use Rattle.expansion.specs.Answer.{Answer, Roll, Refused}
 use Rattle.expansion.specs.Demands.{written_at, ReadsBack}
 use Rattle.expansion.specs.Expanding.{◌exceeds◌, too_high, unused_set, terms_of, roll_of, named_out, ExpandTold}
 use Rattle.expansion.specs.inner.Requests.{RequestWithin}
 use Rattle.expansion.proofs.Demanded.{cut, known, written_is, demand-2}
 use Rattle.expansion.proofs.ReadsBack.{reads-back}
 use Rattle.small.specs.Profile.{small}
-use Rattle.small.specs.Check.{in_form2, with_terms, in_form1, small_check_of}
+use Rattle.small.specs.Check.{in_form2, with_terms, opened_of, in_form1, small_check_of}
 use Rattle.small.specs.Expand.{small_kind, small_named}
 use Rattle.small.specs.Shown.{SmallRequest, SmallWritten, OnlyWritten, EveryWritten, terms_with_four, form1_with_four, check_with_four, SameCheckWithFour, FewAccepted}
 use Rattle.small.specs.inner.Checking.{SmallMay}
@@ -47,60 +43,55 @@ use Rattle.small.proofs.CheckLaws.{check-one, check-two, in-profile, header-requ
 use Rattle.small.proofs.ExpandLaws.{same-named}
 use Rattle.small.proofs.Most.{not-too-high, not-too-many}
 use Rattle.small.proofs.Units.{few-terms, short-roll}
+use Rattle.std.specs.Prelude.{Option, Some, None, Ok}
+use Rattle.kind.specs.declared.refusals.Refusal.TheVariants.{OrderSum, UnusedOrder, StartBeyondEnd, NoRoom, OutsideProfile, NotTheExpansion}
 
 -- the twelve orders of a header
 abbrev orders_in : Header → ℕ → List ℕ
-orders_in h next = (held_header (got h next)).orders
+orders_in h next = (opened_of h next).orders
 
 -- ---- what is accepted is the expansion
 
-record IsFresh (s : List ℕ) : Type 0 where
+record IsFresh (s : List ℕ) (o : Opened) : Type 0 where
   header : SmallMay s
   same : s ≡ roll_of header.h.kind (orders_in header.h header.next)
-  answer : small_check_of s ≡ held_header (got header.h header.next)
+  answer : o ≡ opened_of header.h header.next
 
-not-refused : (n place : ℕ) → opening.Refused n place ≡ opening.Roll → ⊥
-not-refused n place g = clash (cc)
+not-form2 : (x : Reading Header) (o : Opened) → in_form2 x ≡ Ok o → ⊥
+not-form2 (got h next) o f = clash (cc)
+not-form2 (refused r place) o f = clash (cc)
 
-not-form2 : (x : Reading Header) → (in_form2 x).found ≡ opening.Roll → ⊥
-not-form2 (got h next) f = clash (cc)
-not-form2 (refused n place) f = clash (cc)
-
-module _ (s : List ℕ) (one : is_form2 s ≡ false) where
-  as-form1 : small_check_of s ≡ in_form1 s (header_at s)
-  as-form1 = sym (check-one s (is_form2 s) (in_form1 s (header_at s)) refl one refl)
-
-  with-terms : (may : SmallMay s) (x : Reading (List Term)) → terms_at s may.next may.h.terms may.h.kind (total may.h.orders) ≡ x
-      → (with_terms s may.h.kind (held_header (got may.h may.next)) x).found ≡ opening.Roll → IsFresh s
-  with-terms may (refused n place) t g = absurd (clash (cc))
-  with-terms may (got ts end) t g =
+module _ (s : List ℕ) (o : Opened) where
+  with-terms : (may : SmallMay s) (x : Reading (List Term)) → with_terms s may.h.kind (opened_of may.h may.next) x ≡ Ok o → IsFresh s o
+  with-terms may (refused r place) g = absurd (clash (cc))
+  with-terms may (got ts end) g =
       tested (same_numbers s (roll_of may.h.kind (orders_in may.h may.next)))
-      (λ same. record {
-        header = may;
-        same = same-numbers-is s (roll_of may.h.kind (orders_in may.h may.next)) same;
-        answer = as-form1 ∙ in-profile s may ∙ ap (with_terms s may.h.kind (held_header (got may.h may.next))) t ∙ simp same;
-      })
+      (λ same.
+      let is : with_terms s may.h.kind (opened_of may.h may.next) (got ts end) ≡ Ok (opened_of may.h may.next) = simp same in
+      record { header = may; same = same-numbers-is s (roll_of may.h.kind (orders_in may.h may.next)) same; answer = cc })
       (λ other.
-      let is : with_terms s may.h.kind (held_header (got may.h may.next)) (got ts end) ≡ refused_opened 20 (shared s (roll_of may.h.kind (orders_in may.h may.next))) = simp other in
-      absurd (not-refused 20 (shared s (roll_of may.h.kind (orders_in may.h may.next))) (sym (ap (λ (o : Opened). o.found) is) ∙ g)))
+      let is : with_terms s may.h.kind (opened_of may.h may.next) (got ts end) ≡ refused_opened NotTheExpansion (shared s (roll_of may.h.kind (orders_in may.h may.next))) = simp other in
+      let not = sym is ∙ g in
+      absurd (clash (cc not)))
 
-  of-header : (x : Reading Header) → header_at s ≡ x → (in_form1 s x).found ≡ opening.Roll → IsFresh s
-  of-header (refused n place) e f = absurd (clash (cc))
+  of-header : (x : Reading Header) → header_at s ≡ x → in_form1 s x ≡ Ok o → IsFresh s o
+  of-header (refused r place) e f = absurd (clash (cc))
   of-header (got h next) e f =
       tested (small h.kind (orders_in h next))
       (λ w.
       let may : SmallMay s = record { h = h; next = next; reads = e; within = w } in
-      let is : with_terms s h.kind (held_header (got h next)) (terms_at s next h.terms h.kind (total h.orders)) ≡ in_form1 s (got h next) = sym (in-profile s may) ∙ ap (in_form1 s) e in
-      with-terms may (terms_at s next h.terms h.kind (total h.orders)) refl (ap (λ (o : Opened). o.found) is ∙ f))
+      let is : with_terms s h.kind (opened_of h next) (terms_at s next h.terms h.kind (total h.orders)) ≡ in_form1 s (got h next) = sym (in-profile s may) ∙ ap (in_form1 s) e in
+      with-terms may (terms_at s next h.terms h.kind (total h.orders)) (is ∙ f))
       (λ w.
-      let is : in_form1 s (got h next) ≡ refused_opened 19 0 = simp w in
-      absurd (not-refused 19 0 (sym (ap (λ (o : Opened). o.found) is) ∙ f)))
+      let is : in_form1 s (got h next) ≡ refused_opened OutsideProfile 0 = simp w in
+      let not = sym is ∙ f in
+      absurd (clash (cc not)))
 
-accepted : (s : List ℕ) → (small_check_of s).found ≡ opening.Roll → IsFresh s
-accepted s found =
-    tested (is_form2 s)
-    (λ t. absurd (not-form2 (header_at2 s) (ap (λ (o : Opened). o.found) (check-two s (is_form2 s) (in_form2 (header_at2 s)) refl t refl) ∙ found)))
-    (λ f. of-header s f (header_at s) refl (ap (λ (o : Opened). o.found) (sym (as-form1 s f)) ∙ found))
+  accepted : small_check_of s ≡ Ok o → IsFresh s o
+  accepted found =
+      tested (is_form2 s)
+      (λ t. absurd (not-form2 (header_at2 s) o (check-two s (is_form2 s) (in_form2 (header_at2 s)) refl t refl ∙ found)))
+      (λ f. of-header (header_at s) refl (check-one s (is_form2 s) (in_form1 s (header_at s)) refl f refl ∙ found))
 
 -- ---- a request of the profile, expanded
 
@@ -110,12 +101,12 @@ within k os may = record { low_sums = not-too-high k os may.within; none-unused 
 small-roll : (k : Kind) (os out : List ℕ) → SmallRequest k os → length (roll_of k os) ≤ length out → small_named (kind_of (number_of k)) os out 0 ≡ Roll (length (roll_of k os)) (length (terms_of k os))
 unfolding small_kind
 small-roll k os out may room =
-    ap (λ (n : Named). small_named n os out 0) (kind-number k)
+    ap (λ (n : Option Kind). small_named n os out 0) (kind-number k)
     ∙ simp (not-too-high k os may.within, may.none-unused, may.within, le-ltb (length out) 0 (omega arith), le-ltb (length out) (0 + length (roll_of k os)) (omega arith))
 
 pub only-written : OnlyWritten
-only-written s found =
-    let a = accepted s found in
+only-written s o found =
+    let a = accepted s o found in
     let k = a.header.h.kind in
     let os = orders_in a.header.h a.header.next in
     let may = header-request s a.header in
@@ -130,7 +121,7 @@ only-written s found =
       long = length (roll_of k os);
       count = length (terms_of k os);
       after = placed s 0 (roll_of k os);
-      told = record { answer = sym told; out = sym (ap₂ (λ (r : Expanded) (n : Named). named_out r n os s 0) told (kind-number k)) };
+      told = record { answer = sym told; out = sym (ap₂ (λ (r : Answer) (n : Option Kind). named_out r n os s 0) told (kind-number k)) };
       is = a.same ∙ sym (cut s 0 (length (roll_of k os)) (placed s 0 (roll_of k os)) (roll_of k os) (omega arith) refl refl);
     }
 
@@ -138,27 +129,26 @@ only-written s found =
 
 pub few-accepted : FewAccepted
 unfolding open_of
-few-accepted s found =
-    let a = accepted s found in
+few-accepted s o found =
+    let a = accepted s o found in
     let k = a.header.h.kind in
     let os = orders_in a.header.h a.header.next in
     let may = header-request s a.header in
     let few = few-terms k os may in
     let short = short-roll k os may in
-    let o = held_header (got a.header.h a.header.next) in
     let j : Judged o s = record {
       roll = record { kind = k; orders = take (orders_of k) os; terms = terms_of k os };
       end = length (roll_of k os);
       reads = ap roll_at a.same ∙ reads-back k os (within k os may) (omega arith);
-      header = sym (ap held_header a.header.reads);
+      header = ap (λ (x : Opened). Ok x) a.answer ∙ sym (ap held_header a.header.reads);
     } in
-    let left : (small_check_of s).cursor.left ≡ length (terms_of k os) = ap (λ (x : Opened). x.cursor.left) a.answer ∙ judged-left o s j in
+    let left = judged-left o s j in
     let long = ap length a.same in
     (omega arith, omega arith)
 
 -- ---- what the expansion writes is accepted
 
-met : (a b c d e : Bool) (l n long count : ℕ) → cond a (Refused 2) (cond b (Refused 3) (cond (not c) (Refused 19) (cond d (Refused 5) (cond e (Refused 6) (Roll l n))))) ≡ Roll long count
+met : (a b c d e : Bool) (l n long count : ℕ) → cond a (Refused OrderSum) (cond b (Refused UnusedOrder) (cond (not c) (Refused OutsideProfile) (cond d (Refused StartBeyondEnd) (cond e (Refused NoRoom) (Roll l n))))) ≡ Roll long count
     → (a ≡ false) × (b ≡ false) × (c ≡ true)
 met true b c d e l n long count is = absurd (clash (cc))
 met false true c d e l n long count is = absurd (clash (cc))
@@ -168,7 +158,7 @@ met false false true d e l n long count is = (refl, refl, refl)
 -- the kind of an answer that is a roll, and the checks that it has passed
 record Passed (kind : ℕ) (os out : List ℕ) (begin : ℕ) : Type 0 where
   k : Kind
-  named : kind_of kind ≡ Is k
+  named : kind_of kind ≡ Some k
   low : too_high k os ≡ false
   none : unused_set k os ≡ false
   profile : small k os ≡ true
@@ -177,9 +167,9 @@ passed : (kind : ℕ) (os out : List ℕ) (begin long count : ℕ) → small_nam
 unfolding small_kind
 passed kind os out begin long count e = at (kind_of kind) refl e
   where
-    at : (m : Named) → kind_of kind ≡ m → small_named m os out begin ≡ Roll long count → Passed kind os out begin
-    at Unknown n e = absurd (clash (cc))
-    at (Is k) n e =
+    at : (m : Option Kind) → kind_of kind ≡ m → small_named m os out begin ≡ Roll long count → Passed kind os out begin
+    at None n e = absurd (clash (cc))
+    at (Some k) n e =
         let p = met (too_high k os) (unused_set k os) (small k os) (begin exceeds length out) (begin + length (roll_of k os) exceeds length out) (length (roll_of k os)) (length (terms_of k os)) long count e in
         record { k = k; named = n; low = p.0; none = p.1; profile = p.2 }
 
@@ -196,7 +186,7 @@ module _ (s : List ℕ) (w : SmallWritten s) where
   as-told =
       let p = pass in
       let same = same-named w.kind p.k w.orders w.before w.begin p.named (too_high p.k w.orders) (unused_set p.k w.orders) refl p.low refl p.none (small p.k w.orders) refl p.profile w.in-full in
-      record { answer = w.told.answer ∙ sym same; out = w.told.out ∙ ap (λ (r : Expanded). named_out r (kind_of w.kind) w.orders w.before w.begin) (sym same) }
+      record { answer = w.told.answer ∙ sym same; out = w.told.out ∙ ap (λ (r : Answer). named_out r (kind_of w.kind) w.orders w.before w.begin) (sym same) }
 
   -- the bytes as they were written
   abbrev bytes : List ℕ
@@ -205,26 +195,29 @@ module _ (s : List ℕ) (w : SmallWritten s) where
   bytes-are : bytes ≡ roll_of pass.k w.orders
   bytes-are =
       let of = known roll_of w.kind w.orders w.before w.begin (Roll w.long w.count) w.after as-told (λ f. omega arith) in
-      let is : Is of.k ≡ Is pass.k = sym of.named ∙ pass.named in
+      let is : Some of.k ≡ Some pass.k = sym of.named ∙ pass.named in
       let same : of.k ≡ pass.k = cc in
       written_is w.kind w.orders w.before w.begin w.long w.count w.after of ∙ ap (λ (k : Kind). roll_of k w.orders) same
 
   again : ReadsBack w.kind w.orders w.before w.begin w.long w.count w.after
   again = (demand-2 w.kind w.orders w.before w.begin w.in-full (Roll w.long w.count) w.after as-told).reads-back w.long w.count refl
 
-  judged-bytes : Judged (check_of bytes) bytes
-  judged-bytes = checked-judged bytes (check_of bytes) refl again.judged
+  judged-bytes : Judged again.opened bytes
+  judged-bytes = checked-judged bytes (check_of bytes) again.opened refl again.judged
 
-  head : Headed (check_of bytes) bytes judged-bytes.roll
-  head = headed (check_of bytes) bytes judged-bytes
+  head : Headed again.opened bytes judged-bytes.roll
+  head = headed again.opened bytes judged-bytes
+
+  head-opened : again.opened ≡ opened_of head.header head.next
+  head-opened = let is = head.opened in cc
 
   head-orders : orders_in head.header head.next ≡ w.orders
-  head-orders = ap (λ (o : Opened). o.orders) (sym head.opened) ∙ again.judged-orders
+  head-orders = ap (λ (o : Opened). o.orders) (sym head-opened) ∙ again.judged-orders
 
   head-kind : head.header.kind ≡ pass.k
   head-kind =
-      let number : number_of head.header.kind ≡ w.kind = ap (λ (o : Opened). o.cursor.kind) (sym head.opened) ∙ again.judged-kind in
-      let is : Is head.header.kind ≡ Is pass.k = sym (kind-number head.header.kind) ∙ ap kind_of number ∙ pass.named in
+      let number : number_of head.header.kind ≡ w.kind = ap (λ (o : Opened). o.cursor.kind) (sym head-opened) ∙ again.judged-kind in
+      let is : Some head.header.kind ≡ Some pass.k = sym (kind-number head.header.kind) ∙ ap kind_of number ∙ pass.named in
       cc
 
   abbrev head_small : SmallMay bytes
@@ -233,19 +226,19 @@ module _ (s : List ℕ) (w : SmallWritten s) where
   fresh-bytes : bytes ≡ roll_of head.header.kind (orders_in head.header head.next)
   fresh-bytes = bytes-are ∙ ap₂ roll_of (sym head-kind) (sym head-orders)
 
-  accepted-bytes : small_check_of bytes ≡ held_header (got head.header head.next)
+  accepted-bytes : small_check_of bytes ≡ Ok (opened_of head.header head.next)
   accepted-bytes =
-      as-form1 bytes (ap is_form2 bytes-are ∙ first_one pass.k w.orders)
+      sym (check-one bytes (is_form2 bytes) (in_form1 bytes (header_at bytes)) refl (ap is_form2 bytes-are ∙ first_one pass.k w.orders) refl)
       ∙ in-profile bytes head_small
-      ∙ ap (with_terms bytes head.header.kind (held_header (got head.header head.next))) head.reads
+      ∙ ap (with_terms bytes head.header.kind (opened_of head.header head.next)) head.reads
       ∙ simp (ap (same_numbers bytes) (sym fresh-bytes) ∙ same-numbers-refl bytes)
 
 pub every-written : EveryWritten
-every-written s w = ap (λ (l : List ℕ). (small_check_of l).found) w.is ∙ ap (λ (o : Opened). o.found) (accepted-bytes s w)
+every-written s w = (opened_of (head s w).header (head s w).next, ap small_check_of w.is ∙ accepted-bytes s w)
 
 -- ---- 4 is never given
 
-four-never : (s : List ℕ) (may : SmallMay s) (x : Reading (List Term)) → terms_with_four s may.h.kind (held_header (got may.h may.next)) x ≡ with_terms s may.h.kind (held_header (got may.h may.next)) x
+four-never : (s : List ℕ) (may : SmallMay s) (x : Reading (List Term)) → terms_with_four s may.h.kind (opened_of may.h may.next) x ≡ with_terms s may.h.kind (opened_of may.h may.next) x
 four-never s may (refused n place) = refl
 four-never s may (got ts end) = simp (not-too-many may.h.kind (orders_in may.h may.next) (header-request s may))
 
@@ -257,6 +250,6 @@ same-check-with-four s = ap (cond (is_form2 s) (in_form2 (header_at2 s))) (by (h
     by (refused n place) e = refl
     by (got h next) e =
         tested (small h.kind (orders_in h next))
-        (λ w. ap (cond (not (small h.kind (orders_in h next))) (refused_opened 19 0))
+        (λ w. ap (cond (not (small h.kind (orders_in h next))) (refused_opened OutsideProfile 0))
         (four-never s (record { h = h; next = next; reads = e; within = w }) (terms_at s next h.terms h.kind (total h.orders))))
         (λ w. simp w)

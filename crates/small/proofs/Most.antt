@@ -9,19 +9,18 @@ use lib.ListN.{length}
 use Rattle.laws.proofs.Cases.{tested, and_left, and_right, false-not-true}
 use Rattle.kind.specs.declared.Kind.{Kind}
 use Rattle.kind.specs.declared.Kind.TheVariants.{Overlap, Kinetic, Nuclear, Moment, Coulomb}
-use Rattle.kind.specs.declared.Named.{Named}
-use Rattle.kind.specs.declared.Named.TheVariants.{Is, Unknown}
 use Rattle.kind.specs.Kinds.{kind_of}
 use Rattle.kind.specs.Limits.{most_order, most_terms}
 use Rattle.steps.specs.declared.CentreName.{CentreName}
 use Rattle.steps.specs.declared.CentreName.TheVariants.{A, B, C, D}
 use Rattle.steps.specs.Choice.{sum_of}
-use Rattle.expansion.specs.declared.Expanded.{Expanded}
+use Rattle.expansion.specs.Answer.{Answer}
 use Rattle.expansion.specs.Expanding.{◌exceeds◌, too_high, unused_set, too_many, terms_of, roll_of, refusal_of}
 use Rattle.small.specs.Profile.{most_small, at_most, both_at_most, small}
 use Rattle.small.specs.Expand.{small_kind, small_named}
 use Rattle.small.specs.Shown.{SmallRequest, NeverFour, with_four, SameWithFour}
 use Rattle.small.proofs.Units.{few-terms}
+use Rattle.std.specs.Prelude.{Option, Some, None}
 
 -- ---- 4
 
@@ -59,10 +58,10 @@ same-with-four k os out begin in-full =
     (λ w. simp (not-too-many k os (record { in-full = in-full; none-unused = u; within = w })))
     (λ w. simp w))
 
-abbrev Not4 : Expanded → Type 0
+abbrev Not4 : Answer → Type 0
 Not4 r = refusal_of r ≡ 4 → ⊥
 
-neither : (b : Bool) (x y : Expanded) → Not4 x → Not4 y → Not4 (cond b x y)
+neither : (b : Bool) (x y : Answer) → Not4 x → Not4 y → Not4 (cond b x y)
 neither true x y f g = f
 neither false x y f g = g
 
@@ -75,9 +74,9 @@ kind-not k os out begin =
     (neither (begin exceeds length out) _ _ (λ e. omega (arith, e))
     (neither (begin + length (roll_of k os) exceeds length out) _ _ (λ e. omega (arith, e)) (λ e. omega (arith, e))))))
 
-named-not : (n : Named) (os out : List ℕ) (begin : ℕ) → Not4 (small_named n os out begin)
-named-not Unknown os out begin = λ e. omega (arith, e)
-named-not (Is k) os out begin = kind-not k os out begin
+named-not : (n : Option Kind) (os out : List ℕ) (begin : ℕ) → Not4 (small_named n os out begin)
+named-not None os out begin = λ e. omega (arith, e)
+named-not (Some k) os out begin = kind-not k os out begin
 
 pub never-four : NeverFour
 never-four kind os before begin after told = named-not (kind_of kind) os before begin (ap refusal_of (sym told.answer))

@@ -4,7 +4,7 @@ use mathlib.Core.List.{List}
 use contract.Lifetimes.{Lfts}
 use Rattle.kind.specs.Kinds.{kind_of}
 use Rattle.laws.proofs.Contract.{Alone, alone, Lent, Shown, ◌then◌, ◌▸◌, end}
-use Rattle.expansion.specs.declared.Expanded.{Expanded}
+use Rattle.expansion.specs.Answer.{Answer}
 use Rattle.expansion.specs.Expanding.{named_out}
 use Rattle.small.specs.Check.{small_check_of}
 use Rattle.small.specs.Expand.{small_named}
@@ -13,7 +13,7 @@ use Rattle.small.proofs.small_expand.Reads.{Post as SmallExpand}
 
 pub small-expand-only : (κs : Lfts 1) (kind : ℕ) (orders : List ℕ) (out : Lent ℕ) (start : ℕ) →
     let told = small_named (kind_of kind) orders out.now start in
-    Alone {A = Expanded × List ℕ} (λ x. SmallExpand κs (kind ▸ orders ▸ out ▸ start ▸ end) x.0 (kind ▸ orders ▸ out then x.1 ▸ start ▸ end))
+    Alone {A = Answer × List ℕ} (λ x. SmallExpand κs (kind ▸ orders ▸ out ▸ start ▸ end) x.0 (kind ▸ orders ▸ out then x.1 ▸ start ▸ end))
     (told, named_out told (kind_of kind) orders out.now start)
 small-expand-only κs kind orders out start = alone (λ x p i. (p.answer i, p.out i))
 

@@ -1,23 +1,23 @@
 -- 02, Q-13: what is shown of the profile: proofs/Units.antt of its terms and bytes, proofs/Most.antt of 4, proofs/Accepted.antt of its reader.
-use Rattle.std.specs.Prelude.{ℕ, ◌+◌, ◌≤◌, ◌≡◌, true, false, cond, not, List, [], ◌∷◌, length}
+use Rattle.std.specs.Prelude.{ℕ, ◌+◌, ◌≤◌, ◌≡◌, true, false, cond, not, List, [], ◌∷◌, length, Result, Ok}
 use Rattle.kind.specs.declared.Kind.{Kind}
 use Rattle.kind.specs.declared.Kind.TheVariants.{Coulomb}
+use Rattle.kind.specs.declared.refusals.Refusal.TheVariants.{OrderSum, UnusedOrder, TooManyTerms, StartBeyondEnd, NoRoom, OutsideProfile}
+use Rattle.kind.specs.declared.refusals.Fault.{Fault}
 use Rattle.kind.specs.Limits.{request_orders}
 use Rattle.histories.specs.Centres.{x1, at}
 use Rattle.laws.specs.Total.{total}
 use Rattle.term.specs.Terms.{Term}
 use Rattle.roll.specs.declared.header.Opened.{Opened}
-use Rattle.roll.specs.declared.header.Opening.TheVariants as opening
 use Rattle.roll.specs.Reading.{Reading, got, refused, Header, header_at, terms_at}
-use Rattle.roll.specs.Header.{refused_opened, held_header}
+use Rattle.roll.specs.Header.{refused_opened}
 use Rattle.form2.specs.Header.{is_form2}
 use Rattle.form2.specs.Reading.{header_at2}
-use Rattle.expansion.specs.declared.Expanded.{Expanded}
-use Rattle.expansion.specs.declared.Expanded.TheVariants.{Roll, Refused}
+use Rattle.expansion.specs.Answer.{Answer, Roll, Refused}
 use Rattle.expansion.specs.Demands.{written_at}
 use Rattle.expansion.specs.Expanding.{◌exceeds◌, too_high, unused_set, too_many, terms_of, roll_of}
 use Rattle.small.specs.Profile.{small, most_small_terms, most_small_roll}
-use Rattle.small.specs.Check.{in_form2, if_fresh, small_check_of}
+use Rattle.small.specs.Check.{in_form2, if_fresh, opened_of, small_check_of}
 use Rattle.small.specs.Expand.{small_kind, SmallExpandTold}
 
 -- a request of the profile; the twelve orders are an array's
@@ -36,17 +36,17 @@ ShortRoll = (k : Kind) (orders : List ℕ) → SmallRequest k orders → length 
 
 -- "that 4 is never given": whatever fits the contract of `small::small_expand` is not 4
 abbrev pub NeverFour : Type 0
-NeverFour = (kind : ℕ) (orders before : List ℕ) (begin : ℕ) (after : List ℕ) → SmallExpandTold kind orders before begin (Refused 4) after → ⊥
+NeverFour = (kind : ℕ) (orders before : List ℕ) (begin : ℕ) (after : List ℕ) → SmallExpandTold kind orders before begin (Refused TooManyTerms) after → ⊥
 
 -- and no line was left out for it: with a line for 4 where the expansion has it
-unfoldable pub with_four : Kind → List ℕ → List ℕ → ℕ → Expanded
+unfoldable pub with_four : Kind → List ℕ → List ℕ → ℕ → Answer
 with_four k orders out begin =
-    cond (too_high k orders) (Refused 2)
-    (cond (unused_set k orders) (Refused 3)
-    (cond (not (small k orders)) (Refused 19)
-    (cond (begin exceeds length out) (Refused 5)
-    (cond (too_many k orders) (Refused 4)
-    (cond (begin + length (roll_of k orders) exceeds length out) (Refused 6)
+    cond (too_high k orders) (Refused OrderSum)
+    (cond (unused_set k orders) (Refused UnusedOrder)
+    (cond (not (small k orders)) (Refused OutsideProfile)
+    (cond (begin exceeds length out) (Refused StartBeyondEnd)
+    (cond (too_many k orders) (Refused TooManyTerms)
+    (cond (begin + length (roll_of k orders) exceeds length out) (Refused NoRoom)
     (Roll (length (roll_of k orders)) (length (terms_of k orders))))))))
 
 -- the answers are the same
@@ -87,23 +87,23 @@ pub record SmallWritten (s : List ℕ) : Type 0 where
 
 -- "Its reader accepts only rolls that equal the fresh expansion byte for byte", and all of those
 abbrev pub OnlyWritten : Type 0
-OnlyWritten = (s : List ℕ) → (small_check_of s).found ≡ opening.Roll → SmallWritten s
+OnlyWritten = (s : List ℕ) (o : Opened) → small_check_of s ≡ Ok o → SmallWritten s
 
 abbrev pub EveryWritten : Type 0
-EveryWritten = (s : List ℕ) → SmallWritten s → (small_check_of s).found ≡ opening.Roll
+EveryWritten = (s : List ℕ) → SmallWritten s → (o : Opened) × (small_check_of s ≡ Ok o)
 
 -- with a line for 4, where a request has too many terms for the expansion
-abbrev pub terms_with_four : List ℕ → Kind → Opened → Reading (List Term) → Opened
-terms_with_four s k o (got ts end) = cond (too_many k o.orders) (refused_opened 4 0) (if_fresh s (roll_of k o.orders) o)
+abbrev pub terms_with_four : List ℕ → Kind → Opened → Reading (List Term) → Result Opened Fault
+terms_with_four s k o (got ts end) = cond (too_many k o.orders) (refused_opened TooManyTerms 0) (if_fresh s (roll_of k o.orders) o)
 terms_with_four s k o (refused r place) = refused_opened r place
 
-abbrev pub form1_with_four : List ℕ → Reading Header → Opened
+abbrev pub form1_with_four : List ℕ → Reading Header → Result Opened Fault
 form1_with_four s (got h next) =
-    cond (not (small h.kind (held_header (got h next)).orders)) (refused_opened 19 0)
-    (terms_with_four s h.kind (held_header (got h next)) (terms_at s next h.terms h.kind (total h.orders)))
+    cond (not (small h.kind (opened_of h next).orders)) (refused_opened OutsideProfile 0)
+    (terms_with_four s h.kind (opened_of h next) (terms_at s next h.terms h.kind (total h.orders)))
 form1_with_four s (refused r place) = refused_opened r place
 
-unfoldable pub check_with_four : List ℕ → Opened
+unfoldable pub check_with_four : List ℕ → Result Opened Fault
 check_with_four s = cond (is_form2 s) (in_form2 (header_at2 s)) (form1_with_four s (header_at s))
 
 -- the answers are the same
@@ -112,4 +112,4 @@ SameCheckWithFour = (s : List ℕ) → check_with_four s ≡ small_check_of s
 
 -- what it accepts has no more terms and no more bytes
 abbrev pub FewAccepted : Type 0
-FewAccepted = (s : List ℕ) → (small_check_of s).found ≡ opening.Roll → ((small_check_of s).cursor.left ≤ most_small_terms) × (length s ≤ most_small_roll)
+FewAccepted = (s : List ℕ) (o : Opened) → small_check_of s ≡ Ok o → (o.cursor.left ≤ most_small_terms) × (length s ≤ most_small_roll)

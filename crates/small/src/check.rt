@@ -8,69 +8,55 @@ ghost use Rattle.small.specs.inner.Checking.{HeaderMay, SmallMay, TermsMay};
 use crate::profile::is_small_number;
 use expansion::{Against, against};
 use form2::open2;
-use roll::{Opened, Opening, check, open, refused_roll};
+use kind::{Fault, Refusal};
+use roll::{Opened, check, open};
 
 // A form 2 roll, whose header is read and which is outside the profile.
-pub(crate) fn in_form2(roll: &[u8]) -> Opened
+pub(crate) fn in_form2(roll: &[u8]) -> Result<Opened, Fault>
     ensures { result ≡ in_form2 (header_at2 roll.now) }
 {
-    let opened = open2(roll);
-    let found = opened.found;
-    match found {
-        Opening::Roll => refused_roll(19, 0),
-        Opening::Refused(refusal, place) => refused_roll(refusal, place),
-    }
+    open2(roll)?;
+    Err(Fault::from(Refusal::OutsideProfile))
 }
 
 // Holds a roll that reads against the fresh one of its request.
-fn if_fresh(roll: &[u8], judged: Opened) -> Opened
+fn if_fresh(roll: &[u8], judged: Opened) -> Result<Opened, Fault>
     requires { TermsMay roll.now judged }
     ensures { result ≡ in_form1 roll.now (header_at roll.now) }
 {
-    let cursor = judged.cursor;
-    let orders = judged.orders;
-    let met = against(cursor.kind, orders, roll);
-    match met {
-        Against::Same(_, _) => judged,
-        Against::Differs(place) => refused_roll(20, place),
-        Against::Refused(refusal) => refused_roll(refusal, 0),
+    match against(judged.cursor.kind, judged.orders, roll)? {
+        Against::Same(_, _) => Ok(judged),
+        Against::Differs(place) => Err(Fault {
+            refusal: Refusal::NotTheExpansion,
+            place,
+        }),
     }
 }
 
 // Reads the terms of a roll whose header is of the profile.
-fn with_terms(roll: &[u8]) -> Opened
+fn with_terms(roll: &[u8]) -> Result<Opened, Fault>
     requires { SmallMay roll.now }
     ensures { result ≡ in_form1 roll.now (header_at roll.now) }
 {
-    let judged = check(roll);
-    let found = judged.found;
-    match found {
-        Opening::Roll => if_fresh(roll, judged),
-        Opening::Refused(refusal, place) => refused_roll(refusal, place),
-    }
+    let judged = check(roll)?;
+    if_fresh(roll, judged)
 }
 
 // Looks at the kind and the orders of a header that reads.
-fn of_header(roll: &[u8], opened: Opened) -> Opened
+fn of_header(roll: &[u8], opened: Opened) -> Result<Opened, Fault>
     requires { HeaderMay roll.now opened }
     ensures { result ≡ in_form1 roll.now (header_at roll.now) }
 {
-    let cursor = opened.cursor;
-    let orders = opened.orders;
-    if is_small_number(cursor.kind, orders) {
-        return with_terms(roll);
+    if !is_small_number(opened.cursor.kind, opened.orders) {
+        return Err(Fault::from(Refusal::OutsideProfile));
     }
-    refused_roll(19, 0)
+    with_terms(roll)
 }
 
 // A roll that does not begin as form 2 does.
-pub(crate) fn in_form1(roll: &[u8]) -> Opened
+pub(crate) fn in_form1(roll: &[u8]) -> Result<Opened, Fault>
     ensures { result ≡ in_form1 roll.now (header_at roll.now) }
 {
-    let opened = open(roll);
-    let found = opened.found;
-    match found {
-        Opening::Roll => of_header(roll, opened),
-        Opening::Refused(refusal, place) => refused_roll(refusal, place),
-    }
+    let opened = open(roll)?;
+    of_header(roll, opened)
 }

@@ -4,9 +4,8 @@
 mod check;
 mod profile;
 
-ghost use Rattle.std.specs.Prelude.{◌≡◌};
+ghost use Rattle.std.specs.Prelude.{◌≡◌, Some};
 ghost use Rattle.kind.specs.Kinds.{kind_of};
-ghost use Rattle.kind.specs.declared.Named.TheVariants as named;
 ghost use Rattle.small.specs.Check.{small_check_of};
 ghost use Rattle.small.specs.Expand.{SmallExpandTold};
 
@@ -14,7 +13,7 @@ use crate::check::{in_form1, in_form2};
 use crate::profile::is_small;
 use expansion::{Expanded, too_high, unused_set};
 use form2::is_form2;
-use kind::{Kind, Named};
+use kind::{Fault, Kind, Refusal};
 use roll::Opened;
 
 // Expands a request of a known kind.
@@ -24,35 +23,37 @@ fn expand_known(
     orders: [u8; Kind::ORDERS],
     out: &mut [u8],
     start: usize,
-) -> Expanded
-    requires { kind_of kind ≡ named.Is known }
+) -> Result<Expanded, Refusal>
+    requires { kind_of kind ≡ Some known }
     ensures { SmallExpandTold kind orders out.old start result out.new }
 {
     if too_high(known, orders) {
-        return Expanded::Refused(2);
+        return Err(Refusal::OrderSum);
     }
     if unused_set(known, orders) {
-        return Expanded::Refused(3);
+        return Err(Refusal::UnusedOrder);
     }
-    if is_small(known, orders) {
-        return expansion::expand(kind, orders, out, start);
+    if !is_small(known, orders) {
+        return Err(Refusal::OutsideProfile);
     }
-    Expanded::Refused(19)
+    expansion::expand(kind, orders, out, start)
 }
 
 // Expands a request of the profile into a roll that begins at `start`.
-pub fn small_expand(kind: u8, orders: [u8; Kind::ORDERS], out: &mut [u8], start: usize) -> Expanded
+pub fn small_expand(
+    kind: u8,
+    orders: [u8; Kind::ORDERS],
+    out: &mut [u8],
+    start: usize,
+) -> Result<Expanded, Refusal>
     ensures { SmallExpandTold kind orders out.old start result out.new }
 {
-    let named = Kind::of(kind);
-    match named {
-        Named::Unknown => Expanded::Refused(1),
-        Named::Is(known) => expand_known(kind, known, orders, out, start),
-    }
+    let known = Kind::of(kind).ok_or(Refusal::WrongKind)?;
+    expand_known(kind, known, orders, out, start)
 }
 
-// A roll's header, where the roll is of the profile and equals the fresh expansion of its request byte for byte.
-pub fn small_check(roll: &[u8]) -> Opened
+// A roll's header, where the roll is of the profile and equals the fresh expansion of its request byte for byte; or a refusal with its place.
+pub fn small_check(roll: &[u8]) -> Result<Opened, Fault>
     ensures { result ≡ small_check_of roll.now }
 {
     if is_form2(roll) {

@@ -1,5 +1,4 @@
 pub mod BranchesLaws
-pub mod ChoiceLaws
 pub mod Falling
 pub mod Only
 pub mod Packed

@@ -7,22 +7,21 @@ use mathlib.Core.List.{List, [], ◌∷◌, Memᴰ}
 use native.Mathlib.Omega.{arith}
 use lib.Dec.{ltb}
 use borrow.Author.Tests.{ltb-true, ltb-false}
+use Rattle.std.specs.Prelude.{Option, Some, None}
 use Rattle.kind.specs.declared.Kind.{Kind}
 use Rattle.kind.specs.declared.Kind.TheVariants.{Overlap, Kinetic, Nuclear, Moment, Coulomb}
 use Rattle.steps.specs.declared.CentreName.{CentreName}
 use Rattle.steps.specs.declared.CentreName.TheVariants.{A, B, C, D}
 use Rattle.steps.specs.declared.Axis.{Axis}
 use Rattle.steps.specs.declared.Axis.TheVariants.{X, Y, Z}
-use Rattle.steps.specs.declared.Fun.TheVariants as fun
-use Rattle.steps.specs.declared.AxisChoice.TheVariants as component
 use Rattle.steps.specs.declared.Best.{Best}
-use Rattle.steps.specs.Choice.{operator, centre_number, axis_number, order_of, sum_of, no_best, or_before, smallest, once_exhausted, chosen, first_axis}
+use Rattle.steps.specs.Choice.{operator, centre_number, axis_number, order_of, sum_of, or_before, smallest, centre_of, once_exhausted, chosen, first_axis}
 use Rattle.steps.specs.Chosen.{centres_of, operator_of, Smallest, Exhausted, RightCentre, a-centre, the-operator, no-centre, RightAxis, along, no-axis}
 
 -- what is best of a list of centres
-data BestOf (left : List ℕ) (cs : List CentreName) : Best → Type 0 where
-  none : Exhausted left cs → BestOf left cs no_best
-  one : (c : CentreName) → Smallest left cs c → BestOf left cs (record { fun = fun.Lower c; sum = sum_of left c })
+data BestOf (left : List ℕ) (cs : List CentreName) : Option Best → Type 0 where
+  none : Exhausted left cs → BestOf left cs None
+  one : (c : CentreName) → Smallest left cs c → BestOf left cs (Some (record { centre = c; sum = sum_of left c }))
 
 -- each stands before those after it
 abbrev Ahead : CentreName → List CentreName → Type 0
@@ -30,7 +29,7 @@ Ahead c cs = (d : CentreName) → Memᴰ d cs → centre_number c < centre_numbe
 
 module _ (left : List ℕ) (c : CentreName) (cs : List CentreName) (ahead : Ahead c cs) where
   -- a centre with nothing left changes nothing
-  passed : (b : Best) → BestOf left cs b → sum_of left c ≡ 0 → BestOf left (c ∷ cs) b
+  passed : (b : Option Best) → BestOf left cs b → sum_of left c ≡ 0 → BestOf left (c ∷ cs) b
   passed b (none out) e = none all
     where
       all : Exhausted left (c ∷ cs)
@@ -70,24 +69,22 @@ module _ (left : List ℕ) (c : CentreName) (cs : List CentreName) (ahead : Ahea
       first d (Memᴰ.head f) h q = let z : centre_number d ≡ centre_number c = ap centre_number f in omega arith
       first d (Memᴰ.tail i) h q = let z = ahead d i in omega arith
 
-  before : (b : Best) → BestOf left cs b → (n : ℕ) → sum_of left c ≡ n → BestOf left (c ∷ cs) (or_before b c n)
+  before : (b : Option Best) → BestOf left cs b → (n : ℕ) → sum_of left c ≡ n → BestOf left (c ∷ cs) (or_before b c n)
   before b best zero e = passed b best e
   before b (none out) (suc n) e =
-      subst (λ (m : ℕ). BestOf left (c ∷ cs) (record { fun = fun.Lower c; sum = m })) e
+      subst (λ (m : ℕ). BestOf left (c ∷ cs) (Some (record { centre = c; sum = m }))) e
       (one c (taken (omega arith) (λ (d : CentreName) (i : Memᴰ d cs) (p : 0 < sum_of left d). let z = out d i in omega arith)))
-  before b (one x s) (suc n) e = by (ltb 0 (sum_of left x)) refl (ltb (sum_of left x) (suc n)) refl
+  before b (one x s) (suc n) e = by (ltb (sum_of left x) (suc n)) refl
     where
-      by : (p : Bool) → ltb 0 (sum_of left x) ≡ p → (q : Bool) → ltb (sum_of left x) (suc n) ≡ q
-          → BestOf left (c ∷ cs) (cond p (cond q (record { fun = fun.Lower x; sum = sum_of left x }) (record { fun = fun.Lower c; sum = suc n })) (record { fun = fun.Lower c; sum = suc n }))
-      by false u q v = let z = ltb-false 0 (sum_of left x) u in let w = s.positive in absurd (omega arith)
-      by true u true v = let z = ltb-true (sum_of left x) (suc n) v in one x (kept x s (omega arith))
-      by true u false v =
+      by : (q : Bool) → ltb (sum_of left x) (suc n) ≡ q → BestOf left (c ∷ cs) (cond q (Some (record { centre = x; sum = sum_of left x })) (Some (record { centre = c; sum = suc n })))
+      by true v = let z = ltb-true (sum_of left x) (suc n) v in one x (kept x s (omega arith))
+      by false v =
           let z = ltb-false (sum_of left x) (suc n) v in
-          subst (λ (m : ℕ). BestOf left (c ∷ cs) (record { fun = fun.Lower c; sum = m })) e
+          subst (λ (m : ℕ). BestOf left (c ∷ cs) (Some (record { centre = c; sum = m }))) e
           (one c (taken (omega arith) (λ (d : CentreName) (i : Memᴰ d cs) (p : 0 < sum_of left d). let w = s.none-smaller d i p in omega arith)))
 
 -- the lists that are asked for stand in the order of their numbers
-best_none : (left : List ℕ) → BestOf left [] no_best
+best_none : (left : List ℕ) → BestOf left [] None
 best_none left = none (λ (d : CentreName) (i : Memᴰ d []). absurd (Memᴰ.not-nil i))
 
 one-ahead : (c : CentreName) → Ahead c []
@@ -117,11 +114,11 @@ module _ (left : List ℕ) where
   none-there : Exhausted left []
   none-there d i = absurd (Memᴰ.not-nil i)
 
-  without-operator : (k : Kind) (b : Best) → Exhausted left (operator_of k) → BestOf left (centres_of k) b → RightCentre k left b.fun
+  without-operator : (k : Kind) (b : Option Best) → Exhausted left (operator_of k) → BestOf left (centres_of k) b → RightCentre k left (centre_of b)
   without-operator k b rest (none out) = no-centre out rest
   without-operator k b rest (one c s) = a-centre c s
 
-  with-operator : (b o : Best) → BestOf left (centres_of Moment) b → BestOf left (operator_of Moment) o → RightCentre Moment left (once_exhausted b.fun o.fun)
+  with-operator : (b o : Option Best) → BestOf left (centres_of Moment) b → BestOf left (operator_of Moment) o → RightCentre Moment left (once_exhausted (centre_of b) (centre_of o))
   with-operator b o (one c s) other = a-centre c s
   with-operator b o (none out) (none rest) = no-centre out rest
   with-operator b o (none out) (one c s) = the-operator c out s
@@ -144,7 +141,7 @@ module _ (left : List ℕ) where
       none_left x e = let h = ltb-false 0 (order_of left c x) e in omega arith
 
       by : (p : Bool) → ltb 0 (order_of left c X) ≡ p → (q : Bool) → ltb 0 (order_of left c Y) ≡ q → (r : Bool) → ltb 0 (order_of left c Z) ≡ r
-          → RightAxis left c (cond p (component.Along X) (cond q (component.Along Y) (cond r (component.Along Z) component.Nowhere)))
+          → RightAxis left c (cond p (Some X) (cond q (Some Y) (cond r (Some Z) None)))
       by true e q f r g = along X (ltb-true 0 (order_of left c X) e) (λ (y : Axis) (h : axis_number y < axis_number X). absurd (omega arith))
       by false e true f r g = along Y (ltb-true 0 (order_of left c Y) f) before-y
         where

@@ -1,15 +1,11 @@
 -- 01, "Steps", in other words: what a choice of centre and axis is, however it is worked out. proofs/Rightly shows it of Choice.
-use Rattle.std.specs.Prelude.{ℕ, ◌≤◌, ◌<◌, ◌≡◌}
+use Rattle.std.specs.Prelude.{ℕ, ◌≤◌, ◌<◌, ◌≡◌, Option, Some, None}
 use mathlib.Core.List.{List, [], ◌∷◌, Memᴰ}
 use Rattle.kind.specs.declared.Kind.{Kind}
 use Rattle.kind.specs.declared.Kind.TheVariants.{Overlap, Kinetic, Nuclear, Moment, Coulomb}
 use Rattle.steps.specs.declared.CentreName.{CentreName}
 use Rattle.steps.specs.declared.CentreName.TheVariants.{A, B, C, D}
 use Rattle.steps.specs.declared.Axis.{Axis}
-use Rattle.steps.specs.declared.Fun.{Fun}
-use Rattle.steps.specs.declared.Fun.TheVariants as fun
-use Rattle.steps.specs.declared.AxisChoice.{AxisChoice}
-use Rattle.steps.specs.declared.AxisChoice.TheVariants as component
 use Rattle.steps.specs.Choice.{operator, centre_number, axis_number, order_of, sum_of}
 
 -- the centres of a kind
@@ -40,12 +36,12 @@ abbrev pub Exhausted : List ℕ → List CentreName → Type 0
 Exhausted left centres = (d : CentreName) → Memᴰ d centres → sum_of left d ≡ 0
 
 -- the operator is chosen only once A and B are exhausted; nothing is chosen only where no order is left
-pub data RightCentre (k : Kind) (left : List ℕ) : Fun → Type 0 where
-  a-centre : (c : CentreName) → Smallest left (centres_of k) c → RightCentre k left (fun.Lower c)
-  the-operator : (o : CentreName) → Exhausted left (centres_of k) → Smallest left (operator_of k) o → RightCentre k left (fun.Lower o)
-  no-centre : Exhausted left (centres_of k) → Exhausted left (operator_of k) → RightCentre k left fun.Nothing
+pub data RightCentre (k : Kind) (left : List ℕ) : Option CentreName → Type 0 where
+  a-centre : (c : CentreName) → Smallest left (centres_of k) c → RightCentre k left (Some c)
+  the-operator : (o : CentreName) → Exhausted left (centres_of k) → Smallest left (operator_of k) o → RightCentre k left (Some o)
+  no-centre : Exhausted left (centres_of k) → Exhausted left (operator_of k) → RightCentre k left None
 
 -- the first axis with a positive order left there
-pub data RightAxis (left : List ℕ) (c : CentreName) : AxisChoice → Type 0 where
-  along : (x : Axis) → 0 < order_of left c x → ((y : Axis) → axis_number y < axis_number x → order_of left c y ≡ 0) → RightAxis left c (component.Along x)
-  no-axis : ((y : Axis) → order_of left c y ≡ 0) → RightAxis left c component.Nowhere
+pub data RightAxis (left : List ℕ) (c : CentreName) : Option Axis → Type 0 where
+  along : (x : Axis) → 0 < order_of left c x → ((y : Axis) → axis_number y < axis_number x → order_of left c y ≡ 0) → RightAxis left c (Some x)
+  no-axis : ((y : Axis) → order_of left c y ≡ 0) → RightAxis left c None

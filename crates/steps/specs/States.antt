@@ -1,14 +1,10 @@
 -- 01, "Steps": a term on its way, and the steps that are legal where it stands.
-use Rattle.std.specs.Prelude.{cond, ℕ, zero, suc, ◌+◌, ◌*◌, List, [], ◌∷◌, ◌++◌}
+use Rattle.std.specs.Prelude.{cond, ℕ, zero, suc, ◌+◌, ◌*◌, List, [], ◌∷◌, ◌++◌, Option, Some, None}
 use Rattle.kind.specs.declared.Kind.{Kind}
 use Rattle.kind.specs.declared.Kind.TheVariants.{Overlap}
 use Rattle.term.specs.Terms.{Term}
 use Rattle.steps.specs.declared.CentreName.{CentreName}
 use Rattle.steps.specs.declared.Axis.{Axis}
-use Rattle.steps.specs.declared.Fun.{Fun}
-use Rattle.steps.specs.declared.Fun.TheVariants.{Lower, Nothing}
-use Rattle.steps.specs.declared.AxisChoice.{AxisChoice}
-use Rattle.steps.specs.declared.AxisChoice.TheVariants.{Along, Nowhere}
 use Rattle.steps.specs.Choice.{chosen, first_axis}
 use Rattle.steps.specs.Steps.{Branch, branches, times, lowered}
 
@@ -43,13 +39,13 @@ unfoldable pub turns : CentreName → Axis → ℕ → State → List Branch →
 turns c x k s [] = []
 turns c x k s (b ∷ bs) = if_legal (times b.falls c x s.left) (record { number = k; state = step s c x b }) (turns c x (suc k) s bs)
 
-abbrev pub on_axis : CentreName → AxisChoice → State → List Next
-on_axis c Nowhere s = []
-on_axis c (Along x) s = turns c x 0 s (branches s.kind c x)
+abbrev pub on_axis : CentreName → Option Axis → State → List Next
+on_axis c None s = []
+on_axis c (Some x) s = turns c x 0 s (branches s.kind c x)
 
-abbrev pub on_fun : Fun → State → List Next
-on_fun Nothing s = []
-on_fun (Lower c) s = on_axis c (first_axis s.left c) s
+abbrev pub on_fun : Option CentreName → State → List Next
+on_fun None s = []
+on_fun (Some c) s = on_axis c (first_axis s.left c) s
 
 -- the legal branches in the order of their numbers; none where no order is left
 unfoldable pub nexts : State → List Next

@@ -1,9 +1,11 @@
 // What each branch of each kind does, on packed orders.
-ghost use Rattle.std.specs.Prelude.{◌≡◌, ◌+◌, ◌*◌, ◌-◌, ◌^◌, ◌≤◌, ◌<◌};
+#![tactic(auto, unfolding(crate::specs::Steps::branches, crate::specs::Steps::times, crate::specs::inner::Packed::move_in, crate::specs::inner::Packed::fall_word, crate::specs::inner::Packed::multiplier_word))]
+
+ghost use Rattle.std.specs.Prelude.{◌≡◌, ◌+◌, ◌-◌, ◌^◌, ◌≤◌, ◌<◌};
 ghost use Rattle.kind.specs.Kinds.{branches_of};
-ghost use Rattle.steps.specs.Choice.{centre_number, axis_number, operator, order_of};
+ghost use Rattle.steps.specs.Choice.{order_of};
 ghost use Rattle.steps.specs.inner.Packed.{orders, unit, move_in, multiplier_word};
-ghost use Rattle.steps.specs.Steps.{branches, overlap, kinetic, nuclear, moment, moment-on-operator, moments, coulomb, partner, other-c, other-d, side, P, R, Q};
+ghost use Rattle.steps.specs.Steps.{branches, overlap, kinetic, nuclear, moment, moment-on-operator, moments, coulomb, P, R, Q};
 
 use crate::choice::{bits, order};
 use crate::{Axis, CentreName, Move};
@@ -17,66 +19,18 @@ fn unit(centre: CentreName, axis: Axis) -> u64
     1 << below
 }
 
-// One order of a centre and one of its partner.
-fn with_b(centre: CentreName, axis: Axis) -> u64
-    ensures { result ≡ unit centre axis + unit (partner centre) axis }
+// One order of a centre and one of another.
+fn both(centre: CentreName, other: CentreName, axis: Axis) -> u64
+    ensures { result ≡ unit centre axis + unit other axis }
 {
-    unit(centre, axis) + unit(centre.partner(), axis)
-}
-
-fn with_c(centre: CentreName, axis: Axis) -> u64
-    ensures { result ≡ unit centre axis + unit (other-c centre) axis }
-{
-    unit(centre, axis) + unit(centre.other_c(), axis)
-}
-
-fn with_d(centre: CentreName, axis: Axis) -> u64
-    ensures { result ≡ unit centre axis + unit (other-d centre) axis }
-{
-    unit(centre, axis) + unit(centre.other_d(), axis)
-}
-
-// One order of a centre and one of the operator.
-fn with_o(centre: CentreName, axis: Axis) -> u64
-    ensures { result ≡ unit centre axis + unit operator axis }
-{
-    unit(centre, axis) + unit(CentreName::C, axis)
-}
-
-// Two orders of a centre.
-fn twice(a: CentreName, axis: Axis) -> u64
-    ensures { result ≡ 2 * unit a axis }
-{
-    2 * unit(a, axis)
+    unit(centre, axis) + unit(other, axis)
 }
 
 // One less than the order of a centre, or 0.
 fn less_one(left: u64, centre: CentreName, axis: Axis) -> u64
     ensures { (result ≡ order_of (orders left) centre axis - 1) × (result < 16) }
 {
-    let n = order(left, centre, axis);
-    if n == 0 {
-        return 0;
-    }
-    n - 1
-}
-
-fn of_partner(left: u64, centre: CentreName, axis: Axis) -> u64
-    ensures { (result ≡ order_of (orders left) (partner centre) axis) × (result < 16) }
-{
-    order(left, centre.partner(), axis)
-}
-
-fn of_c(left: u64, centre: CentreName, axis: Axis) -> u64
-    ensures { (result ≡ order_of (orders left) (other-c centre) axis) × (result < 16) }
-{
-    order(left, centre.other_c(), axis)
-}
-
-fn of_d(left: u64, centre: CentreName, axis: Axis) -> u64
-    ensures { (result ≡ order_of (orders left) (other-d centre) axis) × (result < 16) }
-{
-    order(left, centre.other_d(), axis)
+    order(left, centre, axis).saturating_sub(1)
 }
 
 // The multipliers of a branch stand four bits each, the first lowest.
@@ -84,7 +38,7 @@ fn overlap_multipliers(left: u64, centre: CentreName, axis: Axis) -> u64
     ensures { result ≡ multiplier_word centre axis (orders left) (overlap centre axis) }
 {
     let a = less_one(left, centre, axis);
-    let b = of_partner(left, centre, axis);
+    let b = order(left, centre.partner(), axis);
     1 + 0x10 * a + 0x100 * b
 }
 
@@ -93,7 +47,7 @@ fn kinetic_multipliers(left: u64, centre: CentreName, axis: Axis) -> u64
     ensures { result ≡ multiplier_word centre axis (orders left) (kinetic centre axis) }
 {
     let a = less_one(left, centre, axis);
-    let b = of_partner(left, centre, axis);
+    let b = order(left, centre.partner(), axis);
     0x1001 + 0x1_0010 * a + 0x100 * b
 }
 
@@ -102,7 +56,7 @@ fn nuclear_multipliers(left: u64, centre: CentreName, axis: Axis) -> u64
     ensures { result ≡ multiplier_word centre axis (orders left) (nuclear centre axis) }
 {
     let a = less_one(left, centre, axis);
-    let b = of_partner(left, centre, axis);
+    let b = order(left, centre.partner(), axis);
     0x11 + 0x1100 * a + 0x11_0000 * b
 }
 
@@ -110,7 +64,7 @@ fn moment_on_centre_multipliers(left: u64, centre: CentreName, axis: Axis) -> u6
     ensures { result ≡ multiplier_word centre axis (orders left) (moment centre axis) }
 {
     let a = less_one(left, centre, axis);
-    let b = of_partner(left, centre, axis);
+    let b = order(left, centre.partner(), axis);
     let o = order(left, CentreName::C, axis);
     1 + 0x10 * a + 0x100 * b + 0x1000 * o
 }
@@ -126,8 +80,7 @@ fn moment_multipliers(left: u64, centre: CentreName, axis: Axis) -> u64
     ensures { result ≡ multiplier_word centre axis (orders left) (moments centre axis) }
 {
     match centre {
-        CentreName::A => moment_on_centre_multipliers(left, centre, axis),
-        CentreName::B => moment_on_centre_multipliers(left, centre, axis),
+        CentreName::A | CentreName::B => moment_on_centre_multipliers(left, centre, axis),
         CentreName::C => moment_on_operator_multipliers(left, centre, axis),
         CentreName::D => 0,
     }
@@ -138,9 +91,9 @@ fn coulomb_multipliers(left: u64, centre: CentreName, axis: Axis) -> u64
     ensures { result ≡ multiplier_word centre axis (orders left) (coulomb centre axis) }
 {
     let a = less_one(left, centre, axis);
-    let b = of_partner(left, centre, axis);
-    let c = of_c(left, centre, axis);
-    let d = of_d(left, centre, axis);
+    let b = order(left, centre.partner(), axis);
+    let c = order(left, centre.other_c(), axis);
+    let d = order(left, centre.other_d(), axis);
     0x11 + 0x1100 * a + 0x11_0000 * b + 0x100_0000 * c + 0x1000_0000 * d
 }
 
@@ -157,28 +110,6 @@ pub fn multipliers(kind: Kind, left: u64, centre: CentreName, axis: Axis) -> u64
     }
 }
 
-fn plain(kind: Kind, falls: u64, adds: u64) -> Move
-    ensures { result ≡ record { falls = falls; adds = adds; raises = 0; kind = kind } }
-{
-    Move {
-        falls: falls,
-        adds: adds,
-        raises: 0,
-        kind: kind,
-    }
-}
-
-fn raised(kind: Kind, falls: u64, adds: u64) -> Move
-    ensures { result ≡ record { falls = falls; adds = adds; raises = 1; kind = kind } }
-{
-    Move {
-        falls: falls,
-        adds: adds,
-        raises: 1,
-        kind: kind,
-    }
-}
-
 // 2·axis for A, one more for B.
 fn p(centre: CentreName, axis: Axis) -> u64
     ensures { result ≡ P centre axis }
@@ -192,34 +123,10 @@ fn r(centre: CentreName, axis: Axis) -> u64
     6 * axis.number() + centre.number()
 }
 
-// One more for each centre after A.
-fn by_centre(n: u64, centre: CentreName) -> u64
-    requires { n < 32 }
-    ensures { result ≡ n + centre_number centre }
-{
-    n + centre.number()
-}
-
-// One more for each axis after x.
-fn by_axis(n: u64, axis: Axis) -> u64
-    requires { n < 32 }
-    ensures { result ≡ n + axis_number axis }
-{
-    n + axis.number()
-}
-
-// One more for C and D.
-fn by_side(n: u64, centre: CentreName) -> u64
-    requires { n < 32 }
-    ensures { result ≡ n + side centre }
-{
-    n + centre.side()
-}
-
 fn q(centre: CentreName, axis: Axis) -> u64
     ensures { result ≡ Q centre axis }
 {
-    6 * axis.number() + (4 + centre.side())
+    6 * axis.number() + 4 + centre.side()
 }
 
 // The last arm of each is the kind's last branch: `branch` asks for none beyond it.
@@ -228,9 +135,9 @@ fn overlap_move(centre: CentreName, axis: Axis, number: u8) -> Move
     ensures { result ≡ move_in Kind.Overlap centre axis (overlap centre axis) number }
 {
     match number {
-        0 => plain(Kind::Overlap, unit(centre, axis), p(centre, axis)),
-        1 => plain(Kind::Overlap, twice(centre, axis), 6),
-        _ => plain(Kind::Overlap, with_b(centre, axis), 7),
+        0 => Move::new(unit(centre, axis), p(centre, axis), 0, Kind::Overlap),
+        1 => Move::new(2 * unit(centre, axis), 6, 0, Kind::Overlap),
+        _ => Move::new(both(centre, centre.partner(), axis), 7, 0, Kind::Overlap),
     }
 }
 
@@ -239,11 +146,16 @@ fn kinetic_move(centre: CentreName, axis: Axis, number: u8) -> Move
     ensures { result ≡ move_in Kind.Kinetic centre axis (kinetic centre axis) number }
 {
     match number {
-        0 => plain(Kind::Kinetic, unit(centre, axis), p(centre, axis)),
-        1 => plain(Kind::Kinetic, twice(centre, axis), 6),
-        2 => plain(Kind::Kinetic, with_b(centre, axis), 7),
-        3 => plain(Kind::Overlap, 0, 8),
-        _ => plain(Kind::Overlap, twice(centre, axis), by_centre(9, centre)),
+        0 => Move::new(unit(centre, axis), p(centre, axis), 0, Kind::Kinetic),
+        1 => Move::new(2 * unit(centre, axis), 6, 0, Kind::Kinetic),
+        2 => Move::new(both(centre, centre.partner(), axis), 7, 0, Kind::Kinetic),
+        3 => Move::new(0, 8, 0, Kind::Overlap),
+        _ => Move::new(
+            2 * unit(centre, axis),
+            9 + centre.number(),
+            0,
+            Kind::Overlap,
+        ),
     }
 }
 
@@ -252,12 +164,12 @@ fn nuclear_move(centre: CentreName, axis: Axis, number: u8) -> Move
     ensures { result ≡ move_in Kind.Nuclear centre axis (nuclear centre axis) number }
 {
     match number {
-        0 => plain(Kind::Nuclear, unit(centre, axis), p(centre, axis)),
-        1 => raised(Kind::Nuclear, unit(centre, axis), by_axis(6, axis)),
-        2 => plain(Kind::Nuclear, twice(centre, axis), 9),
-        3 => raised(Kind::Nuclear, twice(centre, axis), 10),
-        4 => plain(Kind::Nuclear, with_b(centre, axis), 9),
-        _ => raised(Kind::Nuclear, with_b(centre, axis), 10),
+        0 => Move::new(unit(centre, axis), p(centre, axis), 0, Kind::Nuclear),
+        1 => Move::new(unit(centre, axis), 6 + axis.number(), 1, Kind::Nuclear),
+        2 => Move::new(2 * unit(centre, axis), 9, 0, Kind::Nuclear),
+        3 => Move::new(2 * unit(centre, axis), 10, 1, Kind::Nuclear),
+        4 => Move::new(both(centre, centre.partner(), axis), 9, 0, Kind::Nuclear),
+        _ => Move::new(both(centre, centre.partner(), axis), 10, 1, Kind::Nuclear),
     }
 }
 
@@ -266,10 +178,10 @@ fn moment_on_centre(centre: CentreName, axis: Axis, number: u8) -> Move
     ensures { result ≡ move_in Kind.Moment centre axis (moment centre axis) number }
 {
     match number {
-        0 => plain(Kind::Moment, unit(centre, axis), p(centre, axis)),
-        1 => plain(Kind::Moment, twice(centre, axis), 9),
-        2 => plain(Kind::Moment, with_b(centre, axis), 10),
-        _ => plain(Kind::Moment, with_o(centre, axis), 11),
+        0 => Move::new(unit(centre, axis), p(centre, axis), 0, Kind::Moment),
+        1 => Move::new(2 * unit(centre, axis), 9, 0, Kind::Moment),
+        2 => Move::new(both(centre, centre.partner(), axis), 10, 0, Kind::Moment),
+        _ => Move::new(both(centre, CentreName::C, axis), 11, 0, Kind::Moment),
     }
 }
 
@@ -278,9 +190,9 @@ fn moment_on_operator(centre: CentreName, axis: Axis, number: u8) -> Move
     ensures { result ≡ move_in Kind.Moment centre axis (moment-on-operator axis) number }
 {
     match number {
-        0 => plain(Kind::Moment, unit(centre, axis), by_axis(6, axis)),
-        1 => plain(Kind::Moment, twice(centre, axis), 9),
-        _ => plain(Kind::Moment, 0, 0),
+        0 => Move::new(unit(centre, axis), 6 + axis.number(), 0, Kind::Moment),
+        1 => Move::new(2 * unit(centre, axis), 9, 0, Kind::Moment),
+        _ => Move::new(0, 0, 0, Kind::Moment),
     }
 }
 
@@ -289,10 +201,9 @@ fn moment_move(centre: CentreName, axis: Axis, number: u8) -> Move
     ensures { result ≡ move_in Kind.Moment centre axis (moments centre axis) number }
 {
     match centre {
-        CentreName::A => moment_on_centre(centre, axis, number),
-        CentreName::B => moment_on_centre(centre, axis, number),
+        CentreName::A | CentreName::B => moment_on_centre(centre, axis, number),
         CentreName::C => moment_on_operator(centre, axis, number),
-        CentreName::D => plain(Kind::Moment, 0, 0),
+        CentreName::D => Move::new(0, 0, 0, Kind::Moment),
     }
 }
 
@@ -301,14 +212,24 @@ fn coulomb_move(centre: CentreName, axis: Axis, number: u8) -> Move
     ensures { result ≡ move_in Kind.Coulomb centre axis (coulomb centre axis) number }
 {
     match number {
-        0 => plain(Kind::Coulomb, unit(centre, axis), r(centre, axis)),
-        1 => raised(Kind::Coulomb, unit(centre, axis), q(centre, axis)),
-        2 => plain(Kind::Coulomb, twice(centre, axis), by_side(18, centre)),
-        3 => raised(Kind::Coulomb, twice(centre, axis), by_side(20, centre)),
-        4 => plain(Kind::Coulomb, with_b(centre, axis), by_side(18, centre)),
-        5 => raised(Kind::Coulomb, with_b(centre, axis), by_side(20, centre)),
-        6 => raised(Kind::Coulomb, with_c(centre, axis), 22),
-        _ => raised(Kind::Coulomb, with_d(centre, axis), 22),
+        0 => Move::new(unit(centre, axis), r(centre, axis), 0, Kind::Coulomb),
+        1 => Move::new(unit(centre, axis), q(centre, axis), 1, Kind::Coulomb),
+        2 => Move::new(2 * unit(centre, axis), 18 + centre.side(), 0, Kind::Coulomb),
+        3 => Move::new(2 * unit(centre, axis), 20 + centre.side(), 1, Kind::Coulomb),
+        4 => Move::new(
+            both(centre, centre.partner(), axis),
+            18 + centre.side(),
+            0,
+            Kind::Coulomb,
+        ),
+        5 => Move::new(
+            both(centre, centre.partner(), axis),
+            20 + centre.side(),
+            1,
+            Kind::Coulomb,
+        ),
+        6 => Move::new(both(centre, centre.other_c(), axis), 22, 1, Kind::Coulomb),
+        _ => Move::new(both(centre, centre.other_d(), axis), 22, 1, Kind::Coulomb),
     }
 }
 
@@ -317,7 +238,7 @@ pub fn branch(kind: Kind, centre: CentreName, axis: Axis, number: u8) -> Move
     ensures { result ≡ move_in kind centre axis (branches kind centre axis) number }
 {
     if kind.branches() <= number as usize {
-        return plain(kind, 0, 0);
+        return Move::new(0, 0, 0, kind);
     }
     match kind {
         Kind::Overlap => overlap_move(centre, axis, number),

@@ -15,7 +15,7 @@ pub use choice::{find_component_to_lower, find_fun_to_lower};
 use kind::Kind;
 
 // The operator of a moment stands in C's place.
-#[derive(Clone, Copy)]
+#[derive(Clone, Copy, Debug, PartialEq, Eq)]
 pub enum CentreName {
     A,
     B,
@@ -27,12 +27,7 @@ impl CentreName {
     pub(crate) fn number(self) -> u64
         ensures { (result ≡ centre_number self) × (result ≤ 3) }
     {
-        match self {
-            CentreName::A => 0,
-            CentreName::B => 1,
-            CentreName::C => 2,
-            CentreName::D => 3,
-        }
+        self as u64
     }
 
     // One for C and D.
@@ -40,10 +35,8 @@ impl CentreName {
         ensures { (result ≡ side self) × (result ≤ 1) }
     {
         match self {
-            CentreName::A => 0,
-            CentreName::B => 0,
-            CentreName::C => 1,
-            CentreName::D => 1,
+            CentreName::A | CentreName::B => 0,
+            CentreName::C | CentreName::D => 1,
         }
     }
 
@@ -64,10 +57,8 @@ impl CentreName {
         ensures { result ≡ other-c self }
     {
         match self {
-            CentreName::A => CentreName::D,
-            CentreName::B => CentreName::D,
-            CentreName::C => CentreName::B,
-            CentreName::D => CentreName::B,
+            CentreName::A | CentreName::B => CentreName::D,
+            CentreName::C | CentreName::D => CentreName::B,
         }
     }
 
@@ -76,15 +67,13 @@ impl CentreName {
         ensures { result ≡ other-d self }
     {
         match self {
-            CentreName::A => CentreName::C,
-            CentreName::B => CentreName::C,
-            CentreName::C => CentreName::A,
-            CentreName::D => CentreName::A,
+            CentreName::A | CentreName::B => CentreName::C,
+            CentreName::C | CentreName::D => CentreName::A,
         }
     }
 }
 
-#[derive(Clone, Copy)]
+#[derive(Clone, Copy, Debug, PartialEq, Eq)]
 pub enum Axis {
     X,
     Y,
@@ -95,42 +84,37 @@ impl Axis {
     pub(crate) fn number(self) -> u64
         ensures { (result ≡ axis_number self) × (result ≤ 2) }
     {
-        match self {
-            Axis::X => 0,
-            Axis::Y => 1,
-            Axis::Z => 2,
-        }
+        self as u64
     }
 }
 
-// What find_fun_to_lower finds (D-35).
-#[derive(Clone, Copy)]
-pub enum Fun {
-    Lower(CentreName),
-    Nothing,
-}
-
-// What find_component_to_lower finds.
-#[derive(Clone, Copy)]
-pub enum AxisChoice {
-    Along(Axis),
-    Nowhere,
-}
-
-// A centre with the sum of its orders, or none with 0.
-#[derive(Clone, Copy)]
+// A centre with the sum of its orders, which is not 0.
+#[derive(Clone, Copy, Debug, PartialEq, Eq)]
 pub struct Best {
-    pub fun: Fun,
+    pub centre: CentreName,
     pub sum: u64,
 }
 
 // A branch for the packed orders: what is taken from the word, the prefactor added, what the Boys order gains, and the
 // kind that the term goes on as. The two bytes stand side by side: a kind alone in a word of eight bytes is read by a load that is
 // wider than its store, which takes many times as long.
-#[derive(Clone, Copy)]
+#[derive(Clone, Copy, Debug, PartialEq, Eq)]
 pub struct Move {
     pub falls: u64,
     pub adds: u64,
     pub raises: u8,
     pub kind: Kind,
+}
+
+impl Move {
+    pub(crate) fn new(falls: u64, adds: u64, raises: u8, kind: Kind) -> Move
+        ensures { result ≡ record { falls = falls; adds = adds; raises = raises; kind = kind } }
+    {
+        Move {
+            falls,
+            adds,
+            raises,
+            kind,
+        }
+    }
 }

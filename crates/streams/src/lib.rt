@@ -1,14 +1,14 @@
 // What the programs read: their input up to a limit, their arguments, and the files that these name.
 #![tactic(auto)]
 
-ghost use Rattle.std.specs.Prelude.{◌≡◌, ◌<◌, ◌≤◌, length, take, IfOk, IfSome};
+ghost use Rattle.std.specs.Prelude.{◌≡◌, ◌<◌, ◌≤◌, length, take, IfOk, IfSome, OnOk};
 ghost use Rattle.std.specs.Str.{IsUtf8};
 ghost use Rattle.std.specs.Io.{ReadsAtMost};
-ghost use Rattle.std.specs.Io.KnownBytes.{Consumes, IsAtEnd};
+ghost use Rattle.std.specs.Io.KnownBytes.{Appends, Consumes, IsAtEnd};
 
 use std::env::{Env, FillError};
 use std::fs::Files;
-use std::io::Read;
+use std::io::{Read, Write};
 use std::{fs, io, str};
 
 // Reads until the buffer is full or the input ends, and answers how many bytes it put at the front of the buffer.
@@ -26,6 +26,30 @@ pub fn read_full<R: Read>(input: &mut R, bytes: &mut [u8]) -> io::Result<usize>
         done += n;
     }
     Ok(done)
+}
+
+// Lays down what was read first at the front of the buffer, reads on behind it, and answers how many bytes there are then; 0 where the first have
+// no room.
+pub fn read_behind<R: Read>(input: &mut R, bytes: &mut [u8], first: &[u8]) -> io::Result<usize>
+    ensures { ReadsAtMost result bytes.new }
+{
+    let from = first.len();
+    if bytes.len() < from {
+        return Ok(0);
+    }
+    bytes[..from].copy_from_slice(first);
+    let n = read_full(input, &mut bytes[from..])?;
+    Ok(from + n)
+}
+
+// Writes the first bytes of a buffer out, where it has so many.
+pub fn write_front<W: Write>(out: &mut W, bytes: &[u8], n: usize) -> io::Result<()>
+    ensures { n ≤ length bytes.now → OnOk result (Appends (W.contents out.old) (W.contents out.new) (take n bytes.now)) }
+{
+    match bytes.get(..n) {
+        Some(front) => out.write_all(front),
+        None => Ok(()),
+    }
 }
 
 // The bytes of an argument, at the front of the buffer; 0 is of one that has none, is missing or has no room.

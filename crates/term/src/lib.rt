@@ -7,7 +7,7 @@ ghost use Rattle.term.specs.Terms.{no_term};
 use kind::Kind;
 
 // The prefactors are the first `count` places; zeros stand after them.
-#[derive(Clone, Copy)]
+#[derive(Clone, Copy, Debug, PartialEq, Eq)]
 pub struct Term {
     pub scale: u32,
     pub boys: u8,

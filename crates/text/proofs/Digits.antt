@@ -1,6 +1,6 @@
 -- A decimal is one digit, or that of the tens and the last digit; it is the digits of its number, and worth it.
 -- So no two numbers have the same decimal, and a decimal and a word in hexadecimal read back as they were written.
-use Prim.Native.Nat.{ℕ, zero, suc, ◌+◌, ◌-◌, ◌*◌, ◌/◌, ◌%◌, ◌^◌, ◌≤◌, ◌<◌}
+use Prim.Native.Nat.{ℕ, zero, suc, ◌+◌, ◌-◌, ◌*◌, ◌/◌, ◌%◌, ◌^◌, max, ◌≤◌, ◌<◌}
 use native.Mathlib.Nat.{mod-eq_of_lt, mod-lt, div-add-mod', div-lt_iff_lt-mul, pow-zero, pow-suc}
 use native.Mathlib.Numerals.{add-one}
 use native.Mathlib.Omega.{arith}
@@ -10,12 +10,12 @@ use borrow.Author.Tests.{lt-ltb, le-ltb, ltb-true, ltb-false, eq-eqb}
 use lib.Dec.{ltb}
 use lib.ListN.{length, drop, length-append}
 use lib.Seq.{drop-append_seam}
+use Rattle.std.specs.Prelude.{Option}
 use Rattle.laws.proofs.Cases.{tested}
 use Rattle.text.specs.Digits.{glyph, worth, digits, decimal_in, decimal_of, value_from}
 use Rattle.text.specs.Reading.{run_of, value_at, decimal_at, hex_at}
+use Rattle.text.specs.Parsed.{Is}
 use Rattle.text.specs.Writing.{WrittenTold}
-use Rattle.text.specs.declared.Written.{Written}
-use Rattle.text.specs.declared.Parsed.TheVariants.{Is}
 use Rattle.text.proofs.Writing.{digit-below, length_digits}
 
 -- more steps than the number change nothing
@@ -44,6 +44,20 @@ places-short n h = rw (decimal-short n h)
 
 pub places-long : (n : ℕ) → 10 ≤ n → length (decimal_of n) ≡ suc (length (decimal_of (n / 10)))
 places-long n h = ap length (decimal-long n h) ∙ length-append (decimal_of (n / 10)) (glyph (n % 10) ∷ []) ∙ add-one _
+
+tens-some : (k : ℕ) → 1 ≤ 10 ^ k
+tens-some zero = omega (arith, pow-zero 10)
+tens-some (suc k) = omega (arith, pow-suc 10 k, tens-some k)
+
+-- at least a power of ten, and below the next; nought has one digit, as one has
+pub places-power : (k n m : ℕ) → m ≡ max n 1 → 10 ^ k ≤ m → m < 10 * 10 ^ k → k + 1 ≡ length (decimal_of n)
+places-power zero n m e h g = let one = pow-zero 10 in omega (arith, places-short n (omega arith))
+places-power (suc k) n m e h g =
+    let power = pow-suc 10 k in
+    let some = tens-some k in
+    let large : 10 ≤ n = omega arith in
+    let rest = places-power k (n / 10) (max (n / 10) 1) refl (omega arith) (omega arith) in
+    omega (arith, places-long n large)
 
 -- a number below a power of ten
 tens-below : (n m : ℕ) → n < m * 10 → n / 10 < m
@@ -75,7 +89,7 @@ decimal-digits n =
     (λ n h tens. rw (places-long n h) (ap (λ (l : List ℕ). l ++ (glyph (n % 10) ∷ [])) tens ∙ sym (decimal-long n h)))
     (suc n) n (omega arith)
 
-pub wrote-decimal : (before after : List ℕ) (at k n : ℕ) (r : Written) → WrittenTold before at (digits 10 k n) r after → k ≡ length (decimal_of n)
+pub wrote-decimal : (before after : List ℕ) (at k n : ℕ) (r : Option ℕ) → WrittenTold before at (digits 10 k n) r after → k ≡ length (decimal_of n)
     → WrittenTold before at (decimal_of n) r after
 wrote-decimal before after at k n r w e =
     subst (λ (text : List ℕ). WrittenTold before at text r after) (ap (λ (k : ℕ). digits 10 k n) e ∙ decimal-digits n) w

@@ -2,9 +2,9 @@
 use Prim.Native.Nat.{ℕ}
 use mathlib.Core.List.{List}
 use contract.Lifetimes.{Lfts}
+use Rattle.std.specs.Prelude.{Option}
 use Rattle.laws.specs.Placed.{placed_where_fits}
 use Rattle.laws.proofs.Contract.{Alone, alone, Lent, Shown, ◌then◌, ◌▸◌, end}
-use Rattle.text.specs.declared.Written.{Written}
 use Rattle.text.specs.Digits.{decimal_of, hex_byte_of, hex_word_of, places_of}
 use Rattle.text.specs.Reading.{decimal_at, hex_at}
 use Rattle.text.specs.Writing.{answered}
@@ -18,7 +18,7 @@ use Rattle.text.proofs.places.Reads.{Post as Places}
 
 -- the answer of a text that is put from a place on, and what the buffer then holds
 abbrev Told : Type 0
-Told = Written × List ℕ
+Told = Option ℕ × List ℕ
 
 abbrev told : List ℕ → ℕ → List ℕ → Told
 told before at text = (answered before at text, placed_where_fits before at text)

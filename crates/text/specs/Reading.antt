@@ -1,7 +1,6 @@
 -- What a reader of numbers promises: programs read by it, and 01 says nothing of it.
 use Rattle.std.specs.Prelude.{ℕ, ◌+◌, ◌^◌, true, false, cond, List, [], ◌∷◌, ltb, leb, eqb, length, drop}
-use Rattle.text.specs.declared.Parsed.{Parsed}
-use Rattle.text.specs.declared.Parsed.TheVariants.{Is, Not}
+use Rattle.text.specs.Parsed.{Parsed, Is, Not}
 use Rattle.text.specs.Digits.{worth, value_from, places_of}
 
 -- the digits of a base that a list begins with, up to the first byte that is none

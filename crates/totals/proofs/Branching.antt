@@ -13,8 +13,6 @@ use Rattle.steps.specs.declared.CentreName.{CentreName}
 use Rattle.steps.specs.declared.CentreName.TheVariants.{A, B, C, D}
 use Rattle.steps.specs.declared.Axis.{Axis}
 use Rattle.steps.specs.declared.Axis.TheVariants.{X, Y, Z}
-use Rattle.steps.specs.declared.Fun.{Fun}
-use Rattle.steps.specs.declared.Fun.TheVariants.{Lower}
 use Rattle.steps.specs.Choice.{order_place, order_of, sum_of, chosen}
 use Rattle.steps.specs.Chosen.{RightCentre, a-centre, the-operator, no-centre, Exhausted}
 use Rattle.steps.specs.Steps.{Branch, branches, times, less, lowered}
@@ -25,6 +23,7 @@ use Rattle.histories.proofs.Some.{Unused}
 use Rattle.totals.specs.Totals.{claimed, plain_list, nuclear_list, along, scale_total}
 use Rattle.totals.proofs.Falling.{less-here, less-there, product, others, at-axis, one-falls, two-fall}
 use Rattle.totals.proofs.Growing.{Grows, plain-grows, nuclear-grows}
+use Rattle.std.specs.Prelude.{Option, Some}
 
 -- each multiplier times what a number of the orders is after the fall
 unfoldable pub branch_sum : (List ℕ → ℕ) → CentreName → Axis → List ℕ → List Branch → ℕ
@@ -81,7 +80,7 @@ unfolding Unused
 no-operator k left x six unused = unused (order_place C x) (omega arith)
 
 -- the operator is chosen only once A and B are exhausted
-exhausted : (left : List ℕ) (v : Fun) → RightCentre Moment left v → v ≡ Lower C → Exhausted left (A ∷ B ∷ [])
+exhausted : (left : List ℕ) (v : Option CentreName) → RightCentre Moment left v → v ≡ Some C → Exhausted left (A ∷ B ∷ [])
 exhausted left v (a-centre c s) e = absurd (neither c s.one-of-them (cc))
   where
     neither : (c : CentreName) → Memᴰ c (A ∷ B ∷ []) → c ≡ C → ⊥
@@ -100,7 +99,7 @@ none-times : (n v : ℕ) → n ≡ 0 → n * v ≡ 0
 none-times n v e = rw e (omega arith)
 
 module _ (left : List ℕ) (x : Axis) where
-  pub branches-add-up : (k : Kind) (c : CentreName) → claimed k ≡ true → Unused k left → chosen k left ≡ Lower c → 0 < order_of left c x
+  pub branches-add-up : (k : Kind) (c : CentreName) → claimed k ≡ true → Unused k left → chosen k left ≡ Some c → 0 < order_of left c x
       → branch_sum (scale_total k) c x left (branches k c x) ≡ scale_total k left
   unfolding branches times lowered branch_sum scale_total
   branches-add-up Overlap A is unused e some =

@@ -1,35 +1,34 @@
 -- What is refused a total is refused alike where the request is measured.
-use Prim.Native.Nat.{ℕ}
 use mathlib.Core.Path.{◌≡◌, ap}
 use mathlib.Core.Bool.{Bool, true, false, cond}
+use Prim.Native.Nat.{ℕ}
 use mathlib.Core.List.{List}
+use Rattle.std.specs.Prelude.{Option, Some, None, Ok, Err}
 use Rattle.laws.proofs.Cases.{clash}
-use Rattle.kind.specs.declared.Named.{Named}
-use Rattle.kind.specs.declared.Named.TheVariants as named
+use Rattle.kind.specs.declared.Kind.{Kind}
+use Rattle.kind.specs.declared.refusals.Refusal.{Refusal}
+use Rattle.kind.specs.declared.refusals.Refusal.TheVariants.{WrongKind, OrderSum, UnusedOrder}
 use Rattle.kind.specs.Kinds.{kind_of}
-use Rattle.expansion.specs.declared.Expanded.{Expanded}
-use Rattle.expansion.specs.declared.Expanded.TheVariants as expanded
+use Rattle.kind.proofs.Faults.{err-is}
+use Rattle.expansion.specs.Answer.{Answer, Refused}
 use Rattle.expansion.specs.Expanding.{too_high, unused_set, kind_measured, named_measured}
-use Rattle.totals.specs.declared.Total.{Total}
-use Rattle.totals.specs.declared.Total.TheVariants as total
-use Rattle.totals.specs.Totals.{claimed, kind_total, named_total, refusal_of}
+use Rattle.totals.specs.Totals.{Total, kind_total, named_total}
 use Rattle.totals.specs.ByHand.{RefusedAlike}
 
+-- a refusal of the one is that of the other
+refused-as : (r n : Refusal) → ◌≡◌ {A = Total} (Err r) (Err n) → Refused r ≡ Refused n
+refused-as r n is = ap (λ (x : Refusal). Refused x) (err-is r n is)
+
 -- two tests in front of a total and of a size
-alike : (a b : Bool) (t : Total) (e : Expanded) (n : ℕ) → (t ≡ total.Refused n → ⊥) → cond a (total.Refused 2) (cond b (total.Refused 3) t) ≡ total.Refused n → cond a (expanded.Refused 2) (cond b (expanded.Refused 3) e) ≡ expanded.Refused n
-alike true b t e n never is = ap (λ (x : Total). expanded.Refused (refusal_of x)) is
-alike false true t e n never is = ap (λ (x : Total). expanded.Refused (refusal_of x)) is
-alike false false t e n never is = absurd (never is)
+alike : (a b : Bool) (t : Option ℕ) (e : Answer) (n : Refusal) → cond {A = Total} a (Err OrderSum) (cond b (Err UnusedOrder) (Ok t)) ≡ Err n → cond a (Refused OrderSum) (cond b (Refused UnusedOrder) e) ≡ Refused n
+alike true b t e n is = refused-as OrderSum n is
+alike false true t e n is = refused-as UnusedOrder n is
+alike false false t e n is = absurd (clash (cc))
 
--- a total that is claimed or not is no refusal
-no-refusal : (c : Bool) (s n : ℕ) → cond c (total.Is s) total.NotClaimed ≡ total.Refused n → ⊥
-no-refusal true s n is = clash (cc)
-no-refusal false s n is = clash (cc)
-
-named-alike : (k : Named) (orders : List ℕ) (n : ℕ) → named_total k orders ≡ total.Refused n → named_measured k orders ≡ expanded.Refused n
+named-alike : (k : Option Kind) (orders : List ℕ) (n : Refusal) → named_total k orders ≡ Err n → named_measured k orders ≡ Refused n
 unfolding kind_total kind_measured
-named-alike named.Unknown orders n is = ap (λ (x : Total). expanded.Refused (refusal_of x)) is
-named-alike (named.Is k) orders n is = alike (too_high k orders) (unused_set k orders) _ _ n (no-refusal (claimed k) _ n) is
+named-alike None orders n is = refused-as WrongKind n is
+named-alike (Some k) orders n is = alike (too_high k orders) (unused_set k orders) _ _ n is
 
 pub refused-alike : RefusedAlike
 refused-alike kind orders n is = named-alike (kind_of kind) orders n is

@@ -15,10 +15,6 @@ use Rattle.steps.specs.declared.CentreName.{CentreName}
 use Rattle.steps.specs.declared.CentreName.TheVariants.{A, B, C}
 use Rattle.steps.specs.declared.Axis.{Axis}
 use Rattle.steps.specs.declared.Axis.TheVariants.{X, Y, Z}
-use Rattle.steps.specs.declared.Fun.{Fun}
-use Rattle.steps.specs.declared.Fun.TheVariants.{Lower}
-use Rattle.steps.specs.declared.AxisChoice.{AxisChoice}
-use Rattle.steps.specs.declared.AxisChoice.TheVariants.{Along}
 use Rattle.steps.specs.Choice.{order_place, chosen, first_axis}
 use Rattle.steps.specs.Steps.{Branch, branches, times, lowered}
 use Rattle.steps.specs.States.{State, Next, start, step, if_legal, turns, on_axis, on_fun, nexts}
@@ -34,6 +30,7 @@ use Rattle.totals.specs.Totals.{scale_sum, claimed, along, scale_total}
 use Rattle.totals.specs.ByHand.{TotalByHand}
 use Rattle.totals.proofs.Growing.{plain-grows, nuclear-grows}
 use Rattle.totals.proofs.Branching.{branch_sum, branches-add-up}
+use Rattle.std.specs.Prelude.{Option, Some}
 
 -- a scale times a number of the orders that are left
 abbrev weighed : (List ℕ → ℕ) → Next → ℕ
@@ -104,8 +101,8 @@ next-sum s some is unused =
     ∙ ap (λ (v : ℕ). s.term.scale * v)
     (branches-add-up s.left l.axis s.kind l.centre is unused l.picked (axis-positive s.left l.centre l.axis l.along))
   where
-    at : (c : CentreName) (x : Axis) → chosen s.kind s.left ≡ Lower c → first_axis s.left c ≡ Along x → nexts s ≡ turns c x 0 s (branches s.kind c x)
-    at c x e f = ap (λ (v : Fun). on_fun v s) e ∙ ap (λ (v : AxisChoice). on_axis c v s) f
+    at : (c : CentreName) (x : Axis) → chosen s.kind s.left ≡ Some c → first_axis s.left c ≡ Some x → nexts s ≡ turns c x 0 s (branches s.kind c x)
+    at c x e f = ap (λ (v : Option CentreName). on_fun v s) e ∙ ap (λ (v : Option Axis). on_axis c v s) f
 
 pub state-total : (s : State) → ByProduct s
 unfolding total

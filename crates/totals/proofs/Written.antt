@@ -7,27 +7,25 @@ use native.Mathlib.Omega.{arith}
 use borrow.Author.Tests.{ltb-false}
 use lib.ListN.{length}
 use Rattle.kind.specs.declared.Kind.{Kind}
-use Rattle.kind.specs.declared.Named.{Named}
 use Rattle.kind.specs.Limits.{most_terms}
-use Rattle.expansion.specs.declared.Expanded.TheVariants.{Roll}
+use Rattle.expansion.specs.Answer.{Roll}
 use Rattle.expansion.specs.Expanding.{terms_of, roll_of}
 use Rattle.expansion.specs.inner.Requests.{RequestWithin}
 use Rattle.expansion.proofs.Demanded.{known, answered, written_is}
 use Rattle.expansion.proofs.ReadsBack.{rest-zero, reads-back}
-use Rattle.totals.specs.declared.Total.TheVariants as answer
-use Rattle.totals.specs.declared.RollTotal.TheVariants as roll_answer
 use Rattle.totals.specs.Totals.{claimed, scale_total, kind_total, named_total, sum_in, roll_total_of}
 use Rattle.totals.specs.ByHand.{SameWritten}
 use Rattle.totals.proofs.Shown.{total-by-hand}
+use Rattle.std.specs.Prelude.{Option, Some, Ok}
 
 module _ (k : Kind) (orders : List ℕ) (within : RequestWithin k orders) (is : claimed k ≡ true) where
-  hand-told : kind_total k orders ≡ answer.Is (scale_total k orders)
+  hand-told : kind_total k orders ≡ Ok (Some (scale_total k orders))
   unfolding kind_total
   hand-told = simp (within.low_sums, within.none-unused, is)
 
-  roll-told : length (terms_of k orders) ≤ most_terms → roll_total_of (roll_of k orders) ≡ roll_answer.Is (scale_total k orders)
+  roll-told : length (terms_of k orders) ≤ most_terms → roll_total_of (roll_of k orders) ≡ Ok (scale_total k orders)
   unfolding roll_total_of
-  roll-told few = ap sum_in (reads-back k orders within few) ∙ ap roll_answer.Is (total-by-hand k orders is (rest-zero k orders within))
+  roll-told few = ap sum_in (reads-back k orders within few) ∙ ap (λ (n : ℕ). Ok n) (total-by-hand k orders is (rest-zero k orders within))
 
 pub same-written : SameWritten
 same-written kind orders before begin long count after in-full told =
@@ -39,6 +37,6 @@ same-written kind orders before begin long count after in-full told =
     record {
       k = k;
       named = of.named;
-      by_hand = λ (is : claimed k ≡ true). ap (λ (m : Named). named_total m orders) of.named ∙ hand-told k orders within is;
+      by_hand = λ (is : claimed k ≡ true). ap (λ (m : Option Kind). named_total m orders) of.named ∙ hand-told k orders within is;
       in-roll = λ (is : claimed k ≡ true). ap roll_total_of (written_is kind orders before begin long count after of) ∙ roll-told k orders within is few;
     }

@@ -1,10 +1,12 @@
 -- 02, Q-11: the scales of all terms added up, and the number that they come to, worked out from the orders alone.
-use Rattle.std.specs.Prelude.{ℕ, zero, suc, ◌+◌, ◌*◌, ◌-◌, Bool, true, false, cond, List}
+use Rattle.std.specs.Prelude.{ℕ, zero, suc, ◌+◌, ◌*◌, ◌-◌, Bool, true, false, cond, List, Option, Some, None, Result, Ok, Err}
 use Rattle.laws.specs.Total.{total}
 use Rattle.kind.specs.declared.Kind.{Kind}
 use Rattle.kind.specs.declared.Kind.TheVariants.{Overlap, Kinetic, Nuclear, Moment, Coulomb}
-use Rattle.kind.specs.declared.Named.{Named}
-use Rattle.kind.specs.declared.Named.TheVariants as named
+use Rattle.kind.specs.declared.refusals.Refusal.{Refusal}
+use Rattle.kind.specs.declared.refusals.Refusal.TheVariants.{WrongKind, OrderSum, UnusedOrder}
+use Rattle.kind.specs.declared.refusals.Fault.{Fault}
+use Rattle.kind.specs.Refusals.{refusal_number}
 use Rattle.kind.specs.Kinds.{kind_of}
 use Rattle.term.specs.Terms.{Term}
 use Rattle.steps.specs.declared.CentreName.TheVariants.{A, B}
@@ -12,12 +14,9 @@ use Rattle.steps.specs.declared.Axis.{Axis}
 use Rattle.steps.specs.declared.Axis.TheVariants.{X, Y, Z}
 use Rattle.steps.specs.Choice.{operator, order_of}
 use Rattle.roll.specs.Reading.{Reading, got, refused, Roll, roll_at}
+use Rattle.roll.specs.Field.{fault}
 use Rattle.roll.specs.Before.{scales}
 use Rattle.expansion.specs.Expanding.{too_high, unused_set}
-use Rattle.totals.specs.declared.Total.{Total}
-use Rattle.totals.specs.declared.Total.TheVariants as total
-use Rattle.totals.specs.declared.RollTotal.{RollTotal}
-use Rattle.totals.specs.declared.RollTotal.TheVariants as roll_total
 
 -- "Add the scales of all terms."
 abbrev pub scale_sum : List Term → ℕ
@@ -63,49 +62,52 @@ scale_total k orders = listed k (along X orders) * listed k (along Y orders) * l
 
 -- ---- answers
 
+-- the number, or none where none is claimed of the kind; or a refusal
+abbrev pub Total : Type 0
+Total = Result (Option ℕ) Refusal
+
+-- the sum of a roll's scales, or a refusal with its place
+abbrev pub RollTotal : Type 0
+RollTotal = Result ℕ Fault
+
+-- of a request within the limits
+abbrev pub claimed_total : Kind → List ℕ → Option ℕ
+claimed_total k orders = cond (claimed k) (Some (scale_total k orders)) None
+
 -- of a kind: 2, 3 in this order, as a request's; then the number, where one is claimed
 unfoldable pub kind_total : Kind → List ℕ → Total
 kind_total k orders =
-    cond (too_high k orders) (total.Refused 2)
-    (cond (unused_set k orders) (total.Refused 3)
-    (cond (claimed k) (total.Is (scale_total k orders)) total.NotClaimed))
+    cond (too_high k orders) (Err OrderSum)
+    (cond (unused_set k orders) (Err UnusedOrder)
+    (Ok (claimed_total k orders)))
 
 -- before them 1, for a kind above 4
-abbrev pub named_total : Named → List ℕ → Total
-named_total named.Unknown orders = total.Refused 1
-named_total (named.Is k) orders = kind_total k orders
+abbrev pub named_total : Option Kind → List ℕ → Total
+named_total None orders = Err WrongKind
+named_total (Some k) orders = kind_total k orders
 
 abbrev pub total_of : ℕ → List ℕ → Total
 total_of kind orders = named_total (kind_of kind) orders
 
 -- the sum of a roll that reads; one that does not is refused with its place
 abbrev pub sum_in : Reading Roll → RollTotal
-sum_in (got roll end) = roll_total.Is (scale_sum roll.terms)
-sum_in (refused number place) = roll_total.Refused number place
+sum_in (got roll end) = Ok (scale_sum roll.terms)
+sum_in (refused r place) = Err (fault r place)
 
 unfoldable pub roll_total_of : List ℕ → RollTotal
 roll_total_of s = sum_in (roll_at s)
 
 -- the number and 01's refusal of each answer; 0 is none
 abbrev pub total_in : Total → ℕ
-total_in (total.Is n) = n
-total_in total.NotClaimed = 0
-total_in (total.Refused n) = 0
+total_in (Ok (Some n)) = n
+total_in (Ok None) = 0
+total_in (Err r) = 0
 
 abbrev pub refusal_of : Total → ℕ
-refusal_of (total.Is n) = 0
-refusal_of total.NotClaimed = 0
-refusal_of (total.Refused n) = n
+refusal_of (Ok t) = 0
+refusal_of (Err r) = refusal_number r
 
--- the sum, 01's refusal and its place of each answer of a roll
+-- the sum of each answer of a roll; 01's refusal and its place are `refusal_of` and `place_of` of roll's Header.antt
 abbrev pub scales_in : RollTotal → ℕ
-scales_in (roll_total.Is n) = n
-scales_in (roll_total.Refused n place) = 0
-
-abbrev pub scales_refusal_of : RollTotal → ℕ
-scales_refusal_of (roll_total.Is n) = 0
-scales_refusal_of (roll_total.Refused n place) = n
-
-abbrev pub place_of : RollTotal → ℕ
-place_of (roll_total.Is n) = 0
-place_of (roll_total.Refused n place) = place
+scales_in (Ok n) = n
+scales_in (Err e) = 0

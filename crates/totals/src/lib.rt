@@ -4,39 +4,22 @@
 ghost use Rattle.std.specs.Prelude.{◌≡◌, ◌+◌, ◌<◌, get_or};
 ghost use Rattle.expansion.specs.inner.Requests.{RequestWithin};
 ghost use Rattle.roll.specs.inner.Again.{terms_again};
-ghost use Rattle.totals.specs.Totals.{scale_sum, listed, scale_total, kind_total, total_of, roll_total_of};
-ghost use Rattle.totals.specs.inner.Running.{often_of, running, RunMay, ListedMay, ProductMay, claimed_total};
+ghost use Rattle.totals.specs.Totals.{scale_sum, listed, scale_total, claimed_total, kind_total, total_of, roll_total_of};
+ghost use Rattle.totals.specs.inner.Running.{often_of, running, RunMay, ListedMay, ProductMay};
 
 use expansion::{too_high, unused_set};
-use kind::{Kind, Named};
+use kind::{Fault, Kind, Refusal};
 use number::wide;
-use roll::{Opening, head_at};
-
-// The number, or that none is claimed of the kind, or a refusal.
-#[derive(Clone, Copy)]
-pub enum Total {
-    Is(u64),
-    NotClaimed,
-    Refused(u8),
-}
-
-// The sum of a roll's scales, or a refusal's number and place.
-#[derive(Clone, Copy)]
-pub enum RollTotal {
-    Is(u64),
-    Refused(u8, usize),
-}
+use roll::head_at;
 
 // How often the last number of a kind's list and the one before it count: once, for nuclear twice.
 fn often(kind: Kind) -> u64
     ensures { result ≡ often_of kind }
 {
     match kind {
-        Kind::Overlap => 1,
-        Kind::Kinetic => 0,
+        Kind::Overlap | Kind::Moment => 1,
         Kind::Nuclear => 2,
-        Kind::Moment => 1,
-        Kind::Coulomb => 0,
+        Kind::Kinetic | Kind::Coulomb => 0,
     }
 }
 
@@ -47,10 +30,8 @@ fn run_to(often: u64, p: u64) -> u64
 {
     let mut reached = 1;
     let mut after = often;
-    let mut n = 0;
-    while n < p {
-        n += 1;
-        let next = often * after + often * n * reached;
+    for n in 0..p {
+        let next = often * after + often * (n + 1) * reached;
         reached = after;
         after = next;
     }
@@ -87,41 +68,36 @@ fn product(kind: Kind, orders: [u8; Kind::ORDERS]) -> u64
     x * y * z
 }
 
-// The number of a request within the limits.
-fn total_within(kind: Kind, orders: [u8; Kind::ORDERS]) -> Total
+// The number of a request within the limits, or none where none is claimed of its kind.
+fn total_within(kind: Kind, orders: [u8; Kind::ORDERS]) -> Option<u64>
     requires { RequestWithin kind orders }
     ensures { result ≡ claimed_total kind orders }
 {
     match kind {
-        Kind::Overlap => Total::Is(product(kind, orders)),
-        Kind::Kinetic => Total::NotClaimed,
-        Kind::Nuclear => Total::Is(product(kind, orders)),
-        Kind::Moment => Total::Is(product(kind, orders)),
-        Kind::Coulomb => Total::NotClaimed,
+        Kind::Overlap | Kind::Nuclear | Kind::Moment => Some(product(kind, orders)),
+        Kind::Kinetic | Kind::Coulomb => None,
     }
 }
 
-// The number of a request of a known kind.
-fn kind_total(kind: Kind, orders: [u8; Kind::ORDERS]) -> Total
+// The same of a request of a known kind, whatever its orders.
+fn kind_total(kind: Kind, orders: [u8; Kind::ORDERS]) -> Result<Option<u64>, Refusal>
     ensures { result ≡ kind_total kind orders }
 {
     if too_high(kind, orders) {
-        return Total::Refused(2);
+        return Err(Refusal::OrderSum);
     }
     if unused_set(kind, orders) {
-        return Total::Refused(3);
+        return Err(Refusal::UnusedOrder);
     }
-    total_within(kind, orders)
+    Ok(total_within(kind, orders))
 }
 
-// What the scales of a request's terms come to, with no expansion.
-pub fn scale_total(kind: u8, orders: [u8; Kind::ORDERS]) -> Total
+// What the scales of a request's terms come to, with no expansion; none where no number is claimed of its kind.
+pub fn scale_total(kind: u8, orders: [u8; Kind::ORDERS]) -> Result<Option<u64>, Refusal>
     ensures { result ≡ total_of kind orders }
 {
-    match Kind::of(kind) {
-        Named::Unknown => Total::Refused(1),
-        Named::Is(known) => kind_total(known, orders),
-    }
+    let known = Kind::of(kind).ok_or(Refusal::WrongKind)?;
+    kind_total(known, orders)
 }
 
 // The scales of so many terms of a judged roll, from a place on.
@@ -130,25 +106,19 @@ fn sum_from(roll: &[u8], start: usize, terms: u32) -> u64
 {
     let mut sum: u64 = 0;
     let mut at = start;
-    let mut left = terms;
-    while 0 < left {
+    for done in 0..terms {
         let h = head_at(roll, at);
         sum += h.scale as u64;
         at = h.end;
-        left -= 1;
     }
     sum
 }
 
 // The scales of all terms of a roll, added up (D-92).
-pub fn roll_total(roll: &[u8]) -> RollTotal
+pub fn roll_total(roll: &[u8]) -> Result<u64, Fault>
     ensures { result ≡ roll_total_of roll.now }
 {
-    let opened = roll::check(roll);
-    let found = opened.found;
+    let opened = roll::check(roll)?;
     let cursor = opened.cursor;
-    match found {
-        Opening::Roll => RollTotal::Is(sum_from(roll, cursor.place, cursor.left)),
-        Opening::Refused(number, place) => RollTotal::Refused(number, place),
-    }
+    Ok(sum_from(roll, cursor.place, cursor.left))
 }

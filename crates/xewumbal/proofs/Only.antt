@@ -15,7 +15,7 @@ use Rattle.grouping.specs.Evaluation.{of_roll as grouped_of_roll, buffer_of}
 use Rattle.small.specs.Expand.{small_named}
 use Rattle.exporting.specs.Export.{export_of, export_out}
 use Rattle.importing.specs.Import.{imported_of, imported_out}
-use Rattle.jk.specs.Outcome.{jk_of, refusal_of as jk_refusal}
+use Rattle.jk.specs.Outcome.{jk_of}
 use Rattle.geometry.specs.declared.Centre.{Centre}
 use Rattle.nuclei.specs.declared.Nuclei.{Nuclei}
 use Rattle.contracting.specs.declared.Contracted.{Contracted}
@@ -27,7 +27,7 @@ use Rattle.xewumbal.specs.declared.xew_moved.{xew_moved}
 use Rattle.xewumbal.specs.declared.xew_salvaged.{xew_salvaged}
 use Rattle.xewumbal.specs.declared.xew_pair.{xew_pair}
 use Rattle.xewumbal.specs.declared.xew_value.{xew_value}
-use Rattle.xewumbal.specs.Answers.{host_expanded, host_listed, host_moved, host_salvaged, compare_answer, compare_next_answer, measure_answer, shell2_answer, shell4_answer, open_answer, check_answer, next_answer, open2_answer, check2_answer, next2_answer}
+use Rattle.xewumbal.specs.Answers.{host_refusal, host_expanded, host_listed, host_moved, host_salvaged, compare_answer, compare_next_answer, measure_answer, shell2_answer, shell4_answer, open_answer, check_answer, next_answer, open2_answer, check2_answer, next2_answer}
 use Rattle.xewumbal.specs.declared.xew_text.{xew_text}
 use Rattle.xewumbal.specs.declared.xew_imported.{xew_imported}
 use Rattle.xewumbal.specs.Commas.{host_text, host_imported}
@@ -191,5 +191,5 @@ grouped-term-only κs grouping l terms number = alone (λ r p. p)
 module _ (κs : Lfts 4) (n : ℕ) (i d : Shown Float) (j k : Lent Float) where
   pub jk-only :
       Alone {A = ℕ × List Float × List Float} (λ x. Jk κs (n ▸ i ▸ d ▸ j ▸ k ▸ end) x.0 (n ▸ i ▸ d ▸ j then x.1 ▸ k then x.2 ▸ end))
-      (jk_refusal (jk_of n i.now d.now j.now k.now).answer, (jk_of n i.now d.now j.now k.now).j, (jk_of n i.now d.now j.now k.now).k)
+      (host_refusal (jk_of n i.now d.now j.now k.now).answer, (jk_of n i.now d.now j.now k.now).j, (jk_of n i.now d.now j.now k.now).k)
   jk-only = alone (λ x p t. (p.answer t, p.j t, p.k t))

@@ -1,19 +1,20 @@
--- What each exported function answers, field by field, by what the function below it answers. Refusal 0 is success; the
--- arrays and cursors beside a refusal are the zeros of the answer below (D-76).
-use Rattle.std.specs.Prelude.{ℕ, ◌≡◌, Bool, true, false, List, Float, length}
+-- What each exported function answers, field by field, by what the function below it answers. Refusal 0 is success; beside a
+-- refusal stand zeros (D-76).
+use Rattle.std.specs.Prelude.{ℕ, ◌≡◌, Bool, true, false, List, Float, length, replicate, Option, Some, None, Result, Ok, Err}
+use Rattle.kind.specs.Limits.{request_orders, most_l·any, table_places}
+use Rattle.kind.specs.Refusals.{refusal_number}
+use Rattle.kind.specs.declared.refusals.Refusal.{Refusal}
+use Rattle.kind.specs.declared.refusals.Fault.{Fault}
 use Rattle.kind.specs.Kinds.{kind_of}
 use Rattle.expansion.specs.declared.Expanded.{Expanded}
-use Rattle.expansion.specs.Expanding.{named_told, named_measured, named_out, named_told2, named_out2, length_in as roll_length, count_in, refusal_of as expanded_refusal}
+use Rattle.expansion.specs.Expanding.{named_told, named_measured, named_out, named_told2, named_out2}
 use Rattle.shell.specs.declared.Listed.{Listed}
-use Rattle.shell.specs.declared.Component.{Component}
-use Rattle.shell.specs.Shells.{listed_at, listed_out, length_in, triples_in, listed_refusal_of, shell2_of, shell4_of, refusal_of as sought_refusal}
+use Rattle.shell.specs.Shells.{listed_at, listed_out, shell2_of, shell4_of}
 use Rattle.roll.specs.declared.cursor.Cursor.{Cursor}
-use Rattle.roll.specs.declared.cursor.Found.{Found}
-use Rattle.roll.specs.declared.cursor.Found.TheVariants as found
 use Rattle.roll.specs.declared.cursor.Step.{Step}
 use Rattle.roll.specs.declared.header.Opened.{Opened}
-use Rattle.roll.specs.Header.{open_of, check_of, refusal_of as opened_refusal, place_of as opened_place}
-use Rattle.roll.specs.Cursor.{step_of, refusal_of as found_refusal, place_of as found_place}
+use Rattle.roll.specs.Header.{open_of, check_of}
+use Rattle.roll.specs.Cursor.{no_cursor, step_of}
 use Rattle.roll.specs.Reading.{Reading, Roll, roll_at}
 use Rattle.form2.specs.declared.cursor.Cursor2.{Cursor2}
 use Rattle.form2.specs.declared.cursor.Step2.{Step2}
@@ -23,8 +24,10 @@ use Rattle.form2.specs.Reading.{roll_at2}
 use Rattle.form2.specs.Header.{open2_of, check2_of}
 use Rattle.form2.specs.Cursor.{step2_of}
 use Rattle.term.specs.declared.Term.{Term as Held}
-use Rattle.comparing.specs.declared.differ.Outcome.{Outcome}
-use Rattle.comparing.specs.declared.differ.Outcome.TheVariants as outcome
+use Rattle.term.specs.Terms.{no_term}
+use Rattle.comparing.specs.declared.sides.Side.{Side}
+use Rattle.comparing.specs.declared.sides.Side.TheVariants as side
+use Rattle.comparing.specs.declared.sides.Sided.{Sided}
 use Rattle.comparing.specs.declared.differ.Compared.{Compared}
 use Rattle.comparing.specs.declared.pair.Line.{Line}
 use Rattle.comparing.specs.declared.pair.Line.TheVariants as line
@@ -34,31 +37,22 @@ use Rattle.comparing.specs.Answers.{compared_of}
 use Rattle.comparing.specs.Pairs.{next_of}
 use Rattle.salvaging.specs.declared.After.{After}
 use Rattle.salvaging.specs.declared.After.TheVariants as after
-use Rattle.salvaging.specs.declared.Salvaged.{Salvaged}
-use Rattle.salvaging.specs.declared.Salvaged.TheVariants as salvaged
+use Rattle.salvaging.specs.declared.Told.{Told}
 use Rattle.salvaging.specs.Salvage.{salvaged_of, out_of as salvage_out}
-use Rattle.form2.specs.Moves.{in_form1, in_form2, moved_of, out_of, length_in as moved_length, place_of as moved_place, count_in as moved_count, refusal_of as moved_refusal}
-use Rattle.totals.specs.declared.Total.{Total}
-use Rattle.totals.specs.declared.Total.TheVariants as total
-use Rattle.totals.specs.declared.RollTotal.{RollTotal}
-use Rattle.totals.specs.Totals.{total_of, roll_total_of, total_in, refusal_of as total_refusal, scales_in, scales_refusal_of, place_of as scales_place}
+use Rattle.form2.specs.Moves.{in_form1, in_form2, moved_of, out_of}
+use Rattle.totals.specs.Totals.{total_of, roll_total_of}
 use Rattle.geometry.specs.declared.Centre.{Centre}
-use Rattle.geometry.specs.declared.Table.{Table}
-use Rattle.geometry.specs.Checks.{prefactor_table_of, refusal_of as table_refusal}
-use Rattle.integrals.specs.declared.Value.{Value}
-use Rattle.root.specs.declared.Rooted.{Rooted}
-use Rattle.root.specs.declared.Rooted.TheVariants as root
-use Rattle.root.specs.Root.{rooted_of, refusal_of as root_refusal}
+use Rattle.geometry.specs.Checks.{prefactor_table_of}
+use Rattle.root.specs.Root.{rooted_of}
 use Rattle.geometry.specs.Floats.{zero as 0·0}
 use Rattle.contracting.specs.declared.Contracted.{Contracted}
 use Rattle.contracting.specs.Elements.{contracted_of}
 use Rattle.nuclei.specs.declared.Nuclei.{Nuclei}
 use Rattle.nuclei.specs.Nuclei.{nuclear_of}
-use Rattle.integrals.specs.Evaluation.{evaluate_of, float_of, place_of, refusal_of as value_refusal}
+use Rattle.integrals.specs.Evaluation.{evaluate_of}
 use Rattle.grouping.specs.Evaluation.{of_roll as grouped_of_roll, buffer_of}
 use Rattle.grouping.specs.Restoring.{restored_of}
-use Rattle.grouping.specs.declared.restoring.Restored.{Restored}
-use Rattle.jk.specs.Outcome.{jk_of, refusal_of as jk_refusal}
+use Rattle.jk.specs.Outcome.{Answer, jk_of}
 use Rattle.xewumbal.specs.declared.xew_written.{xew_written}
 use Rattle.xewumbal.specs.declared.xew_value.{xew_value}
 use Rattle.xewumbal.specs.declared.xew_rooted.{xew_rooted}
@@ -90,8 +84,9 @@ cursor2_in c = record { cursor = cursor_in c.cursor; count = c.count; earlier = 
 
 -- ---- xew_expand: the length, the term count and the refusal of the answer
 
-abbrev pub host_expanded : Expanded → xew_written
-host_expanded e = record { length = roll_length e; terms = count_in e; refusal = expanded_refusal e }
+abbrev pub host_expanded : Result Expanded Refusal → xew_written
+host_expanded (Ok e) = record { length = e.length; terms = e.terms; refusal = 0 }
+host_expanded (Err r) = record { length = 0; terms = 0; refusal = refusal_number r }
 
 pub record ExpandCallTold (kind : ℕ) (orders before : List ℕ) (start : ℕ) (r : xew_written) (after : List ℕ) : Type 0 where
   pub answer : r ≡ host_expanded (named_told (kind_of kind) orders before start)
@@ -110,8 +105,9 @@ pub record Expand2CallTold (kind : ℕ) (orders before : List ℕ) (start : ℕ)
 
 -- ---- xew_shell_list: the length, the triples and the refusal
 
-abbrev pub host_listed : Listed → xew_written
-host_listed l = record { length = length_in l; terms = triples_in l; refusal = listed_refusal_of l }
+abbrev pub host_listed : Result Listed Refusal → xew_written
+host_listed (Ok l) = record { length = l.length; terms = l.triples; refusal = 0 }
+host_listed (Err r) = record { length = 0; terms = 0; refusal = refusal_number r }
 
 pub record ListCallTold (order : ℕ) (before : List ℕ) (start : ℕ) (r : xew_written) (after : List ℕ) : Type 0 where
   pub answer : r ≡ host_listed (listed_at order before start)
@@ -119,8 +115,13 @@ pub record ListCallTold (order : ℕ) (before : List ℕ) (start : ℕ) (r : xew
 
 -- ---- xew_shell2 and xew_shell4: the orders and the refusal
 
-abbrev pub host_component : Component → xew_component
-host_component c = record { orders = c.orders; refusal = sought_refusal c.found }
+-- the zeros beside a refusal
+abbrev pub no_orders : List ℕ
+no_orders = replicate request_orders 0
+
+abbrev pub host_component : Result (List ℕ) Refusal → xew_component
+host_component (Ok orders) = record { orders = orders; refusal = 0 }
+host_component (Err r) = record { orders = no_orders; refusal = refusal_number r }
 
 unfoldable pub shell2_answer : ℕ → ℕ → ℕ → xew_component
 shell2_answer a b number = host_component (shell2_of a b number)
@@ -133,8 +134,12 @@ shell4_answer a b c d number = host_component (shell4_of a b c d number)
 abbrev pub host_cursor : Cursor → xew_cursor
 host_cursor c = record { place = c.place; left = c.left; kind = c.kind; l = c.l }
 
-abbrev pub host_opened : Opened → xew_opened
-host_opened o = record { cursor = host_cursor o.cursor; place = opened_place o.found; orders = o.orders; refusal = opened_refusal o.found }
+abbrev pub unopened : ℕ → ℕ → xew_opened
+unopened place number = record { cursor = host_cursor no_cursor; place = place; orders = no_orders; refusal = number }
+
+abbrev pub host_opened : Result Opened Fault → xew_opened
+host_opened (Ok o) = record { cursor = host_cursor o.cursor; place = 0; orders = o.orders; refusal = 0 }
+host_opened (Err f) = unopened f.place (refusal_number f.refusal)
 
 unfoldable pub open_answer : List ℕ → xew_opened
 open_answer roll = host_opened (open_of roll)
@@ -144,18 +149,18 @@ check_answer roll = host_opened (check_of roll)
 
 -- ---- xew_next: the term, the cursor one term further on, and a refusal with its place
 
+abbrev pub found_step : Held → Cursor → ℕ → ℕ → ℕ → xew_step
+found_step t next code place number =
+    record { next = host_cursor next; place = place; scale = t.scale; boys = t.boys; count = t.count; prefactors = t.prefactors; found = code; refusal = number }
+
+abbrev pub no_step : ℕ → ℕ → ℕ → xew_step
+no_step code place number = found_step no_term no_cursor code place number
+
 -- 0 refused, 1 term, 2 end (D-78)
-abbrev pub found_code : Found → ℕ
-found_code found.Term = 1
-found_code found.End = 2
-found_code (found.Refused n place) = 0
-
-abbrev pub found_step : Step → ℕ → ℕ → ℕ → xew_step
-found_step s code place number =
-    record { next = host_cursor s.next; place = place; scale = s.term.scale; boys = s.term.boys; count = s.term.count; prefactors = s.term.prefactors; found = code; refusal = number }
-
-abbrev pub host_step : Step → xew_step
-host_step s = found_step s (found_code s.found) (found_place s.found) (found_refusal s.found)
+abbrev pub host_step : Result (Option Step) Fault → xew_step
+host_step (Ok (Some s)) = found_step s.term s.next 1 0 0
+host_step (Ok None) = no_step 2 0 0
+host_step (Err f) = no_step 0 f.place (refusal_number f.refusal)
 
 unfoldable pub next_answer : xew_cursor → List ℕ → xew_step
 next_answer c roll = host_step (step_of (cursor_in c) roll)
@@ -165,8 +170,16 @@ next_answer c roll = host_step (step_of (cursor_in c) roll)
 abbrev pub host_cursor2 : Cursor2 → xew_cursor2
 host_cursor2 c = record { cursor = host_cursor c.cursor; count = c.count; earlier = c.earlier }
 
-abbrev pub host_opened2 : Opened2 → xew_opened2
-host_opened2 o = record { cursor = host_cursor2 o.cursor; place = opened_place o.found; orders = o.orders; refusal = opened_refusal o.found }
+-- the zeros beside a refusal
+abbrev pub no_host_cursor2 : xew_cursor2
+no_host_cursor2 = record { cursor = host_cursor no_cursor; count = 0; earlier = replicate most_l·any 0 }
+
+abbrev pub unopened2 : ℕ → ℕ → xew_opened2
+unopened2 place number = record { cursor = no_host_cursor2; place = place; orders = no_orders; refusal = number }
+
+abbrev pub host_opened2 : Result Opened2 Fault → xew_opened2
+host_opened2 (Ok o) = record { cursor = host_cursor2 o.cursor; place = 0; orders = o.orders; refusal = 0 }
+host_opened2 (Err f) = unopened2 f.place (refusal_number f.refusal)
 
 unfoldable pub open2_answer : List ℕ → xew_opened2
 open2_answer roll = host_opened2 (open2_of roll)
@@ -176,20 +189,26 @@ check2_answer roll = host_opened2 (check2_of roll)
 
 -- ---- xew_next2: the term with all its prefactors, the cursor one term further on, and a refusal with its place
 
-abbrev pub found_step2 : Step2 → ℕ → ℕ → ℕ → xew_step2
-found_step2 s code place number =
-    record { next = host_cursor2 s.next; place = place; scale = s.term.scale; boys = s.term.boys; count = s.term.count; prefactors = s.term.prefactors; found = code; refusal = number }
+abbrev pub found_step2 : Held → xew_cursor2 → ℕ → ℕ → ℕ → xew_step2
+found_step2 t next code place number =
+    record { next = next; place = place; scale = t.scale; boys = t.boys; count = t.count; prefactors = t.prefactors; found = code; refusal = number }
 
-abbrev pub host_step2 : Step2 → xew_step2
-host_step2 s = found_step2 s (found_code s.found) (found_place s.found) (found_refusal s.found)
+abbrev pub no_step2 : ℕ → ℕ → ℕ → xew_step2
+no_step2 code place number = found_step2 no_term no_host_cursor2 code place number
+
+abbrev pub host_step2 : Result (Option Step2) Fault → xew_step2
+host_step2 (Ok (Some s)) = found_step2 s.term (host_cursor2 s.next) 1 0 0
+host_step2 (Ok None) = no_step2 2 0 0
+host_step2 (Err f) = no_step2 0 f.place (refusal_number f.refusal)
 
 unfoldable pub next2_answer : xew_cursor2 → List ℕ → xew_step2
 next2_answer c roll = host_step2 (step2_of (cursor2_in c) roll)
 
 -- ---- xew_to_form2 and xew_to_form1: the length, the term count, and a refusal with its place
 
-abbrev pub host_moved : Moved → xew_moved
-host_moved m = record { length = moved_length m; place = moved_place m; terms = moved_count m; refusal = moved_refusal m }
+abbrev pub host_moved : Result Moved Fault → xew_moved
+host_moved (Ok m) = record { length = m.length; place = 0; terms = m.terms; refusal = 0 }
+host_moved (Err f) = record { length = 0; place = f.place; terms = 0; refusal = refusal_number f.refusal }
 
 pub record MoveCallTold (form : Roll → List ℕ) (reading : Reading Roll) (before : List ℕ) (start : ℕ) (r : xew_moved) (after : List ℕ) : Type 0 where
   pub answer : r ≡ host_moved (moved_of form reading before start)
@@ -215,10 +234,10 @@ after_code after.Unknown = 0
 after_code after.None = 1
 after_code after.Bytes = 2
 
-abbrev pub host_salvaged : Salvaged → xew_salvaged
-host_salvaged (salvaged.Roll t) =
+abbrev pub host_salvaged : Result Told Fault → xew_salvaged
+host_salvaged (Ok t) =
     record { length = t.length; place = 0; terms = t.terms; kept = t.kept; anew = t.anew; miscounted = flag_of t.miscounted; after = after_code t.after; refusal = 0 }
-host_salvaged (salvaged.Refused n place) = record { length = 0; place = place; terms = 0; kept = 0; anew = 0; miscounted = 0; after = 0; refusal = n }
+host_salvaged (Err f) = record { length = 0; place = f.place; terms = 0; kept = 0; anew = 0; miscounted = 0; after = 0; refusal = refusal_number f.refusal }
 
 pub record SalvageCallTold (roll before : List ℕ) (start : ℕ) (r : xew_salvaged) (now : List ℕ) : Type 0 where
   pub answer : r ≡ host_salvaged (salvaged_of roll before start)
@@ -232,29 +251,45 @@ host_pair p = record { left = host_cursor2 p.left; right = host_cursor2 p.right;
 abbrev pub pair_in : xew_pair → Pair
 pair_in p = record { left = cursor2_in p.left; right = cursor2_in p.right; number = p.number }
 
-abbrev pub compared_by : Compared → ℕ → ℕ → ℕ → xew_compared
-compared_by c side place number =
+-- the zeros beside a refusal
+abbrev pub no_host_pair : xew_pair
+no_host_pair = record { left = no_host_cursor2; right = no_host_cursor2; number = 0 }
+
+-- the side is 1 for the left roll, 2 for the right one (D-103)
+abbrev pub side_number : Side → ℕ
+side_number side.Left = 1
+side_number side.Right = 2
+
+abbrev pub refused_sides : Sided → xew_compared
+refused_sides s =
+    record {
+      cursor = no_host_pair;
+      place = s.fault.place;
+      differ = 0;
+      left = no_orders;
+      right = no_orders;
+      kinds = 0;
+      orders = 0;
+      terms = 0;
+      side = side_number s.side;
+      refusal = refusal_number s.fault.refusal;
+    }
+
+abbrev pub host_compared : Result Compared Sided → xew_compared
+host_compared (Ok c) =
     record {
       cursor = host_pair c.cursor;
-      place = place;
+      place = 0;
       differ = c.differ;
       left = c.left;
       right = c.right;
       kinds = flag_of c.kinds;
       orders = flag_of c.orders;
       terms = flag_of c.terms;
-      side = side;
-      refusal = number;
+      side = 0;
+      refusal = 0;
     }
-
--- the side is 1 for the left roll, 2 for the right one (D-103)
-abbrev pub compared_with : Outcome → Compared → xew_compared
-compared_with outcome.Rolls c = compared_by c 0 0 0
-compared_with (outcome.RefusedLeft n place) c = compared_by c 1 place n
-compared_with (outcome.RefusedRight n place) c = compared_by c 2 place n
-
-abbrev pub host_compared : Compared → xew_compared
-host_compared c = compared_with c.found c
+host_compared (Err s) = refused_sides s
 
 unfoldable pub compare_answer : List ℕ → List ℕ → xew_compared
 compare_answer left right = host_compared (compared_of left right)
@@ -264,70 +299,74 @@ compare_answer left right = host_compared (compared_of left right)
 abbrev pub host_term : Held → xew_term
 host_term t = record { scale = t.scale; boys = t.boys; count = t.count; prefactors = t.prefactors }
 
-abbrev pub met_by : Met → ℕ → ℕ → ℕ → ℕ → xew_met
-met_by m code side place number = record { next = host_pair m.next; place = place; number = m.number; left = host_term m.left; right = host_term m.right; found = code; side = side; refusal = number }
+abbrev pub met_at : ℕ → Pair → Held → Held → ℕ → xew_met
+met_at number next left right code =
+    record { next = host_pair next; place = 0; number = number; left = host_term left; right = host_term right; found = code; side = 0; refusal = 0 }
+
+abbrev pub not_met : ℕ → ℕ → ℕ → ℕ → xew_met
+not_met code side place number =
+    record { next = no_host_pair; place = place; number = 0; left = host_term no_term; right = host_term no_term; found = code; side = side; refusal = number }
+
+abbrev pub met_as : ℕ → Pair → Line → xew_met
+met_as number next (line.Both left right) = met_at number next left right 1
+met_as number next (line.Left left) = met_at number next left no_term 2
+met_as number next (line.Right right) = met_at number next no_term right 3
+
+abbrev pub met_line : Met → xew_met
+met_line m = met_as m.number m.next m.line
 
 -- 0 refused, 1 both terms differ, 2 a term of the left roll alone, 3 of the right one, 4 the end
-abbrev pub met_with : Line → Met → xew_met
-met_with (line.RefusedLeft n place) m = met_by m 0 1 place n
-met_with (line.RefusedRight n place) m = met_by m 0 2 place n
-met_with line.Both m = met_by m 1 0 0 0
-met_with line.Left m = met_by m 2 0 0 0
-met_with line.Right m = met_by m 3 0 0 0
-met_with line.End m = met_by m 4 0 0 0
-
-abbrev pub host_met : Met → xew_met
-host_met m = met_with m.found m
+abbrev pub host_met : Result (Option Met) Sided → xew_met
+host_met (Ok (Some m)) = met_line m
+host_met (Ok None) = not_met 4 0 0 0
+host_met (Err s) = not_met 0 (side_number s.side) s.fault.place (refusal_number s.fault.refusal)
 
 unfoldable pub compare_next_answer : xew_pair → List ℕ → List ℕ → xew_met
 compare_next_answer p left right = host_met (next_of (pair_in p) left right)
 
 -- ---- xew_scale_total: the number, whether one is claimed, and the refusal
 
--- 1 beside a number, else 0 (D-90)
-abbrev pub claimed_code : Total → ℕ
-claimed_code (total.Is n) = 1
-claimed_code total.NotClaimed = 0
-claimed_code (total.Refused n) = 0
-
-abbrev pub host_total : Total → xew_total
-host_total t = record { total = total_in t; claimed = claimed_code t; refusal = total_refusal t }
+-- claimed is 1 beside a number, else 0 (D-90)
+abbrev pub host_total : Result (Option ℕ) Refusal → xew_total
+host_total (Ok (Some n)) = record { total = n; claimed = 1; refusal = 0 }
+host_total (Ok None) = record { total = 0; claimed = 0; refusal = 0 }
+host_total (Err r) = record { total = 0; claimed = 0; refusal = refusal_number r }
 
 unfoldable pub scale_total_answer : ℕ → List ℕ → xew_total
 scale_total_answer kind orders = host_total (total_of kind orders)
 
 -- ---- xew_roll_total: the sum of a roll's scales, and a refusal with its place
 
-abbrev pub host_scales : RollTotal → xew_scales
-host_scales t = record { total = scales_in t; place = scales_place t; refusal = scales_refusal_of t }
+abbrev pub host_scales : Result ℕ Fault → xew_scales
+host_scales (Ok n) = record { total = n; place = 0; refusal = 0 }
+host_scales (Err f) = record { total = 0; place = f.place; refusal = refusal_number f.refusal }
 
 unfoldable pub roll_total_answer : List ℕ → xew_scales
 roll_total_answer roll = host_scales (roll_total_of roll)
 
 -- ---- xew_prefactors: the table and the refusal
 
-abbrev pub host_table : Table → xew_table
-host_table t = record { entries = t.entries; refusal = table_refusal t.found }
+abbrev pub host_table : Result (List Float) Refusal → xew_table
+host_table (Ok entries) = record { entries = entries; refusal = 0 }
+host_table (Err r) = record { entries = replicate table_places 0·0; refusal = refusal_number r }
 
 unfoldable pub prefactors_answer : ℕ → Centre → Centre → Centre → Centre → xew_table
 prefactors_answer kind a b c d = host_table (prefactor_table_of kind a b c d)
 
 -- ---- xew_root: the root and the refusal
 
-abbrev pub root_in : Rooted → Float
-root_in (root.Is x) = x
-root_in (root.Refused n) = 0·0
-
-abbrev pub host_rooted : Rooted → xew_rooted
-host_rooted r = record { root = root_in r; refusal = root_refusal r }
+abbrev pub host_rooted : Result Float Refusal → xew_rooted
+host_rooted (Ok x) = record { root = x; refusal = 0 }
+host_rooted (Err r) = record { root = 0·0; refusal = refusal_number r }
 
 unfoldable pub root_answer : Float → xew_rooted
 root_answer x = host_rooted (rooted_of x)
 
 -- ---- xew_evaluate: the integral, and a refusal with its place
 
-abbrev pub host_value : Value → xew_value
-host_value v = record { value = float_of v; place = place_of v; refusal = value_refusal v }
+abbrev pub host_value : Result Float Fault → xew_value
+host_value (Ok x) = record { value = x; place = 0; refusal = 0 }
+host_value (Err f) = record { value = 0·0; place = f.place; refusal = refusal_number f.refusal }
 
 unfoldable pub evaluate_answer : List ℕ → Centre → Centre → Centre → Centre → Float → List Float → xew_value
 evaluate_answer roll a b c d aux boys = host_value (evaluate_of roll a b c d aux boys)
@@ -350,15 +389,23 @@ pub record GroupedCallTold (roll : List ℕ) (a b c d : Centre) (aux : Float) (b
 
 -- ---- xew_grouped_term: the term with a number, and a refusal with its place
 
-abbrev pub host_restored : Restored → xew_restored
-host_restored r = record { place = r.place; scale = r.term.scale; boys = r.term.boys; count = r.term.count; prefactors = r.term.prefactors; refusal = r.refusal }
+abbrev pub restored_term : Held → ℕ → ℕ → xew_restored
+restored_term t place number = record { place = place; scale = t.scale; boys = t.boys; count = t.count; prefactors = t.prefactors; refusal = number }
+
+abbrev pub host_restored : Result Held Fault → xew_restored
+host_restored (Ok t) = restored_term t 0 0
+host_restored (Err f) = restored_term no_term f.place (refusal_number f.refusal)
 
 unfoldable pub grouped_term_answer : List ℕ → ℕ → ℕ → ℕ → xew_restored
 grouped_term_answer grouping l terms number = host_restored (restored_of grouping l terms number)
 
 -- ---- xew_jk: the refusal alone
 
+abbrev pub host_refusal : Answer → ℕ
+host_refusal (Ok u) = 0
+host_refusal (Err r) = refusal_number r
+
 pub record JkCallTold (n : ℕ) (i d before_j before_k : List Float) (r : ℕ) (after_j after_k : List Float) : Type 0 where
-  pub answer : r ≡ jk_refusal (jk_of n i d before_j before_k).answer
+  pub answer : r ≡ host_refusal (jk_of n i d before_j before_k).answer
   pub j : after_j ≡ (jk_of n i d before_j before_k).j
   pub k : after_k ≡ (jk_of n i d before_j before_k).k

@@ -1,28 +1,22 @@
-// The structs of the exported functions from those of the crates below, and back.
+// The structs of the exported functions from the answers of the crates below, and back. Zeros stand beside a refusal (D-36).
 ghost use Rattle.std.specs.Prelude.{◌≡◌};
-ghost use Rattle.jk.specs.Outcome.{refusal_of};
-ghost use Rattle.xewumbal.specs.Answers.{cursor_in, cursor2_in, host_expanded, host_listed, host_component, host_cursor, host_opened, found_step, host_step};
-ghost use Rattle.xewumbal.specs.Answers.{host_cursor2, host_opened2, found_step2, host_step2, host_moved, after_code, host_salvaged, host_total, host_scales, host_table, host_value, host_rooted, host_restored};
-ghost use Rattle.xewumbal.specs.Answers.{pair_in, host_pair, host_term, flag_of, compared_by, host_compared, met_by, host_met};
+ghost use Rattle.xewumbal.specs.Answers.{host_refusal, cursor_in, cursor2_in, host_expanded, host_listed, no_orders, host_component, host_cursor, unopened, host_opened, found_step, no_step, host_step};
+ghost use Rattle.xewumbal.specs.Answers.{host_cursor2, no_host_cursor2, unopened2, host_opened2, found_step2, no_step2, host_step2, host_moved, after_code, host_salvaged, host_total, host_scales, host_table, host_value, host_rooted, restored_term, host_restored};
+ghost use Rattle.xewumbal.specs.Answers.{pair_in, host_pair, no_host_pair, host_term, flag_of, side_number, refused_sides, host_compared, met_at, not_met, met_line, host_met};
 
 use crate::{
     xew_compared, xew_component, xew_cursor, xew_cursor2, xew_met, xew_moved, xew_opened,
     xew_opened2, xew_pair, xew_restored, xew_rooted, xew_salvaged, xew_scales, xew_step, xew_step2,
     xew_table, xew_term, xew_total, xew_value, xew_written,
 };
-use comparing::{Compared, Line, Met, Outcome, Pair};
+use comparing::{Compared, Line, Met, Pair, Side, Sided};
 use expansion::Expanded;
 use form2::{Cursor2, Moved, Opened2, Step2};
-use geometry::Table;
-use grouping::Restored;
-use integrals::Value;
-use jk::Answer;
-use roll::{Cursor, Opened, Opening, Step};
-use root::Rooted;
-use salvaging::{After, Salvaged, Told};
-use shell::{Component, Listed};
+use kind::{Fault, Kind, Refusal};
+use roll::{Cursor, Opened, Step, no_cursor};
+use salvaging::{After, Told};
+use shell::Listed;
 use term::Term;
-use totals::{RollTotal, Total};
 
 pub(crate) fn cursor_in(c: xew_cursor) -> Cursor
     ensures { result ≡ cursor_in c }
@@ -68,95 +62,113 @@ fn cursor2(at: Cursor2) -> xew_cursor2
     }
 }
 
-pub(crate) fn expanded(answer: Expanded) -> xew_written
+pub(crate) fn expanded(answer: Result<Expanded, Refusal>) -> xew_written
     ensures { result ≡ host_expanded answer }
 {
     match answer {
-        Expanded::Roll(length, terms) => xew_written {
-            length,
-            terms,
+        Ok(roll) => xew_written {
+            length: roll.length,
+            terms: roll.terms,
             refusal: 0,
         },
-        Expanded::Refused(refusal) => xew_written {
+        Err(refusal) => xew_written {
             length: 0,
             terms: 0,
-            refusal,
+            refusal: u8::from(refusal),
         },
     }
 }
 
-pub(crate) fn listed(answer: Listed) -> xew_written
+pub(crate) fn listed(answer: Result<Listed, Refusal>) -> xew_written
     ensures { result ≡ host_listed answer }
 {
     match answer {
-        Listed::Bytes(length, terms) => xew_written {
-            length,
-            terms,
+        Ok(list) => xew_written {
+            length: list.length,
+            terms: list.triples,
             refusal: 0,
         },
-        Listed::Refused(refusal) => xew_written {
+        Err(refusal) => xew_written {
             length: 0,
             terms: 0,
-            refusal,
+            refusal: u8::from(refusal),
         },
     }
 }
 
-pub(crate) fn component(c: Component) -> xew_component
-    ensures { result ≡ host_component c }
+// The zeros beside a refusal.
+fn no_orders() -> [u8; Kind::ORDERS]
+    ensures { result ≡ no_orders }
 {
-    let found = c.found;
-    let orders = c.orders;
-    match found {
-        shell::Sought::Component => xew_component { orders, refusal: 0 },
-        shell::Sought::Refused(refusal) => xew_component { orders, refusal },
+    [0; Kind::ORDERS]
+}
+
+pub(crate) fn component(answer: Result<[u8; Kind::ORDERS], Refusal>) -> xew_component
+    ensures { result ≡ host_component answer }
+{
+    match answer {
+        Ok(orders) => xew_component { orders, refusal: 0 },
+        Err(refusal) => {
+            let orders = no_orders();
+            xew_component {
+                orders,
+                refusal: u8::from(refusal),
+            }
+        }
     }
 }
 
-pub(crate) fn table(t: Table) -> xew_table
-    ensures { result ≡ host_table t }
+pub(crate) fn table(answer: Result<[f64; Kind::TABLE], Refusal>) -> xew_table
+    ensures { result ≡ host_table answer }
 {
-    let found = t.found;
-    let entries = t.entries;
-    match found {
-        geometry::Tabled::Given => xew_table {
+    match answer {
+        Ok(entries) => xew_table {
             entries,
             refusal: 0,
         },
-        geometry::Tabled::Refused(refusal) => xew_table { entries, refusal },
-    }
-}
-
-pub(crate) fn opened(o: Opened) -> xew_opened
-    ensures { result ≡ host_opened o }
-{
-    let found = o.found;
-    let orders = o.orders;
-    let cursor = cursor(o.cursor);
-    match found {
-        Opening::Roll => xew_opened {
-            cursor,
-            place: 0,
-            orders,
-            refusal: 0,
-        },
-        Opening::Refused(refusal, place) => xew_opened {
-            cursor,
-            place,
-            orders,
-            refusal,
+        Err(refusal) => xew_table {
+            entries: [0.0; Kind::TABLE],
+            refusal: u8::from(refusal),
         },
     }
 }
 
-// A step's answer, whatever was found.
-fn found_step(s: Step, found: u8, place: usize, refusal: u8) -> xew_step
-    ensures { result ≡ found_step s found place refusal }
+fn unopened(place: usize, refusal: u8) -> xew_opened
+    ensures { result ≡ unopened place refusal }
 {
-    let term = s.term;
+    let orders = no_orders();
+    xew_opened {
+        cursor: cursor(no_cursor()),
+        place,
+        orders,
+        refusal,
+    }
+}
+
+pub(crate) fn opened(answer: Result<Opened, Fault>) -> xew_opened
+    ensures { result ≡ host_opened answer }
+{
+    match answer {
+        Ok(o) => {
+            let orders = o.orders;
+            xew_opened {
+                cursor: cursor(o.cursor),
+                place: 0,
+                orders,
+                refusal: 0,
+            }
+        }
+        Err(fault) => unopened(fault.place, u8::from(fault.refusal)),
+    }
+}
+
+// A term and a cursor, with what was found.
+fn found_step(term: Term, next: Cursor, found: u8, place: usize, refusal: u8) -> xew_step
+    ensures { result ≡ found_step term next found place refusal }
+{
     let prefactors = term.prefactors;
     xew_step {
-        next: cursor(s.next),
+        next: cursor(next),
         place,
         scale: term.scale,
         boys: term.boys,
@@ -167,62 +179,93 @@ fn found_step(s: Step, found: u8, place: usize, refusal: u8) -> xew_step
     }
 }
 
-pub(crate) fn step(s: Step) -> xew_step
-    ensures { result ≡ host_step s }
+// Zeros, with what was found.
+fn no_step(found: u8, place: usize, refusal: u8) -> xew_step
+    ensures { result ≡ no_step found place refusal }
 {
-    let found = s.found;
-    match found {
-        roll::Found::Refused(refusal, place) => found_step(s, 0, place, refusal),
-        roll::Found::Term => found_step(s, 1, 0, 0),
-        roll::Found::End => found_step(s, 2, 0, 0),
+    found_step(Term::none(), no_cursor(), found, place, refusal)
+}
+
+pub(crate) fn step(answer: Result<Option<Step>, Fault>) -> xew_step
+    ensures { result ≡ host_step answer }
+{
+    match answer {
+        Ok(Some(s)) => found_step(s.term, s.next, 1, 0, 0),
+        Ok(None) => no_step(2, 0, 0),
+        Err(fault) => no_step(0, fault.place, u8::from(fault.refusal)),
     }
 }
 
-pub(crate) fn restored(r: Restored) -> xew_restored
-    ensures { result ≡ host_restored r }
+fn restored_term(term: Term, place: usize, refusal: u8) -> xew_restored
+    ensures { result ≡ restored_term term place refusal }
 {
-    let term = r.term;
     let prefactors = term.prefactors;
     xew_restored {
-        place: r.place,
+        place,
         scale: term.scale,
         boys: term.boys,
         count: term.count,
         prefactors,
-        refusal: r.refusal,
+        refusal,
     }
 }
 
-pub(crate) fn opened2(opened: Opened2) -> xew_opened2
-    ensures { result ≡ host_opened2 opened }
+pub(crate) fn restored(answer: Result<Term, Fault>) -> xew_restored
+    ensures { result ≡ host_restored answer }
 {
-    let found = opened.found;
-    let orders = opened.orders;
-    let cursor = cursor2(opened.cursor);
-    match found {
-        Opening::Roll => xew_opened2 {
-            cursor,
-            place: 0,
-            orders,
-            refusal: 0,
-        },
-        Opening::Refused(refusal, place) => xew_opened2 {
-            cursor,
-            place,
-            orders,
-            refusal,
-        },
+    match answer {
+        Ok(term) => restored_term(term, 0, 0),
+        Err(fault) => restored_term(Term::none(), fault.place, u8::from(fault.refusal)),
     }
 }
 
-// A step's answer in form 2, whatever was found.
-fn found_step2(s: Step2, found: u8, place: usize, refusal: u8) -> xew_step2
-    ensures { result ≡ found_step2 s found place refusal }
+// The zeros beside a refusal in form 2.
+fn no_cursor2() -> xew_cursor2
+    ensures { result ≡ no_host_cursor2 }
 {
-    let term = s.term;
+    xew_cursor2 {
+        cursor: cursor(no_cursor()),
+        count: 0,
+        earlier: [0; Kind::PREFACTORS],
+    }
+}
+
+fn unopened2(place: usize, refusal: u8) -> xew_opened2
+    ensures { result ≡ unopened2 place refusal }
+{
+    let orders = no_orders();
+    xew_opened2 {
+        cursor: no_cursor2(),
+        place,
+        orders,
+        refusal,
+    }
+}
+
+pub(crate) fn opened2(answer: Result<Opened2, Fault>) -> xew_opened2
+    ensures { result ≡ host_opened2 answer }
+{
+    match answer {
+        Ok(roll) => {
+            let orders = roll.orders;
+            xew_opened2 {
+                cursor: cursor2(roll.cursor),
+                place: 0,
+                orders,
+                refusal: 0,
+            }
+        }
+        Err(fault) => unopened2(fault.place, u8::from(fault.refusal)),
+    }
+}
+
+// A term and a cursor of form 2, with what was found.
+fn found_step2(term: Term, next: xew_cursor2, found: u8, place: usize, refusal: u8) -> xew_step2
+    ensures { result ≡ found_step2 term next found place refusal }
+{
     let prefactors = term.prefactors;
     xew_step2 {
-        next: cursor2(s.next),
+        next,
         place,
         scale: term.scale,
         boys: term.boys,
@@ -233,32 +276,38 @@ fn found_step2(s: Step2, found: u8, place: usize, refusal: u8) -> xew_step2
     }
 }
 
-pub(crate) fn step2(s: Step2) -> xew_step2
-    ensures { result ≡ host_step2 s }
+// Zeros, with what was found.
+fn no_step2(found: u8, place: usize, refusal: u8) -> xew_step2
+    ensures { result ≡ no_step2 found place refusal }
 {
-    let found = s.found;
-    match found {
-        roll::Found::Refused(refusal, place) => found_step2(s, 0, place, refusal),
-        roll::Found::Term => found_step2(s, 1, 0, 0),
-        roll::Found::End => found_step2(s, 2, 0, 0),
+    found_step2(Term::none(), no_cursor2(), found, place, refusal)
+}
+
+pub(crate) fn step2(answer: Result<Option<Step2>, Fault>) -> xew_step2
+    ensures { result ≡ host_step2 answer }
+{
+    match answer {
+        Ok(Some(s)) => found_step2(s.term, cursor2(s.next), 1, 0, 0),
+        Ok(None) => no_step2(2, 0, 0),
+        Err(fault) => no_step2(0, fault.place, u8::from(fault.refusal)),
     }
 }
 
-pub(crate) fn moved(answer: Moved) -> xew_moved
+pub(crate) fn moved(answer: Result<Moved, Fault>) -> xew_moved
     ensures { result ≡ host_moved answer }
 {
     match answer {
-        Moved::Roll(length, terms) => xew_moved {
-            length,
+        Ok(roll) => xew_moved {
+            length: roll.length,
             place: 0,
-            terms,
+            terms: roll.terms,
             refusal: 0,
         },
-        Moved::Refused(refusal, place) => xew_moved {
+        Err(fault) => xew_moved {
             length: 0,
-            place,
+            place: fault.place,
             terms: 0,
-            refusal,
+            refusal: u8::from(fault.refusal),
         },
     }
 }
@@ -273,36 +322,32 @@ fn after_code(after: After) -> u8
     }
 }
 
-fn salvaged_roll(told: Told) -> xew_salvaged
-    ensures { result ≡ host_salvaged (Salvaged.Roll told) }
-{
-    let after = told.after;
-    xew_salvaged {
-        length: told.length,
-        place: 0,
-        terms: told.terms,
-        kept: told.kept,
-        anew: told.anew,
-        miscounted: flag(told.miscounted),
-        after: after_code(after),
-        refusal: 0,
-    }
-}
-
-pub(crate) fn salvaged(answer: Salvaged) -> xew_salvaged
+pub(crate) fn salvaged(answer: Result<Told, Fault>) -> xew_salvaged
     ensures { result ≡ host_salvaged answer }
 {
     match answer {
-        Salvaged::Roll(told) => salvaged_roll(told),
-        Salvaged::Refused(refusal, place) => xew_salvaged {
+        Ok(told) => {
+            let after = told.after;
+            xew_salvaged {
+                length: told.length,
+                place: 0,
+                terms: told.terms,
+                kept: told.kept,
+                anew: told.anew,
+                miscounted: flag(told.miscounted),
+                after: after_code(after),
+                refusal: 0,
+            }
+        }
+        Err(fault) => xew_salvaged {
             length: 0,
-            place,
+            place: fault.place,
             terms: 0,
             kept: 0,
             anew: 0,
             miscounted: 0,
             after: 0,
-            refusal,
+            refusal: u8::from(fault.refusal),
         },
     }
 }
@@ -342,141 +387,204 @@ fn term(t: Term) -> xew_term
 fn flag(b: bool) -> u8
     ensures { result ≡ flag_of b }
 {
-    if b {
-        return 1;
-    }
-    0
+    u8::from(b)
 }
 
-fn compared_by(c: Compared, side: u8, place: usize, refusal: u8) -> xew_compared
-    ensures { result ≡ compared_by c side place refusal }
+// The zeros beside a refusal.
+fn no_pair() -> xew_pair
+    ensures { result ≡ no_host_pair }
 {
-    let left = c.left;
-    let right = c.right;
+    xew_pair {
+        left: no_cursor2(),
+        right: no_cursor2(),
+        number: 0,
+    }
+}
+
+fn side_number(side: Side) -> u8
+    ensures { result ≡ side_number side }
+{
+    match side {
+        Side::Left => 1,
+        Side::Right => 2,
+    }
+}
+
+fn refused_sides(sided: Sided) -> xew_compared
+    ensures { result ≡ refused_sides sided }
+{
+    let left = no_orders();
+    let right = no_orders();
     xew_compared {
-        cursor: pair(c.cursor),
-        place,
-        differ: c.differ,
+        cursor: no_pair(),
+        place: sided.fault.place,
+        differ: 0,
         left,
         right,
-        kinds: flag(c.kinds),
-        orders: flag(c.orders),
-        terms: flag(c.terms),
-        side,
-        refusal,
+        kinds: 0,
+        orders: 0,
+        terms: 0,
+        side: side_number(sided.side),
+        refusal: u8::from(sided.fault.refusal),
     }
 }
 
-pub(crate) fn compared(c: Compared) -> xew_compared
-    ensures { result ≡ host_compared c }
+pub(crate) fn compared(answer: Result<Compared, Sided>) -> xew_compared
+    ensures { result ≡ host_compared answer }
 {
-    let found = c.found;
-    match found {
-        Outcome::Rolls => compared_by(c, 0, 0, 0),
-        Outcome::RefusedLeft(refusal, place) => compared_by(c, 1, place, refusal),
-        Outcome::RefusedRight(refusal, place) => compared_by(c, 2, place, refusal),
+    match answer {
+        Ok(c) => {
+            let left = c.left;
+            let right = c.right;
+            xew_compared {
+                cursor: pair(c.cursor),
+                place: 0,
+                differ: c.differ,
+                left,
+                right,
+                kinds: flag(c.kinds),
+                orders: flag(c.orders),
+                terms: flag(c.terms),
+                side: 0,
+                refusal: 0,
+            }
+        }
+        Err(sided) => refused_sides(sided),
     }
 }
 
-fn met_by(m: Met, found: u8, side: u8, place: usize, refusal: u8) -> xew_met
-    ensures { result ≡ met_by m found side place refusal }
+// A position, with the terms of its sides.
+fn met_at(number: u32, next: Pair, left: Term, right: Term, found: u8) -> xew_met
+    ensures { result ≡ met_at number next left right found }
 {
     xew_met {
-        next: pair(m.next),
+        next: pair(next),
+        place: 0,
+        number,
+        left: term(left),
+        right: term(right),
+        found,
+        side: 0,
+        refusal: 0,
+    }
+}
+
+// No position: both rolls have ended, or one is refused.
+fn not_met(found: u8, side: u8, place: usize, refusal: u8) -> xew_met
+    ensures { result ≡ not_met found side place refusal }
+{
+    xew_met {
+        next: no_pair(),
         place,
-        number: m.number,
-        left: term(m.left),
-        right: term(m.right),
+        number: 0,
+        left: term(Term::none()),
+        right: term(Term::none()),
         found,
         side,
         refusal,
     }
 }
 
-pub(crate) fn met(m: Met) -> xew_met
-    ensures { result ≡ host_met m }
+fn met_line(m: Met) -> xew_met
+    ensures { result ≡ met_line m }
 {
-    let found = m.found;
-    match found {
-        Line::RefusedLeft(refusal, place) => met_by(m, 0, 1, place, refusal),
-        Line::RefusedRight(refusal, place) => met_by(m, 0, 2, place, refusal),
-        Line::Both => met_by(m, 1, 0, 0, 0),
-        Line::Left => met_by(m, 2, 0, 0, 0),
-        Line::Right => met_by(m, 3, 0, 0, 0),
-        Line::End => met_by(m, 4, 0, 0, 0),
+    let number = m.number;
+    let next = m.next;
+    match m.line {
+        Line::Both(left, right) => met_at(number, next, left, right, 1),
+        Line::Left(left) => met_at(number, next, left, Term::none(), 2),
+        Line::Right(right) => met_at(number, next, Term::none(), right, 3),
     }
 }
 
-pub(crate) fn total(answer: Total) -> xew_total
+pub(crate) fn met(answer: Result<Option<Met>, Sided>) -> xew_met
+    ensures { result ≡ host_met answer }
+{
+    match answer {
+        Ok(Some(m)) => met_line(m),
+        Ok(None) => not_met(4, 0, 0, 0),
+        Err(sided) => not_met(
+            0,
+            side_number(sided.side),
+            sided.fault.place,
+            u8::from(sided.fault.refusal),
+        ),
+    }
+}
+
+pub(crate) fn total(answer: Result<Option<u64>, Refusal>) -> xew_total
     ensures { result ≡ host_total answer }
 {
     match answer {
-        Total::Is(total) => xew_total {
+        Ok(Some(total)) => xew_total {
             total,
             claimed: 1,
             refusal: 0,
         },
-        Total::NotClaimed => xew_total {
+        Ok(None) => xew_total {
             total: 0,
             claimed: 0,
             refusal: 0,
         },
-        Total::Refused(refusal) => xew_total {
+        Err(refusal) => xew_total {
             total: 0,
             claimed: 0,
-            refusal,
+            refusal: u8::from(refusal),
         },
     }
 }
 
-pub(crate) fn scales(answer: RollTotal) -> xew_scales
+pub(crate) fn scales(answer: Result<u64, Fault>) -> xew_scales
     ensures { result ≡ host_scales answer }
 {
     match answer {
-        RollTotal::Is(total) => xew_scales {
+        Ok(total) => xew_scales {
             total,
             place: 0,
             refusal: 0,
         },
-        RollTotal::Refused(refusal, place) => xew_scales {
+        Err(fault) => xew_scales {
             total: 0,
-            place,
-            refusal,
+            place: fault.place,
+            refusal: u8::from(fault.refusal),
         },
     }
 }
 
-pub(crate) fn rooted(answer: Rooted) -> xew_rooted
+pub(crate) fn rooted(answer: Result<f64, Refusal>) -> xew_rooted
     ensures { result ≡ host_rooted answer }
 {
     match answer {
-        Rooted::Is(root) => xew_rooted { root, refusal: 0 },
-        Rooted::Refused(refusal) => xew_rooted { root: 0.0, refusal },
+        Ok(root) => xew_rooted { root, refusal: 0 },
+        Err(refusal) => xew_rooted {
+            root: 0.0,
+            refusal: u8::from(refusal),
+        },
     }
 }
 
-pub(crate) fn value(answer: Value) -> xew_value
+pub(crate) fn value(answer: Result<f64, Fault>) -> xew_value
     ensures { result ≡ host_value answer }
 {
     match answer {
-        Value::Is(value) => xew_value {
+        Ok(value) => xew_value {
             value,
             place: 0,
             refusal: 0,
         },
-        Value::Refused(refusal, place) => xew_value {
+        Err(fault) => xew_value {
             value: 0.0,
-            place,
-            refusal,
+            place: fault.place,
+            refusal: u8::from(fault.refusal),
         },
     }
 }
 
-pub(crate) fn matrices(answer: Answer) -> u8
-    ensures { result ≡ refusal_of answer }
+pub(crate) fn matrices(answer: Result<(), Refusal>) -> u8
+    ensures { result ≡ host_refusal answer }
 {
     match answer {
-        Answer::Done => 0,
-        Answer::Refused(refusal) => refusal,
+        Ok(()) => 0,
+        Err(refusal) => u8::from(refusal),
     }
 }

@@ -3,41 +3,41 @@ ghost use Rattle.std.specs.Prelude.{◌≡◌};
 ghost use Rattle.xewumbal.specs.Commas.{host_text, host_imported};
 
 use crate::{xew_imported, xew_text};
-use importing::Imported;
-use listing::Listed;
+use importing::{ImportFault, Imported};
+use kind::Fault;
 
-pub(crate) fn exported(answer: Listed) -> xew_text
+pub(crate) fn exported(answer: Result<usize, Fault>) -> xew_text
     ensures { result ≡ host_text answer }
 {
     match answer {
-        Listed::Text(length) => xew_text {
+        Ok(length) => xew_text {
             length,
             place: 0,
             refusal: 0,
         },
-        Listed::Refused(refusal, place) => xew_text {
+        Err(fault) => xew_text {
             length: 0,
-            place,
-            refusal,
+            place: fault.place,
+            refusal: u8::from(fault.refusal),
         },
     }
 }
 
-pub(crate) fn imported(answer: Imported) -> xew_imported
+pub(crate) fn imported(answer: Result<Imported, ImportFault>) -> xew_imported
     ensures { result ≡ host_imported answer }
 {
     match answer {
-        Imported::Roll(length, terms) => xew_imported {
-            length,
+        Ok(roll) => xew_imported {
+            length: roll.length,
             line: 0,
-            terms,
+            terms: roll.terms,
             refusal: 0,
         },
-        Imported::Refused(refusal, line) => xew_imported {
+        Err(fault) => xew_imported {
             length: 0,
-            line,
+            line: fault.line,
             terms: 0,
-            refusal,
+            refusal: u8::from(fault.refusal),
         },
     }
 }

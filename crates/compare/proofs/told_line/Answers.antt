@@ -1,10 +1,7 @@
 -- The piece always has room.
-use Rattle.compare.proofs.Output.{piece-text, piece-never}
+use Rattle.compare.proofs.Output.{piece-text}
 use Rattle.compare.proofs.Ranges.{met-room}
 use Rattle.compare.proofs.told_line.Goals as goal
 
-pub returns-in-Text : goal.returns-in-Text
-returns-in-Text c = piece-text _ _ _ _ _ c.requires (met-room _ _ c.well_formed.0) c.line.ensures c.in-Text.is
-
-pub returns-in-Refused : goal.returns-in-Refused
-returns-in-Refused c = piece-never _ _ _ _ _ _ c.requires (met-room _ _ c.well_formed.0) c.line.ensures c.in-Refused.is
+pub returns : goal.returns
+returns c = piece-text _ _ _ _ _ c.requires (met-room _ _ c.well_formed.0) c.line.ensures c.unwrap_or.ensures

@@ -1,10 +1,6 @@
--- Each step leaves fewer positions.
-use Rattle.comparing.proofs.DifferLaws.{rest_of}
-use Rattle.compare.proofs.Output.{Going}
+-- Each step leaves fewer terms.
+use Rattle.comparing.specs.Pairs.{terms_left}
 use Rattle.compare.proofs.write_lines.Given as goal
 
-abbrev pub invariant-loop-more : goal.invariant-loop-more
-invariant-loop-more g l = Going l.initial.text l.text l.met l.more
-
-abbrev pub decreases-loop-more : goal.decreases-loop-more
-decreases-loop-more g l = rest_of l.left l.right l.met
+abbrev pub decreases-loop-met : goal.decreases-loop-met
+decreases-loop-met g l = terms_left l.at

@@ -2,8 +2,8 @@
 use Rattle.confirming.proofs.ConfirmLaws.{confirm-told}
 use Rattle.confirming.proofs.confirm.Goals as goal
 
-pub returns-in-Is : goal.returns-in-Is
-returns-in-Is c = search confirm-told
+pub returns-in-Some : goal.returns-in-Some
+returns-in-Some c = search confirm-told
 
-pub returns-in-Unknown : goal.returns-in-Unknown
-returns-in-Unknown c = search confirm-told
+pub returns-in-None : goal.returns-in-None
+returns-in-None c = search confirm-told

@@ -10,5 +10,5 @@ orders_in-orders-requires c = (search orders-most, search rules)
 pub opened_of-requires : goal.opened_of-requires
 opened_of-requires c = search quick-within
 
-pub returns-in-Same : goal.returns-in-Same
-returns-in-Same c = search (quick-same, c.type_inv.roll)
+pub returns-in-Ok-Same : goal.returns-in-Ok-Same
+returns-in-Ok-Same c = search (quick-same, c.type_inv.roll)

@@ -1,9 +1,12 @@
--- `all_above_zero` meets its contract: the left function, then the right one. Assumes nothing.
-use Rattle.contracting.proofs.CheckLaws.{above-left, above-right}
+-- `all_above_zero` meets its contract: one function, then the other. Assumes nothing.
+use Rattle.std.proofs.Common.{arith}
+use Rattle.contracting.specs.inner.Summed.{all_above_of}
 use Rattle.contracting.proofs.all_above_zero.Goals as goal
 
 pub returns-then-primitives_above_zero : goal.returns-then-primitives_above_zero
-returns-then-primitives_above_zero c = search above-right
+unfolding all_above_of
+returns-then-primitives_above_zero c = grind arith
 
-pub returns : goal.returns
-returns c = search above-left
+pub returns-else-primitives_above_zero : goal.returns-else-primitives_above_zero
+unfolding all_above_of
+returns-else-primitives_above_zero c = grind arith

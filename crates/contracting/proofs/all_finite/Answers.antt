@@ -1,12 +1,12 @@
--- `all_finite` meets its contract: the left function, the right one, the host numbers. Assumes nothing.
-use Rattle.contracting.proofs.CheckLaws.{finite-left, finite-right, finite-host}
+-- `all_finite` meets its contract: one part, then the next. Assumes nothing.
+use Rattle.std.proofs.Common.{arith}
+use Rattle.contracting.specs.inner.Summed.{all_finite_of}
 use Rattle.contracting.proofs.all_finite.Goals as goal
 
 pub returns-then-primitives_finite-2 : goal.returns-then-primitives_finite-2
-returns-then-primitives_finite-2 c = search finite-host
+unfolding all_finite_of
+returns-then-primitives_finite-2 c = grind arith
 
 pub returns-else-primitives_finite-2 : goal.returns-else-primitives_finite-2
-returns-else-primitives_finite-2 c = search finite-right
-
-pub returns-else-primitives_finite : goal.returns-else-primitives_finite
-returns-else-primitives_finite c = search finite-left
+unfolding all_finite_of
+returns-else-primitives_finite-2 c = grind arith

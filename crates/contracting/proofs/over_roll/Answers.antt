@@ -1,11 +1,19 @@
 -- `over_roll` meets its contract: what the judge says of the roll, and the terms it then has. Assumes nothing.
 use Prim.Native.Nat.{ℕ}
 use native.Mathlib.Omega.{arith}
-use Rattle.contracting.proofs.Answers.{roll-reads, roll-refused}
+use Rattle.std.proofs.lemmas.Result.{err_from_is_err_and}
+use Rattle.contracting.proofs.Answers.{roll-refused, roll-barred, roll-value}
 use Rattle.contracting.proofs.over_roll.Goals as goal
 
-pub returns-in-Roll : goal.returns-in-Roll
-returns-in-Roll c = roll-reads _ _ c.check-opened.result c.from_cursor.result (λ (i : ℕ). omega (arith, c.type_inv.roll i)) c.check-opened.ensures c.in-Roll.is c.from_cursor.ensures
+pub returns-in_err-opened : goal.returns-in_err-opened
+returns-in_err-opened c =
+    let p = err_from_is_err_and c.from_residual.result c.from_residual.ensures.1 in
+    rw (p.1, p.2) (roll-refused _ _ _ c.check.ensures _ c.in_err-opened.was)
 
-pub returns-in-Refused : goal.returns-in-Refused
-returns-in-Refused c = search roll-refused
+pub returns-in_err-from_cursor : goal.returns-in_err-from_cursor
+returns-in_err-from_cursor c =
+    let p = err_from_is_err_and c.from_residual-in_err-from_cursor.result c.from_residual-in_err-from_cursor.ensures.1 in
+    rw (p.1, p.2) (roll-barred _ _ _ c.check.ensures _ _ (λ (i : ℕ). omega (arith, c.type_inv.roll i)) c.in_ok-opened.was c.from_cursor.ensures _ c.in_err-from_cursor.was)
+
+pub returns : goal.returns
+returns c = roll-value _ _ _ c.check.ensures _ _ (λ (i : ℕ). omega (arith, c.type_inv.roll i)) c.in_ok-opened.was c.from_cursor.ensures _ c.in_ok-from_cursor.was

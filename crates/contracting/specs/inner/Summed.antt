@@ -1,20 +1,18 @@
 -- Inside the crate: what is not finite stays so in every product and sum after it, so one look at the element serves for all of 11.
-use Rattle.std.specs.Prelude.{ℕ, ◌*◌, ◌≡◌, Bool, true, ◌&&◌, cond, List, [], ◌∷◌, ◌++◌, Float, length}
+use Rattle.std.specs.Prelude.{ℕ, ◌*◌, ◌≡◌, Bool, true, ◌&&◌, cond, List, [], ◌∷◌, ◌++◌, Float, length, Option, Some, None, Err}
+use Rattle.std.specs.List.{list_all}
 use Rattle.std.specs.Float.{binary64}
 use Rattle.std.specs.Float.Ieee.{of_bits}
 use Rattle.term.specs.Terms.{Term}
 use Rattle.kind.specs.declared.Kind.{Kind}
-use Rattle.kind.specs.declared.Named.{Named}
-use Rattle.kind.specs.declared.Named.TheVariants as named
+use Rattle.kind.specs.declared.refusals.Refusal.TheVariants.{WrongKind, BadRoll}
 use Rattle.geometry.specs.Floats.{above_zero, all_finite}
 use Rattle.geometry.specs.Checks.{whole}
 use Rattle.roll.specs.declared.cursor.Cursor.{Cursor}
-use Rattle.integrals.specs.declared.Value.{Value}
-use Rattle.integrals.specs.declared.Value.TheVariants.{Refused}
-use Rattle.integrals.specs.Values.{refused_unless}
+use Rattle.integrals.specs.Values.{Value, refused_unless}
 use Rattle.integrals.specs.inner.Stored.{again_from}
 use Rattle.contracting.specs.declared.Primitive.{Primitive}
-use Rattle.contracting.specs.Pairs.{most_primitives, counted, Pair, Row, every}
+use Rattle.contracting.specs.Pairs.{counted, Pair, Row}
 use Rattle.contracting.specs.Elements.{contracts, pair_geometry, pair_value, checked_of}
 
 -- the six floats of a primitive
@@ -29,10 +27,10 @@ above_primitive p = above_zero p.centre.exponent
 
 -- checks 8 and 9, a primitive at a time
 unfoldable pub all_finite_of : List Primitive → List Primitive → List Float → Bool
-all_finite_of lefts rights host = every finite_primitive lefts && (every finite_primitive rights && all_finite host)
+all_finite_of lefts rights host = list_all finite_primitive lefts && (list_all finite_primitive rights && all_finite host)
 
 unfoldable pub all_above_of : List Primitive → List Primitive → Bool
-all_above_of lefts rights = every above_primitive lefts && every above_primitive rights
+all_above_of lefts rights = list_all above_primitive lefts && list_all above_primitive rights
 
 -- the value of a pair whose geometry numbers and table are finite, else an infinity
 abbrev pub infinity : Float
@@ -41,20 +39,13 @@ infinity = of_bits binary64 0x7ff0_0000_0000_0000
 unfoldable pub kept_value : Kind → ℕ → List Term → Pair → Float
 kept_value k l ts p = cond (pair_geometry k p) (pair_value k l ts p) infinity
 
--- the most pairs of two functions
-abbrev pub most_pairs : ℕ
-most_pairs = most_primitives * most_primitives
-
 -- what stands before the roll is judged: both counts, and the host list's length
-pub record PairsMay (m n : ℕ) (host : List Float) : Type 0 where
-  pub lefts : counted m ≡ true
-  pub rights : counted n ≡ true
-  pub hosts : length host ≡ m * n
+pub record PairsMay (lefts rights : List Primitive) (host : List Float) : Type 0 where
+  pub left_counted : counted (length lefts) ≡ true
+  pub right_counted : counted (length rights) ≡ true
+  pub hosts : length host ≡ length lefts * length rights
 
 -- the answer from a cursor on; a cursor that the judge gives has a kind (D-63)
-unfoldable pub of_kind : Kind → Cursor → List ℕ → List Row → Value
-of_kind k cursor s rows = refused_unless (contracts k) 1 (checked_of k cursor.l (again_from s cursor) rows)
-
-unfoldable pub of_cursor : Named → Cursor → List ℕ → List Row → Value
-of_cursor (named.Is k) cursor s rows = of_kind k cursor s rows
-of_cursor named.Unknown cursor s rows = Refused 7 0
+unfoldable pub of_cursor : Option Kind → Cursor → List ℕ → List Row → Value
+of_cursor (Some k) cursor s rows = refused_unless (contracts k) WrongKind (checked_of k cursor.l (again_from s cursor) rows)
+of_cursor None cursor s rows = Err BadRoll

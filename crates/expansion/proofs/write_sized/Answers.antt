@@ -5,11 +5,11 @@ use Rattle.expansion.proofs.write_sized.Goals as goal
 pub fits-requires : goal.fits-requires
 fits-requires c = search long-may
 
-pub put_roll-end-requires : goal.put_roll-end-requires
-put_roll-end-requires c = search roll-may
+pub returns-then-not-fits : goal.returns-then-not-fits
+returns-then-not-fits c = search told-full
 
-pub returns-then-fits : goal.returns-then-fits
-returns-then-fits c = search told-roll
+pub put_roll-length-requires : goal.put_roll-length-requires
+put_roll-length-requires c = search roll-may
 
 pub returns : goal.returns
-returns c = search told-full
+returns c = search told-roll

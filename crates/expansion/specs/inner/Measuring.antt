@@ -1,5 +1,5 @@
 -- How much a list of terms measures: its terms and their bytes, or that they are too many.
-use Rattle.std.specs.Prelude.{ℕ, ◌+◌, ◌*◌, ◌/◌, ◌^◌, ◌≤◌, ◌≡◌, cond, List, [], ◌∷◌, leb, eqb, length, get_or}
+use Rattle.std.specs.Prelude.{ℕ, ◌+◌, ◌*◌, ◌/◌, ◌^◌, ◌≤◌, ◌≡◌, cond, List, [], ◌∷◌, leb, eqb, length, get_or, Option, Some, None}
 use Rattle.kind.specs.declared.Kind.{Kind}
 use Rattle.kind.specs.declared.Kind.TheVariants.{Overlap, Kinetic, Nuclear, Moment, Coulomb}
 use Rattle.kind.specs.Limits.{most_terms}
@@ -8,18 +8,23 @@ use Rattle.steps.specs.declared.CentreName.{CentreName}
 use Rattle.steps.specs.declared.Axis.{Axis}
 use Rattle.roll.specs.Bytes.{terms_bytes}
 use Rattle.expansion.specs.declared.Path.{Path}
-use Rattle.expansion.specs.declared.Measured.{Measured}
-use Rattle.expansion.specs.declared.Measured.TheVariants.{Fits, Over}
 use Rattle.expansion.specs.inner.Walking.{Good, terms_below, terms_from}
 
+-- terms and their bytes, or none where the terms are too many
+abbrev pub Measured : Type 0
+Measured = Option (ℕ × ℕ)
+
+pattern abbrev pub Fits : ℕ → ℕ → Measured
+Fits terms bytes = Some (terms, bytes)
+
 unfoldable pub measured : List Term → Measured
-measured ts = cond (leb (length ts) most_terms) (Fits (length ts) (length (terms_bytes ts))) Over
+measured ts = cond (leb (length ts) most_terms) (Fits (length ts) (length (terms_bytes ts))) None
 
 -- both together
 unfoldable pub plus : Measured → Measured → Measured
-plus Over m = Over
-plus (Fits a b) Over = Over
-plus (Fits a b) (Fits c d) = cond (leb (a + c) most_terms) (Fits (a + c) (b + d)) Over
+plus None m = None
+plus (Fits a b) None = None
+plus (Fits a b) (Fits c d) = cond (leb (a + c) most_terms) (Fits (a + c) (b + d)) None
 
 -- branches 0 and 1, 2 and 3, 4 and 5
 abbrev pub in_pairs : ℕ → ℕ
@@ -40,11 +45,11 @@ skip_of width times = cond (eqb width 2) (times / 256) (times / 16)
 
 abbrev pub terms_in : Measured → ℕ
 terms_in (Fits a b) = a
-terms_in Over = 0
+terms_in None = 0
 
 abbrev pub bytes_in : Measured → ℕ
 bytes_in (Fits a b) = b
-bytes_in Over = 0
+bytes_in None = 0
 
 -- no term takes more than 32 bytes
 pub record SmallMeasure (m : Measured) : Type 0 where
@@ -82,7 +87,7 @@ over_word = (most_terms + 1) * one_term
 
 unfoldable pub word_of : Measured → ℕ
 word_of (Fits a b) = a * one_term + b
-word_of Over = over_word
+word_of None = over_word
 
 -- the word of a measure of which something is told
 pub record WordOf (Told : Measured → Type 0) (r : ℕ) : Type 0 where

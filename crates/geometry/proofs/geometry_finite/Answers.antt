@@ -1,12 +1,13 @@
 -- `geometry_finite` meets its contract: the numbers, then the entries. Assumes nothing.
+use Rattle.std.proofs.Common.{arith}
 use Rattle.geometry.specs.Checks.{finite_with}
-use Rattle.geometry.proofs.FiniteFloats.{finite-parts, finite-first, finite-held}
+use Rattle.geometry.proofs.FiniteFloats.{finite-both}
 use Rattle.geometry.proofs.geometry_finite.Goals as goal
 
-pub returns-then-all_finite : goal.returns-then-all_finite
+pub returns-then-numbers_finite : goal.returns-then-numbers_finite
 unfolding finite_with
-returns-then-all_finite c = search (finite-parts, finite-held)
+returns-then-numbers_finite c = grind (arith, finite-both)
 
-pub returns : goal.returns
+pub returns-else-numbers_finite : goal.returns-else-numbers_finite
 unfolding finite_with
-returns c = search (finite-first, finite-held)
+returns-else-numbers_finite c = grind (arith, finite-both)

@@ -1,9 +1,10 @@
 -- `pair_finite` meets its contract: one part, then the other. Assumes nothing.
-use Rattle.geometry.proofs.FiniteFloats.{finite-parts, finite-first}
+use Rattle.std.proofs.Common.{arith}
+use Rattle.geometry.proofs.FiniteFloats.{finite-both}
 use Rattle.geometry.proofs.pair_finite.Goals as goal
 
-pub returns-then-centre_finite : goal.returns-then-centre_finite
-returns-then-centre_finite c = search finite-parts
+pub returns-then-is_finite : goal.returns-then-is_finite
+returns-then-is_finite c = grind (arith, finite-both)
 
-pub returns : goal.returns
-returns c = search finite-first
+pub returns-else-is_finite : goal.returns-else-is_finite
+returns-else-is_finite c = grind (arith, finite-both)

@@ -1,23 +1,25 @@
--- `used_finite` meets its contract: each arm is the definition at its kind. Assumes nothing.
+-- `used_finite` meets its contract: each arm is the definition at its kinds. Assumes nothing.
+use Rattle.std.proofs.Common.{arith}
 use Rattle.geometry.specs.Checks.{used, used_finite}
+use Rattle.geometry.proofs.FiniteFloats.{finite-both}
 use Rattle.geometry.proofs.used_finite.Goals as goal
 
 pub returns-in-Overlap : goal.returns-in-Overlap
 unfolding used_finite used
-returns-in-Overlap c = rw c.in-Overlap.is c.pair_finite.ensures
+returns-in-Overlap c = grind arith
 
-pub returns-in-Kinetic : goal.returns-in-Kinetic
+pub returns-then-pair_finite : goal.returns-then-pair_finite
 unfolding used_finite used
-returns-in-Kinetic c = rw c.in-Kinetic.is c.pair_finite-in-Kinetic.ensures
+returns-then-pair_finite c = grind (arith, finite-both)
 
-pub returns-in-Nuclear : goal.returns-in-Nuclear
+pub returns-else-pair_finite : goal.returns-else-pair_finite
 unfolding used_finite used
-returns-in-Nuclear c = rw c.in-Nuclear.is c.three_finite.ensures
+returns-else-pair_finite c = grind (arith, finite-both)
 
-pub returns-in-Moment : goal.returns-in-Moment
+pub returns-then-pair_finite-2 : goal.returns-then-pair_finite-2
 unfolding used_finite used
-returns-in-Moment c = rw c.in-Moment.is c.three_finite-in-Moment.ensures
+returns-then-pair_finite-2 c = grind (arith, finite-both)
 
-pub returns-in-Coulomb : goal.returns-in-Coulomb
+pub returns-else-pair_finite-2 : goal.returns-else-pair_finite-2
 unfolding used_finite used
-returns-in-Coulomb c = rw c.in-Coulomb.is c.four_finite.ensures
+returns-else-pair_finite-2 c = grind (arith, finite-both)

@@ -6,27 +6,27 @@ use Rattle.kind.specs.Limits.{most_order, most_terms, most_scale}
 use Rattle.kind.specs.Kinds.{kind_of, number_of, orders_of, table_of, most_prefactors}
 use Rattle.kind.specs.declared.Kind.{Kind}
 use Rattle.kind.specs.declared.Kind.TheVariants.{Coulomb}
-use Rattle.kind.specs.declared.Named.{Named}
-use Rattle.kind.specs.declared.Named.TheVariants as named
 use Rattle.number.specs.Numbers.{bytes_of, length_of}
-use Rattle.text.specs.declared.Parsed.{Parsed}
-use Rattle.text.specs.declared.Parsed.TheVariants as parsed
+use Rattle.text.specs.Parsed.{Parsed}
+use Rattle.text.specs.Parsed as parsed
 use Rattle.text.specs.Reading.{decimal_at}
 use Rattle.roll.specs.Bytes.{roll_bytes}
 use Rattle.roll.specs.Reading.{most_boys, sum_after, Roll}
-use Rattle.importing.specs.declared.lines.Shape.{Shape}
-use Rattle.importing.specs.declared.lines.Shape.TheVariants as shape
-use Rattle.importing.specs.declared.numerals.Numeral.{Numeral}
-use Rattle.importing.specs.declared.numerals.Numeral.TheVariants as numeral
-use Rattle.importing.specs.declared.numerals.Head.{Head}
-use Rattle.importing.specs.declared.numerals.Head.TheVariants as head
-use Rattle.importing.specs.declared.judge.Size.{Size}
-use Rattle.importing.specs.declared.judge.Size.TheVariants as size
+use Rattle.importing.specs.inner.Shape.{Shape}
+use Rattle.importing.specs.inner.Shape as shape
+use Rattle.importing.specs.inner.Numeral.{Numeral}
+use Rattle.importing.specs.inner.Numeral as numeral
+use Rattle.importing.specs.inner.FirstLine.{FirstLine}
+use Rattle.importing.specs.inner.FirstLine as head
+use Rattle.importing.specs.inner.Size.{Size}
+use Rattle.importing.specs.inner.Size as size
 use Rattle.importing.specs.declared.writing.Spot.{Spot}
-use Rattle.importing.specs.declared.Imported.{Imported}
-use Rattle.importing.specs.declared.Imported.TheVariants as imported
+use Rattle.importing.specs.Answer.{Answer}
+use Rattle.importing.specs.Answer as imported
 use Rattle.importing.specs.Import.{Judged, taken, refused}
 use Rattle.importing.specs.Lines.{Line, line, broken, line_on}
+use Rattle.std.specs.Prelude.{Option, Some, None}
+use Rattle.kind.specs.declared.refusals.Refusal.TheVariants.{LineShape, LineNumbers}
 
 -- ---- shape
 
@@ -77,68 +77,68 @@ term_at s at n k l =
 -- the size of what was read, and the place of the next line
 abbrev pub sized : ℕ → Numeral → Size
 sized next (numeral.Is z end) = size.Is z next
-sized next numeral.Wrong = size.Refused 22
+sized next numeral.Wrong = size.Refused LineNumbers
 
 abbrev pub line_size : List ℕ → ℕ → Kind → ℕ → Shape → Size
-line_size s at k l (shape.Line n next) = cond (ltb n 2) (size.Refused 21) (sized next (term_at s at n k l))
-line_size s at k l shape.Broken = size.Refused 21
+line_size s at k l (shape.Line n next) = cond (ltb n 2) (size.Refused LineShape) (sized next (term_at s at n k l))
+line_size s at k l shape.Broken = size.Refused LineShape
 
 -- a missing line is 22
 unfoldable pub term_line_at : List ℕ → ℕ → Kind → ℕ → Size
-term_line_at s at k l = cond (leb (length s) at) (size.Refused 22) (line_size s at k l (shape_at s at))
+term_line_at s at k l = cond (leb (length s) at) (size.Refused LineNumbers) (line_size s at k l (shape_at s at))
 
-abbrev pub too_many : ℕ → Shape → Imported
-too_many number (shape.Line n next) = cond (ltb n 2) (imported.Refused 21 number) (imported.Refused 22 number)
-too_many number shape.Broken = imported.Refused 21 number
+abbrev pub too_many : ℕ → Shape → Answer
+too_many number (shape.Line n next) = cond (ltb n 2) (imported.Refused LineShape number) (imported.Refused LineNumbers number)
+too_many number shape.Broken = imported.Refused LineShape number
 
 -- nothing follows the last term
-unfoldable pub end_at : List ℕ → ℕ → ℕ → ℕ → ℕ → Imported
+unfoldable pub end_at : List ℕ → ℕ → ℕ → ℕ → ℕ → Answer
 end_at s at number size count = cond (leb (length s) at) (imported.Roll size count) (too_many number (shape_at s at))
 
-abbrev pub on_size : Size → ℕ → (ℕ → ℕ → Imported) → Imported
+abbrev pub on_size : Size → ℕ → (ℕ → ℕ → Answer) → Answer
 on_size (size.Is z next) number rest = rest z next
 on_size (size.Refused r) number rest = imported.Refused r number
 
 -- the lines of the terms that are left, after bytes of a size, in a roll of so many terms
-unfoldable pub terms_at : List ℕ → ℕ → ℕ → ℕ → Kind → ℕ → ℕ → ℕ → Imported
+unfoldable pub terms_at : List ℕ → ℕ → ℕ → ℕ → Kind → ℕ → ℕ → ℕ → Answer
 terms_at s at number zero k l size count = end_at s at number size count
 terms_at s at number (suc left) k l size count = on_size (term_line_at s at k l) number (λ z next. terms_at s next (number + 1) left k l (size + z) count)
 
 -- ---- the first line
 
-abbrev pub counted_head : Kind → ℕ → Numeral → Head
+abbrev pub counted_head : Kind → ℕ → Numeral → FirstLine
 counted_head k l (numeral.Is terms next) = head.Is k l terms
 counted_head k l numeral.Wrong = head.Wrong
 
-abbrev pub ordered_head : List ℕ → Kind → Numeral → Head
+abbrev pub ordered_head : List ℕ → Kind → Numeral → FirstLine
 ordered_head s k (numeral.Is l at) = counted_head k l (within_at s at 1 most_terms)
 ordered_head s k numeral.Wrong = head.Wrong
 
-unfoldable pub head_orders_at : List ℕ → ℕ → Kind → Head
+unfoldable pub head_orders_at : List ℕ → ℕ → Kind → FirstLine
 head_orders_at s at k = ordered_head s k (orders_at s at (orders_of k) 0 0 0)
 
-abbrev pub named_head : List ℕ → ℕ → ℕ → Named → Head
-named_head s n at (named.Is k) = cond (eqb n (orders_of k + 2)) (head_orders_at s at k) head.Wrong
-named_head s n at named.Unknown = head.Wrong
+abbrev pub named_head : List ℕ → ℕ → ℕ → Option Kind → FirstLine
+named_head s n at (Some k) = cond (eqb n (orders_of k + 2)) (head_orders_at s at k) head.Wrong
+named_head s n at None = head.Wrong
 
-abbrev pub numbered_head : List ℕ → ℕ → Numeral → Head
+abbrev pub numbered_head : List ℕ → ℕ → Numeral → FirstLine
 numbered_head s n (numeral.Is number next) = named_head s n next (kind_of number)
 numbered_head s n numeral.Wrong = head.Wrong
 
 -- a first line of n numbers: its kind, L and term count
-unfoldable pub head_at : List ℕ → ℕ → Head
+unfoldable pub head_at : List ℕ → ℕ → FirstLine
 head_at s n = numbered_head s n (within_at s 0 0 (number_of Coulomb))
 
-abbrev pub on_head : Head → (Kind → ℕ → ℕ → Imported) → Imported
-on_head (head.Is k l terms) rest = rest k l terms
-on_head head.Wrong rest = imported.Refused 22 1
+abbrev pub on_head : FirstLine → (Kind → ℕ → ℕ → Answer) → Answer
+on_head (Some h) rest = rest h.kind h.l h.terms
+on_head None rest = imported.Refused LineNumbers 1
 
 -- the whole text, after a first line of n numbers that ends at a place
-unfoldable pub head_line_at : List ℕ → ℕ → ℕ → Imported
+unfoldable pub head_line_at : List ℕ → ℕ → ℕ → Answer
 head_line_at s n next = on_head (head_at s n) (λ k l terms. terms_at s next 2 terms k l (1 + orders_of k + length_of terms) terms)
 
 -- how long a roll is, and its terms
-abbrev pub measured : Judged Roll → Imported
+abbrev pub measured : Judged Roll → Answer
 measured (taken r) = imported.Roll (length (roll_bytes r.kind r.orders r.terms)) (length r.terms)
 measured (refused r n) = imported.Refused r n
 

@@ -1,18 +1,25 @@
--- `barred` meets its contract: a law for each way out. Assumes nothing.
-use Rattle.integrals.proofs.Values.{refused-float, refused-exponent, refused-count, refused-geometry, passed}
+-- `barred` meets its contract: the checks in their order. Assumes nothing.
+use Rattle.std.proofs.Common.{arith}
+use Rattle.laws.specs.Unless.{unless}
+use Rattle.integrals.specs.inner.Barred.{bars_with}
 use Rattle.integrals.proofs.barred.Goals as goal
 
 pub returns-then-not-inputs_finite : goal.returns-then-not-inputs_finite
-returns-then-not-inputs_finite c = search refused-float
+unfolding bars_with unless
+returns-then-not-inputs_finite c = grind arith
 
 pub returns-then-not-exponents_above_zero : goal.returns-then-not-exponents_above_zero
-returns-then-not-exponents_above_zero c = search refused-exponent
+unfolding bars_with unless
+returns-then-not-exponents_above_zero c = grind arith
 
 pub returns-then-not-boys_counted : goal.returns-then-not-boys_counted
-returns-then-not-boys_counted c = search refused-count
+unfolding bars_with unless
+returns-then-not-boys_counted c = grind arith
 
 pub returns-then-not-geometry_finite : goal.returns-then-not-geometry_finite
-returns-then-not-geometry_finite c = search refused-geometry
+unfolding bars_with unless
+returns-then-not-geometry_finite c = grind arith
 
 pub returns : goal.returns
-returns c = search passed
+unfolding bars_with unless
+returns c = grind arith

@@ -1,9 +1,8 @@
--- `boys_counted` meets its contract: a law for each way out. Assumes nothing.
-use Rattle.integrals.proofs.Values.{counted-boys, counted_none}
+-- `boys_counted` meets its contract: as many as the kind asks for. Assumes nothing.
+use Rattle.std.proofs.Common.{arith}
+use Rattle.integrals.specs.Values.{boys_counted}
 use Rattle.integrals.proofs.boys_counted.Goals as goal
 
-pub returns-then-uses_boys : goal.returns-then-uses_boys
-returns-then-uses_boys c = search counted-boys
-
 pub returns : goal.returns
-returns c = search counted_none
+unfolding boys_counted
+returns c = grind arith

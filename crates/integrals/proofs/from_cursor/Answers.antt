@@ -1,9 +1,11 @@
--- `from_cursor` meets its contract: a law for each way out. Assumes nothing.
-use Rattle.integrals.proofs.Rolls.{cursor-named, cursor-unnamed}
+-- `from_cursor` meets its contract: a kind's terms, or no kind. Assumes nothing.
+use Rattle.integrals.specs.inner.Stored.{of_cursor}
 use Rattle.integrals.proofs.from_cursor.Goals as goal
 
-pub returns-in-Is : goal.returns-in-Is
-returns-in-Is c = search cursor-named
+pub returns-in_default : goal.returns-in_default
+unfolding of_cursor
+returns-in_default c = rw (← c.in_default.ensures)
 
-pub returns-in-Unknown : goal.returns-in-Unknown
-returns-in-Unknown c = search cursor-unnamed
+pub returns : goal.returns
+unfolding of_cursor
+returns c = rw (← c.in-Some.ensures) c.judged.ensures

@@ -1,12 +1,12 @@
--- `inputs_finite` meets its contract: a law for each way out. Assumes nothing.
-use Rattle.integrals.proofs.Values.{inputs-all, inputs-aux, inputs-used}
+-- `inputs_finite` meets its contract: one part, then the next. Assumes nothing.
+use Rattle.std.proofs.Common.{arith}
+use Rattle.integrals.specs.Values.{inputs_finite}
 use Rattle.integrals.proofs.inputs_finite.Goals as goal
 
 pub returns-then-finite : goal.returns-then-finite
-returns-then-finite c = search inputs-all
+unfolding inputs_finite
+returns-then-finite c = grind arith
 
 pub returns-else-finite : goal.returns-else-finite
-returns-else-finite c = search inputs-aux
-
-pub returns-else-used_finite : goal.returns-else-used_finite
-returns-else-used_finite c = search inputs-used
+unfolding inputs_finite
+returns-else-finite c = grind arith

@@ -1,21 +1,14 @@
--- `long` meets its contract: a law for each way out. Assumes nothing.
-use Rattle.jk.proofs.Sizes.{square-fits, fourth-fits, long-all, long-i, long-d, long-j}
+-- `long` meets its contract: the code's squares are the definition's powers. Assumes nothing.
+use Rattle.std.proofs.Common.{arith}
+use Rattle.std.proofs.lemmas.Bool.Decides.{nat_tests}
+use Rattle.laws.proofs.Counting.{pow-two, pow-four}
+use Rattle.jk.specs.Outcome.{long_of}
 use Rattle.jk.proofs.long.Goals as goal
 
-pub overflow_mul-square : goal.overflow_mul-square
-overflow_mul-square c = search square-fits
-
-pub overflow_mul-square-2 : goal.overflow_mul-square-2
-overflow_mul-square-2 c = search fourth-fits
-
 pub returns-then-j-square : goal.returns-then-j-square
-returns-then-j-square c = search long-all
+unfolding long_of
+returns-then-j-square c = grind (arith, nat_tests, pow-two, pow-four)
 
 pub returns-else-j-square : goal.returns-else-j-square
-returns-else-j-square c = search long-j
-
-pub returns-else-d-square : goal.returns-else-d-square
-returns-else-d-square c = search long-d
-
-pub returns-else-i-square : goal.returns-else-i-square
-returns-else-i-square c = search long-i
+unfolding long_of
+returns-else-j-square c = grind (arith, nat_tests, pow-two, pow-four)

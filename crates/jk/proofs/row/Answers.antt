@@ -1,15 +1,12 @@
--- `row` meets its contract: its numbers are small. Assumes nothing.
-use Rattle.jk.proofs.Sizes.{row_small, row-J, row-K}
+-- `row` meets its contract: each arm is the definition at its matrix. Assumes nothing.
+use borrow.Author.Rules.{rules}
+use Rattle.jk.specs.inner.Rows.{row_of}
 use Rattle.jk.proofs.row.Goals as goal
 
-pub place-requires-in-J : goal.place-requires-in-J
-place-requires-in-J c = search row_small
-
-pub place-requires-in-K-2 : goal.place-requires-in-K-2
-place-requires-in-K-2 c = search row_small
-
 pub returns-in-J : goal.returns-in-J
-returns-in-J c = search row-J
+unfolding row_of
+returns-in-J c = search rules
 
 pub returns-in-K : goal.returns-in-K
-returns-in-K c = search row-K
+unfolding row_of
+returns-in-K c = search rules

@@ -4,12 +4,12 @@ use Rattle.number.specs.Numbers.{Bytes}
 use Rattle.list.proofs.Output.{told_text, told-refusal}
 use Rattle.list.proofs.told.Goals as goal
 
-pub returns-in-Text : goal.returns-in-Text
-returns-in-Text c =
+pub returns-in-Ok : goal.returns-in-Ok
+returns-in-Ok c =
     let bytes : Bytes c.args.roll.now = λ i. omega (arith, c.type_inv.roll i) in
-    told_text _ _ _ _ _ bytes c.requires c.listing.ensures c.in-Text.is
+    told_text _ _ _ _ _ bytes c.requires c.listing.ensures c.in-Ok.is
 
-pub returns-in-Refused : goal.returns-in-Refused
-returns-in-Refused c =
+pub returns-in-Err : goal.returns-in-Err
+returns-in-Err c =
     let bytes : Bytes c.args.roll.now = λ i. omega (arith, c.type_inv.roll i) in
-    told-refusal _ _ _ _ _ _ _ _ bytes c.requires c.listing.ensures c.in-Refused.is c.refused.ensures
+    told-refusal _ _ _ _ _ _ _ bytes c.requires c.listing.ensures c.in-Err.is c.refused.ensures

@@ -7,8 +7,8 @@ use Rattle.listing.proofs.say_roll.Goals as goal
 pub say_terms-requires : goal.say_terms-requires
 say_terms-requires c = record { kept = search said-kept; readable = search judged-readable }
 
-pub returns-in-Is : goal.returns-in-Is
-returns-in-Is c = search roll-said
+pub returns : goal.returns
+returns c = roll-said _ _ _ _ _ _ _ _ _ _ _ c.requires c.of.ensures c.in_ok-kind.was c.orders.ensures c.say_head-headed.ensures c.say_terms.ensures
 
-pub returns-in-Unknown : goal.returns-in-Unknown
-returns-in-Unknown c = search roll-unknown
+pub returns-in_err-kind : goal.returns-in_err-kind
+returns-in_err-kind c = rw c.from_residual.ensures (roll-unknown _ _ _ _ _ c.requires c.of.ensures c.in_err-kind.was)

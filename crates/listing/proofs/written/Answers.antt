@@ -3,10 +3,10 @@ use Rattle.listing.proofs.Telling.{told-beyond, told_text, told-full}
 use Rattle.listing.proofs.written.Goals as goal
 
 pub returns-then-out-start : goal.returns-then-out-start
-returns-then-out-start c = search told-beyond
+returns-then-out-start c = rw c.from.ensures (search told-beyond)
 
-pub returns-in-To : goal.returns-in-To
-returns-in-To c = search told_text
+pub returns : goal.returns
+returns c = search told_text
 
-pub returns-in-NoRoom : goal.returns-in-NoRoom
-returns-in-NoRoom c = search told-full
+pub returns-in_default : goal.returns-in_default
+returns-in_default c = rw c.from-in_default.ensures (search told-full)

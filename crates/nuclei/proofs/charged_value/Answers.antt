@@ -2,8 +2,8 @@
 use Rattle.nuclei.proofs.NucleiLaws.{product-kept, product-not}
 use Rattle.nuclei.proofs.charged_value.Goals as goal
 
-pub returns-then-geometry_finite : goal.returns-then-geometry_finite
-returns-then-geometry_finite c = search product-kept
+pub returns-then-not-geometry_finite : goal.returns-then-not-geometry_finite
+returns-then-not-geometry_finite c = search product-not
 
 pub returns : goal.returns
-returns c = search product-not
+returns c = search product-kept

@@ -1,12 +1,19 @@
 -- `nuclear` meets its contract: what the judge says of the roll, and what is then done with its cursor. Assumes nothing.
-use native.Mathlib.Omega.{arith}
 use Prim.Native.Nat.{ℕ}
-use Rattle.nuclei.proofs.NucleiLaws.{nuclear-reads, nuclear-refused}
+use native.Mathlib.Omega.{arith}
+use Rattle.std.proofs.lemmas.Result.{err_from_is_err_and}
+use Rattle.nuclei.proofs.NucleiLaws.{nuclear-refused, nuclear-barred, nuclear-value}
 use Rattle.nuclei.proofs.nuclear.Goals as goal
 
-pub returns-in-Roll : goal.returns-in-Roll
-returns-in-Roll c =
-    nuclear-reads _ _ _ _ _ _ c.check-opened.result _ (λ (i : ℕ). omega (arith, c.type_inv.roll i)) c.check-opened.ensures c.in-Roll.is c.by_kind.ensures
+pub returns-in_err-opened : goal.returns-in_err-opened
+returns-in_err-opened c =
+    let p = err_from_is_err_and c.from_residual.result c.from_residual.ensures.1 in
+    rw (p.1, p.2) (nuclear-refused _ _ _ _ _ _ _ c.check.ensures _ c.in_err-opened.was)
 
-pub returns-in-Refused : goal.returns-in-Refused
-returns-in-Refused c = search nuclear-refused
+pub returns-in_err-by_kind : goal.returns-in_err-by_kind
+returns-in_err-by_kind c =
+    let p = err_from_is_err_and c.from_residual-in_err-by_kind.result c.from_residual-in_err-by_kind.ensures.1 in
+    rw (p.1, p.2) (nuclear-barred _ _ _ _ _ _ _ c.check.ensures _ _ (λ (i : ℕ). omega (arith, c.type_inv.roll i)) c.in_ok-opened.was c.by_kind.ensures _ c.in_err-by_kind.was)
+
+pub returns : goal.returns
+returns c = nuclear-value _ _ _ _ _ _ _ c.check.ensures _ _ (λ (i : ℕ). omega (arith, c.type_inv.roll i)) c.in_ok-opened.was c.by_kind.ensures _ c.in_ok-by_kind.was

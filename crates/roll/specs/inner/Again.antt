@@ -1,7 +1,6 @@
 -- How a roll that has been judged is read again: its numbers, its terms, one after the other, and no limit.
-use Rattle.std.specs.Prelude.{ℕ, zero, suc, ◌+◌, ◌-◌, ◌≤◌, min, ◌≡◌, true, List, [], ◌∷◌, length, take, drop, get_or}
-use Rattle.number.specs.declared.Number.{Number}
-use Rattle.number.specs.declared.Number.TheVariants.{Is, Ended, NotShortest, TooLarge}
+use Rattle.std.specs.Prelude.{ℕ, zero, suc, ◌+◌, ◌-◌, ◌≤◌, min, ◌≡◌, true, List, [], ◌∷◌, length, take, drop, get_or, Err}
+use Rattle.number.specs.Read.{Number, Is}
 use Rattle.number.specs.Numbers.{one_byte, read_at}
 use Rattle.term.specs.Terms.{Term}
 use Rattle.roll.specs.declared.again.Seen.{Seen}
@@ -10,9 +9,7 @@ use Rattle.roll.specs.declared.again.Head.{Head}
 -- a number that reads, with the place after it
 unfoldable pub seen_of : ℕ → Number → Seen
 seen_of at (Is n next) = record { value = n; next = next }
-seen_of at Ended = record { value = 0; next = at }
-seen_of at NotShortest = record { value = 0; next = at }
-seen_of at TooLarge = record { value = 0; next = at }
+seen_of at (Err why) = record { value = 0; next = at }
 
 unfoldable pub seen_at : List ℕ → ℕ → Seen
 seen_at roll at = seen_of at (read_at roll at)

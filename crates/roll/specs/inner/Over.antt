@@ -1,13 +1,14 @@
 -- Inside the crate: terms that are gone over and not kept. `boys` is the most Boys order, `most` the most prefactors, `table` the table size.
 -- What is promised is said by Reading and Header; proofs/OverLaws shows that going over, with the limits of a kind and L, says the same.
-use Rattle.std.specs.Prelude.{ℕ, zero, suc, ◌+◌, ◌≤◌, ◌<◌, ◌≡◌, true, cond, List, eqb, length, get_or}
+use Rattle.std.specs.Prelude.{ℕ, zero, suc, ◌+◌, ◌≤◌, ◌<◌, ◌≡◌, true, cond, List, eqb, length, get_or, Result, Ok, Err, ⊤}
 use Rattle.kind.specs.Limits.{most_scale}
 use Rattle.number.specs.Numbers.{one_byte}
-use Rattle.roll.specs.declared.field.Field.{Field}
-use Rattle.roll.specs.declared.field.Field.TheVariants as field
+use Rattle.kind.specs.declared.refusals.Refusal.TheVariants.{BadRoll}
+use Rattle.kind.specs.declared.refusals.Fault.{Fault}
 use Rattle.roll.specs.declared.header.Opened.{Opened}
+use Rattle.roll.specs.Field.{Field, fault}
+use Rattle.roll.specs.Field as field
 use Rattle.roll.specs.Reading.{Reading, got, refused, within_at, prefactors_at}
-use Rattle.roll.specs.Header.{refused_opened}
 
 -- a number of one byte, within its limits
 pub record Quick (s : List ℕ) (at low high : ℕ) : Type 0 where
@@ -27,31 +28,41 @@ pub record OneByteEach (s : List ℕ) (at count last : ℕ) : Type 0 where
   pub small : SmallBytes s at (at + count) last
 
 -- the place after what was read, or the refusal
-abbrev pub over : {A : Type 0} → Reading A → Field
-over (got a next) = field.Is 0 next
-over (refused r place) = field.Refused r place
+abbrev pub over : {A : Type 0} → Reading A → Result ℕ Fault
+over (got a next) = Ok next
+over (refused r place) = Err (fault r place)
 
-abbrev pub over_then : Field → (ℕ → ℕ → Field) → Field
+abbrev pub over_then : Field → (ℕ → ℕ → Result ℕ Fault) → Result ℕ Fault
 over_then (field.Is n next) rest = rest n next
-over_then (field.Refused r place) rest = field.Refused r place
+over_then (Err e) rest = Err e
 
-unfoldable pub count_over : List ℕ → ℕ → ℕ → ℕ → Field
+unfoldable pub count_over : List ℕ → ℕ → ℕ → ℕ → Result ℕ Fault
 count_over s at most table = over_then (within_at s at 0 most) (λ count next. over (prefactors_at s next count table))
 
-unfoldable pub boys_over : List ℕ → ℕ → ℕ → ℕ → ℕ → Field
+unfoldable pub boys_over : List ℕ → ℕ → ℕ → ℕ → ℕ → Result ℕ Fault
 boys_over s at boys most table = over_then (within_at s at 0 boys) (λ n next. count_over s next most table)
 
-unfoldable pub term_over : List ℕ → ℕ → ℕ → ℕ → ℕ → Field
+unfoldable pub term_over : List ℕ → ℕ → ℕ → ℕ → ℕ → Result ℕ Fault
 term_over s at boys most table = over_then (within_at s at 1 most_scale) (λ n next. boys_over s next boys most table)
 
-abbrev pub end_over : ℕ → ℕ → Field
-end_over length place = cond (eqb place length) (field.Is 0 place) (field.Refused 7 place)
+abbrev pub end_over : ℕ → ℕ → Result ⊤ Fault
+end_over length place = cond (eqb place length) (Ok tt) (Err (fault BadRoll place))
 
-unfoldable pub terms_over : List ℕ → ℕ → ℕ → ℕ → ℕ → ℕ → Field
+-- on from the place after a term
+abbrev pub terms_then : Result ℕ Fault → (ℕ → Result ⊤ Fault) → Result ⊤ Fault
+terms_then (Ok next) rest = rest next
+terms_then (Err e) rest = Err e
+
+unfoldable pub terms_over : List ℕ → ℕ → ℕ → ℕ → ℕ → ℕ → Result ⊤ Fault
 terms_over s at zero boys most table = end_over (length s) at
-terms_over s at (suc left) boys most table = over_then (term_over s at boys most table) (λ n next. terms_over s next left boys most table)
+terms_over s at (suc left) boys most table = terms_then (term_over s at boys most table) (λ next. terms_over s next left boys most table)
 
 -- the header's answer where the terms are gone over to the end
-abbrev pub judged_over : Opened → Field → Opened
-judged_over o (field.Is n next) = o
-judged_over o (field.Refused r place) = refused_opened r place
+abbrev pub judged_over : Opened → Result ⊤ Fault → Result Opened Fault
+judged_over o (Ok u) = Ok o
+judged_over o (Err e) = Err e
+
+-- whether terms read to the end
+abbrev pub over_of : {A : Type 0} → Reading A → Result ⊤ Fault
+over_of (got a next) = Ok tt
+over_of (refused r place) = Err (fault r place)

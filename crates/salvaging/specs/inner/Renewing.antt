@@ -1,5 +1,5 @@
 -- Inside the crate: a header that reads, its request worked out afresh, and what is told of both.
-use Rattle.std.specs.Prelude.{ℕ, ◌+◌, ◌-◌, ◌≤◌, ◌≡◌, Bool, cond, List, length, drop}
+use Rattle.std.specs.Prelude.{ℕ, ◌+◌, ◌-◌, ◌≤◌, ◌≡◌, Bool, cond, List, length, drop, Ok}
 use Rattle.kind.specs.Limits.{most_terms}
 use Rattle.number.specs.Numbers.{length_of, Bytes}
 use Rattle.roll.specs.declared.cursor.Cursor.{Cursor}
@@ -10,8 +10,7 @@ use Rattle.salvaging.specs.declared.forms.Form.{Form}
 use Rattle.salvaging.specs.declared.After.{After}
 use Rattle.salvaging.specs.declared.After.TheVariants as after
 use Rattle.salvaging.specs.declared.Told.{Told}
-use Rattle.salvaging.specs.declared.Salvaged.{Salvaged}
-use Rattle.salvaging.specs.Salvage.{header_in, fresh_terms, fresh_roll, told_of, salvaged_in, bytes_out}
+use Rattle.salvaging.specs.Salvage.{header_in, fresh_terms, fresh_roll, told_of, Salvaged, salvaged_in, bytes_out}
 use Rattle.salvaging.specs.inner.Ends.{behind, Whole}
 
 abbrev pub after_by : Bool → Bool → After
@@ -46,7 +45,7 @@ pub record ToldFrom (f : Form) (s : List ℕ) (r : Told) : Type 0 where
 pub record RenewMay (f : Form) (s : List ℕ) (o : Opened) : Type 0 where
   pub header : HeaderOf f s
   pub bytes : Bytes s
-  pub held : o ≡ held_header (got header.h header.next)
+  pub held : Ok o ≡ held_header (got header.h header.next)
 
 pub record RenewTold (f : Form) (s before : List ℕ) (start : ℕ) (r : Salvaged) (now : List ℕ) : Type 0 where
   pub answer : r ≡ salvaged_in f s (header_in f s) before start

@@ -2,8 +2,8 @@
 use Rattle.saying.proofs.Pieces.{piece-put, piece-none}
 use Rattle.saying.proofs.say_number.Goals as goal
 
-pub returns-in-To : goal.returns-in-To
-returns-in-To c = search piece-put
+pub returns-in_err-at : goal.returns-in_err-at
+returns-in_err-at c = piece-none _ _ _ _ _ c.in_err-at.was c.from_residual.ensures
 
-pub returns-in-NoRoom : goal.returns-in-NoRoom
-returns-in-NoRoom c = search piece-none
+pub returns : goal.returns
+returns c = piece-put _ _ _ _ _ _ _ _ _ c.in_ok-at.was c.decimal.ensures c.places.ensures c.advance.ensures

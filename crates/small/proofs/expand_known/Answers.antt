@@ -8,8 +8,8 @@ returns-then-too_high c = search told-high
 pub returns-then-unused_set : goal.returns-then-unused_set
 returns-then-unused_set c = search told-unused
 
-pub returns-then-is_small : goal.returns-then-is_small
-returns-then-is_small c = search told-within
+pub returns-then-not-is_small : goal.returns-then-not-is_small
+returns-then-not-is_small c = search told-outside
 
 pub returns : goal.returns
-returns c = search told-outside
+returns c = search told-within

@@ -1,10 +1,6 @@
--- `text::places` meets its contract: places counted and places of the rest are those of the number. Assumes nothing.
-use native.Mathlib.Omega.{arith}
-use Rattle.text.proofs.Digits.{places-short, places-long}
+-- `text::places` meets its contract: the power of ten that a number reaches says how many digits it has. Assumes nothing.
+use Rattle.text.proofs.Digits.{places-power}
 use Rattle.text.proofs.places.Goals as goal
 
-pub loop-rest-preserved : goal.loop-rest-preserved
-loop-rest-preserved c = omega (arith, places-long c.loop-rest.rest (omega arith))
-
 pub returns : goal.returns
-returns c = omega (arith, places-short c.loop-rest.rest (omega arith))
+returns c = search places-power

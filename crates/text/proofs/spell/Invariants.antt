@@ -1,5 +1,4 @@
 -- `text::spell` meets its contract: at each turn the digits of the rest, stored before those written, give the whole. Assumes nothing.
-use Prim.Native.Nat.{◌≤◌}
 use mathlib.Core.Path.{◌≡◌}
 use lib.ListN.{length}
 use lib.Seq.{sets}
@@ -7,8 +6,4 @@ use Rattle.text.specs.Digits.{digits}
 use Rattle.text.proofs.spell.Given as goal
 
 abbrev pub invariant-loop-i : goal.invariant-loop-i
-invariant-loop-i l =
-    (l.i ≤ l.k) × (length l.out ≡ length l.initial.out) × (sets l.out l.at (digits l.base l.i l.rest) ≡ sets l.initial.out l.at (digits l.base l.k l.n))
-
-abbrev pub decreases-loop-i : goal.decreases-loop-i
-decreases-loop-i l = l.i
+invariant-loop-i l = sets l.out 0 (digits l.base l.i l.rest) ≡ digits l.base (length l.initial.out) l.n

@@ -15,8 +15,8 @@ overflow_mul-next-in-loop-n c = search count_fits
 pub overflow_mul-next-in-loop-n-2 : goal.overflow_mul-next-in-loop-n-2
 overflow_mul-next-in-loop-n-2 c = search reached-fits
 
-pub overflow_add-next : goal.overflow_add-next
-overflow_add-next c = search next_fits
+pub overflow_add-next-in-loop-n : goal.overflow_add-next-in-loop-n
+overflow_add-next-in-loop-n c = search next_fits
 
 pub loop-n-preserved : goal.loop-n-preserved
 loop-n-preserved c = (search rules, search rules, search run-next)

@@ -4,9 +4,3 @@ use Rattle.totals.proofs.total_within.Goals as goal
 
 pub returns-in-Overlap : goal.returns-in-Overlap
 returns-in-Overlap c = search claimed-is
-
-pub returns-in-Nuclear : goal.returns-in-Nuclear
-returns-in-Nuclear c = search claimed-is
-
-pub returns-in-Moment : goal.returns-in-Moment
-returns-in-Moment c = search claimed-is

@@ -1,12 +1,10 @@
 -- A kind's list as the code runs along it, and what its functions may assume.
-use Rattle.std.specs.Prelude.{ℕ, zero, suc, ◌+◌, ◌*◌, ◌^◌, ◌≤◌, ◌<◌, ◌≡◌, true, cond, List}
+use Rattle.std.specs.Prelude.{ℕ, zero, suc, ◌+◌, ◌*◌, ◌^◌, ◌≤◌, ◌<◌, ◌≡◌, true, List}
 use Rattle.kind.specs.declared.Kind.{Kind}
 use Rattle.kind.specs.declared.Kind.TheVariants.{Overlap, Kinetic, Nuclear, Moment, Coulomb}
 use Rattle.kind.specs.Kinds.{most_l}
 use Rattle.expansion.specs.inner.Requests.{RequestWithin}
-use Rattle.totals.specs.declared.Total.{Total}
-use Rattle.totals.specs.declared.Total.TheVariants as total
-use Rattle.totals.specs.Totals.{claimed, scale_total}
+use Rattle.totals.specs.Totals.{claimed}
 
 -- how often the last number of a list and the one before it count: once, for nuclear twice; kinetic and Coulomb have no list
 abbrev pub often_of : Kind → ℕ
@@ -39,7 +37,3 @@ pub record ListedMay (k : Kind) (p : ℕ) : Type 0 where
 pub record ProductMay (k : Kind) (orders : List ℕ) : Type 0 where
   pub is : claimed k ≡ true
   pub within : RequestWithin k orders
-
--- what a request within the limits is answered
-abbrev pub claimed_total : Kind → List ℕ → Total
-claimed_total k orders = cond (claimed k) (total.Is (scale_total k orders)) total.NotClaimed

@@ -2,8 +2,8 @@
 use Rattle.comparing.proofs.DifferLaws.{used-is, used-unknown}
 use Rattle.comparing.proofs.differ.used.Goals as goal
 
-pub returns-in-Is : goal.returns-in-Is
-returns-in-Is c = search used-is
+pub returns-in-Some : goal.returns-in-Some
+returns-in-Some c = search used-is
 
-pub returns-in-Unknown : goal.returns-in-Unknown
-returns-in-Unknown c = search used-unknown
+pub returns-in-None : goal.returns-in-None
+returns-in-None c = search used-unknown

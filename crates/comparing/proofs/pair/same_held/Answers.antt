@@ -1,15 +1,14 @@
 -- `same_held` meets its contract: part by part. Assumes nothing.
-use Rattle.comparing.proofs.PairLaws.{held-scale, held-boys, held-count, held_all}
+use native.Mathlib.Omega.{arith}
+use Rattle.std.proofs.lemmas.Bool.Decides.{nat_tests}
+use Rattle.comparing.specs.Pairs.{same_held}
+use Rattle.comparing.proofs.PairLaws.{numbers-pointwise}
 use Rattle.comparing.proofs.pair.same_held.Goals as goal
 
-pub returns-then-left-right : goal.returns-then-left-right
-returns-then-left-right c = search held-scale
-
-pub returns-then-left-right-2 : goal.returns-then-left-right-2
-returns-then-left-right-2 c = search held-boys
-
 pub returns-then-left-right-3 : goal.returns-then-left-right-3
-returns-then-left-right-3 c = search held-count
+unfolding same_held
+returns-then-left-right-3 c = let is = numbers-pointwise c.args.left.prefactors c.args.right.prefactors in grind (arith, nat_tests, c.eq.ensures)
 
-pub returns : goal.returns
-returns c = search held_all
+pub returns-else-left-right-3 : goal.returns-else-left-right-3
+unfolding same_held
+returns-else-left-right-3 c = grind (arith, nat_tests)

@@ -2,11 +2,11 @@
 use Rattle.confirming.proofs.QuickLaws.{first-none, first_two, first_one}
 use Rattle.confirming.proofs.quick.named_in.Goals as goal
 
-pub returns-then-roll-eq0 : goal.returns-then-roll-eq0
-returns-then-roll-eq0 c = search first-none
+pub returns-then-is_empty : goal.returns-then-is_empty
+returns-then-is_empty c = search first-none
 
-pub returns-then-two : goal.returns-then-two
-returns-then-two c = search first_two
+pub returns-in-One : goal.returns-in-One
+returns-in-One c = search first_one
 
-pub returns : goal.returns
-returns c = search first_one
+pub returns-in-Two : goal.returns-in-Two
+returns-in-Two c = search first_two

@@ -1,19 +1,17 @@
--- `outer` meets its contract: what is left of the right function from `j` on gives the whole sum. Assumes nothing.
-use mathlib.Core.Path.{refl}
-use native.Mathlib.Omega.{arith}
+-- `outer` meets its contract: what is left of the right function gives the whole sum. Assumes nothing.
+use lib.ListN.{length}
+use mathlib.Core.Path.{refl, sym}
+use native.Mathlib.Nat.{zero-mul}
 use Rattle.contracting.specs.Elements.{element_of}
 use Rattle.contracting.proofs.SumLaws.{outer-more, outer-done, next_row}
 use Rattle.contracting.proofs.sums.outer.Goals as goal
 
-pub loop-j-init : goal.loop-j-init
+pub loop-b-init : goal.loop-b-init
 unfolding element_of
-loop-j-init c = (omega arith, omega arith, omega arith, refl)
+loop-b-init c = (sym (zero-mul (length c.args.lefts.now)), refl)
 
-pub inner-requires : goal.inner-requires
-inner-requires c = (omega arith, omega arith)
-
-pub loop-j-preserved : goal.loop-j-preserved
-loop-j-preserved c = (omega arith, omega arith, search next_row, search outer-more)
+pub loop-b-preserved : goal.loop-b-preserved
+loop-b-preserved c = (search next_row, search outer-more)
 
 pub returns : goal.returns
 returns c = search outer-done

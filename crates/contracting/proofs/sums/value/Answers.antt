@@ -1,14 +1,9 @@
--- `value` meets its contract: a law for each way out. Assumes nothing.
-use lib.Ieee.{nan_bits}
+-- `value` meets its contract: the table bars the sum, or leaves it. Assumes nothing.
 use Rattle.contracting.proofs.SumLaws.{value-kept, value_not}
 use Rattle.contracting.proofs.sums.value.Goals as goal
 
-pub returns-then-geometry_finite : goal.returns-then-geometry_finite
-returns-then-geometry_finite c = search value-kept
-
-pub float_from_bits-result : goal.float_from_bits-result
-unfolding nan_bits
-float_from_bits-result c = tt
+pub returns-then-not-geometry_finite : goal.returns-then-not-geometry_finite
+returns-then-not-geometry_finite c = search value_not
 
 pub returns : goal.returns
-returns c = search value_not
+returns c = search value-kept

@@ -5,5 +5,5 @@ use Rattle.expansion.proofs.header.begins.Goals as goal
 pub returns-then-form-eq-FORM1 : goal.returns-then-form-eq-FORM1
 returns-then-form-eq-FORM1 c = search form-one
 
-pub returns : goal.returns
-returns c = search form-two
+pub returns-else-form-eq-FORM1 : goal.returns-else-form-eq-FORM1
+returns-else-form-eq-FORM1 c = search form-two

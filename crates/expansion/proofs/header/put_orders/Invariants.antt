@@ -1,10 +1,6 @@
 -- `put_orders` meets its contract.
-use Prim.Native.Nat.{◌-◌}
 use Rattle.expansion.proofs.HeaderLaws.{Ordering}
 use Rattle.expansion.proofs.header.put_orders.Given as goal
 
 abbrev pub invariant-loop-i : goal.invariant-loop-i
 invariant-loop-i l = Ordering l.initial.out l.orders l.count l.out l.i
-
-abbrev pub decreases-loop-i : goal.decreases-loop-i
-decreases-loop-i l = l.count - l.i

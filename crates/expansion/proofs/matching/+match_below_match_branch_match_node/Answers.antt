@@ -54,8 +54,8 @@ match_node-returns-then-left-eq0 t c = search node-matched
 pub match_node-match_branch-requires : goal.match_node-match_branch-requires
 match_node-match_branch-requires t c = (search match-first-falls, search match-first)
 
-pub match_node-returns-in-Nothing : goal.match_node-returns-in-Nothing
-match_node-returns-in-Nothing t c = search match-nothing
+pub match_node-returns-in_default : goal.match_node-returns-in_default
+match_node-returns-in_default t c = search match-nothing
 
-pub match_node-returns-in-At : goal.match_node-returns-in-At
-match_node-returns-in-At t c = search match-first-done
+pub match_node-returns-in-Some : goal.match_node-returns-in-Some
+match_node-returns-in-Some t c = search match-first-done

@@ -59,8 +59,8 @@ measure_branches-returns t c = search added-done
 pub measure_inner-measure_branches-requires : goal.measure_inner-measure_branches-requires
 measure_inner-measure_branches-requires t c = (search first_count_lem, (search, search turn-first))
 
-pub measure_inner-returns-in-Nothing : goal.measure_inner-returns-in-Nothing
-measure_inner-returns-in-Nothing t c = search none_told
+pub measure_inner-returns-in_default : goal.measure_inner-returns-in_default
+measure_inner-returns-in_default t c = search none_told
 
-pub measure_inner-returns-in-At : goal.measure_inner-returns-in-At
-measure_inner-returns-in-At t c = search first-told
+pub measure_inner-returns : goal.measure_inner-returns
+measure_inner-returns t c = search first-told

@@ -5,11 +5,11 @@ use Rattle.expansion.proofs.size.fits.Goals as goal
 pub returns-then-form-eq-FORM1 : goal.returns-then-form-eq-FORM1
 returns-then-form-eq-FORM1 c = search fits_one
 
-pub overflow_add-long : goal.overflow_add-long
-overflow_add-long c = record { fits = search sum_fits }
+pub overflow_add-size : goal.overflow_add-size
+overflow_add-size c = record { fits = search sum_fits }
 
-pub returns-then-long-count : goal.returns-then-long-count
-returns-then-long-count c = search fits-sure
+pub returns-then-size-room : goal.returns-then-size-room
+returns-then-size-room c = search fits-sure
 
 pub overflow_add-result : goal.overflow_add-result
 overflow_add-result c = record { fits = search whole-fits }

@@ -1,18 +1,15 @@
 -- `sized` meets its contract.
-use Rattle.expansion.proofs.Answers.{first-measured, count-cast, roll-fits, sized-many, sized-roll}
+use Rattle.expansion.proofs.Answers.{first-measured, roll-fits, sized-many, sized-roll}
 use Rattle.expansion.proofs.size.sized.Goals as goal
 
-pub measure_node-size-requires : goal.measure_node-size-requires
-measure_node-size-requires c = search first-measured
+pub measure_node-requires : goal.measure_node-requires
+measure_node-requires c = search first-measured
 
-pub overflow_cast-count : goal.overflow_cast-count
-overflow_cast-count c = record { fits = search count-cast }
+pub returns-in_default : goal.returns-in_default
+returns-in_default c = search sized-many
 
-pub overflow_add-long : goal.overflow_add-long
-overflow_add-long c = record { fits = search roll-fits }
+pub overflow_add-length : goal.overflow_add-length
+overflow_add-length c = record { fits = search roll-fits }
 
-pub returns-in-Over : goal.returns-in-Over
-returns-in-Over c = search sized-many
-
-pub returns-in-Fits : goal.returns-in-Fits
-returns-in-Fits c = search sized-roll
+pub returns : goal.returns
+returns c = search sized-roll

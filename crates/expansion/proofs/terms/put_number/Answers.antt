@@ -1,5 +1,5 @@
 -- `put_number` meets its contract.
-use Rattle.expansion.proofs.TermsBytes.{number-inside, number-one, number-next, number-never}
+use Rattle.expansion.proofs.TermsBytes.{number-inside, number-one, number-next}
 use Rattle.expansion.proofs.terms.put_number.Goals as goal
 
 pub bounds-out-at : goal.bounds-out-at
@@ -8,8 +8,5 @@ bounds-out-at c = search number-inside
 pub returns-then-n-lt128 : goal.returns-then-n-lt128
 returns-then-n-lt128 c = search number-one
 
-pub returns-in-Next : goal.returns-in-Next
-returns-in-Next c = search number-next
-
-pub returns-in-NoRoom : goal.returns-in-NoRoom
-returns-in-NoRoom c = search number-never
+pub returns : goal.returns
+returns c = search number-next

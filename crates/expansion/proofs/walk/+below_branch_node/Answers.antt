@@ -50,8 +50,8 @@ node-returns-then-left-eq0 t c = search node-emitted
 pub node-branch-out-requires : goal.node-branch-out-requires
 node-branch-out-requires t c = (search first-falls, search first-may)
 
-pub node-returns-in-Nothing : goal.node-returns-in-Nothing
-node-returns-in-Nothing t c = search node-none
+pub node-returns-in_default : goal.node-returns-in_default
+node-returns-in_default t c = search node-none
 
-pub node-returns-in-At : goal.node-returns-in-At
-node-returns-in-At t c = search first_done
+pub node-returns-in-Some : goal.node-returns-in-Some
+node-returns-in-Some t c = search first_done

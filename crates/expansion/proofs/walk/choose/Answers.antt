@@ -1,12 +1,13 @@
 -- `choose` meets its contract.
+use borrow.Author.Rules.{rules}
 use Rattle.expansion.proofs.WalkCycle.{choose-none, choose-nowhere, choose-at}
 use Rattle.expansion.proofs.walk.choose.Goals as goal
 
-pub returns-in-Nothing : goal.returns-in-Nothing
-returns-in-Nothing c = search choose-none
+pub returns-in_err-centre : goal.returns-in_err-centre
+returns-in_err-centre c = search (rules, choose-none)
 
-pub returns-in-Nowhere : goal.returns-in-Nowhere
-returns-in-Nowhere c = search choose-nowhere
+pub returns-in_err-axis : goal.returns-in_err-axis
+returns-in_err-axis c = search (rules, choose-nowhere)
 
-pub returns-in-Along : goal.returns-in-Along
-returns-in-Along c = search choose-at
+pub returns : goal.returns
+returns c = search (rules, choose-at)

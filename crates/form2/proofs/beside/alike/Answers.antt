@@ -1,9 +1,6 @@
 -- `alike` meets its contract. The loop's invariant is `Beside`: so many are shared, and those behind them. Assumes nothing.
-use Rattle.form2.proofs.BesideLaws.{beside_first, beside-more, beside-differ, beside-done}
+use Rattle.form2.proofs.BesideLaws.{beside-more, beside-differ, beside-done}
 use Rattle.form2.proofs.beside.alike.Goals as goal
-
-pub loop-i-init : goal.loop-i-init
-loop-i-init c = search beside_first
 
 pub returns-then-a-i : goal.returns-then-a-i
 returns-then-a-i c = search beside-differ

@@ -1,9 +1,6 @@
 -- `some_above` meets its contract. The loop's invariant is `Above`: from a place on as of the whole. Assumes nothing.
-use Rattle.form2.proofs.CursorLaws.{above-first, above-found, above_more, above-done}
+use Rattle.form2.proofs.CursorLaws.{above-found, above_more, above-done}
 use Rattle.form2.proofs.cursor.some_above.Goals as goal
-
-pub loop-i-init : goal.loop-i-init
-loop-i-init c = search above-first
 
 pub returns-then-table-wide : goal.returns-then-table-wide
 returns-then-table-wide c = search above-found

@@ -1,12 +1,19 @@
 -- `judge` meets its contract: the header, then the terms. Assumes nothing.
-use Rattle.form2.proofs.JudgeLaws.{judge-honest, judged-sized, refused-sized}
+use borrow.Author.Rules.{rules}
+use Rattle.form2.proofs.JudgeLaws.{judge-small2, judge-sized, judge-stopped, judge-known, judge-refused}
 use Rattle.form2.proofs.judge.judge.Goals as goal
 
-pub judge_named-requires : goal.judge_named-requires
-judge_named-requires c = search judge-honest
+pub returns-in_err-opened : goal.returns-in_err-opened
+returns-in_err-opened c = search (rules, judge-refused)
 
-pub returns-in-Roll : goal.returns-in-Roll
-returns-in-Roll c = search judged-sized
+pub terms_size-requires : goal.terms_size-requires
+terms_size-requires c = search (rules, judge-small2)
 
-pub returns-in-Refused : goal.returns-in-Refused
-returns-in-Refused c = search refused-sized
+pub returns-in_err-size-in-Some : goal.returns-in_err-size-in-Some
+returns-in_err-size-in-Some c = search (rules, judge-stopped)
+
+pub returns-in-None : goal.returns-in-None
+returns-in-None c = search (rules, judge-known)
+
+pub returns : goal.returns
+returns c = search (rules, judge-sized)

@@ -2,8 +2,5 @@
 use Rattle.form2.proofs.JudgeLaws.{Sizing}
 use Rattle.form2.proofs.judge.terms_size.Given as goal
 
-abbrev pub invariant-loop-left : goal.invariant-loop-left
-invariant-loop-left l = Sizing l.roll l.at l.terms l.kind l.l l.values l.count l.place l.left l.size
-
-abbrev pub decreases-loop-left : goal.decreases-loop-left
-decreases-loop-left l = l.left
+abbrev pub invariant-loop-done : goal.invariant-loop-done
+invariant-loop-done l = Sizing l.roll l.at l.terms l.kind l.l l.values l.count l.place l.done l.size

@@ -1,12 +1,14 @@
 -- `numbers` meets its contract: the short way gives what the numbers are. Assumes nothing.
-use Rattle.form2.proofs.QuickLaws.{most-fits, short-inside, numbers-short}
+use borrow.Author.Rules.{rules}
+use Rattle.form2.proofs.QuickLaws.{numbers-short}
+use Rattle.form2.proofs.TermsLaws.{scale-read, scale-unread}
 use Rattle.form2.proofs.longer.numbers.Goals as goal
 
-pub overflow_cast-most : goal.overflow_cast-most
-overflow_cast-most c = search most-fits
-
-pub short_front-requires : goal.short_front-requires
-short_front-requires c = short-inside _ _ _ _ _ _ c.is_short.ensures c.if-is_short.true
+pub returns-in_err-scale : goal.returns-in_err-scale
+returns-in_err-scale c = search (rules, scale-unread)
 
 pub returns-then-is_short : goal.returns-then-is_short
-returns-then-is_short c = search numbers-short
+returns-then-is_short c = numbers-short _ _ _ _ _ c.requires _ _ c.most_boys-boys.ensures c.most_prefactors-most.ensures _ _ _ _ _ c.within.ensures c.in_ok-scale.was c.short_front.ensures c.is_short.ensures c.if-is_short.true
+
+pub returns : goal.returns
+returns c = search (rules, scale-read)

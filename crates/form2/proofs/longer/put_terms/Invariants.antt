@@ -2,8 +2,5 @@
 use Rattle.form2.proofs.LongerLaws.{Writing1}
 use Rattle.form2.proofs.longer.put_terms.Given as goal
 
-abbrev pub invariant-loop-left : goal.invariant-loop-left
-invariant-loop-left l = Writing1 l.initial.out l.start l.roll l.at l.terms l.kind l.l l.out l.from l.count l.place l.left l.to
-
-abbrev pub decreases-loop-left : goal.decreases-loop-left
-decreases-loop-left l = l.left
+abbrev pub invariant-loop-done : goal.invariant-loop-done
+invariant-loop-done l = Writing1 l.initial.out l.start l.roll l.at l.terms l.kind l.l l.out l.from l.count l.place l.done l.to

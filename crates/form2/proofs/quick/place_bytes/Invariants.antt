@@ -1,10 +1,6 @@
 -- `place_bytes` meets its contract. The loop's invariant is `Placed`: the first so many bytes stand there. Assumes nothing.
-use Prim.Native.Nat.{◌-◌}
 use Rattle.form2.proofs.QuickLaws.{Placed}
 use Rattle.form2.proofs.quick.place_bytes.Given as goal
 
 abbrev pub invariant-loop-i : goal.invariant-loop-i
 invariant-loop-i l = Placed l.roll l.at l.initial.values l.from l.count l.values l.i
-
-abbrev pub decreases-loop-i : goal.decreases-loop-i
-decreases-loop-i l = l.count - l.i

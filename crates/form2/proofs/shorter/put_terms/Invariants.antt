@@ -2,8 +2,5 @@
 use Rattle.form2.proofs.ShorterLaws.{Writing2}
 use Rattle.form2.proofs.shorter.put_terms.Given as goal
 
-abbrev pub invariant-loop-left : goal.invariant-loop-left
-invariant-loop-left l = Writing2 l.initial.out l.start l.roll l.at l.terms l.out l.from l.end l.place l.left l.to
-
-abbrev pub decreases-loop-left : goal.decreases-loop-left
-decreases-loop-left l = l.left
+abbrev pub invariant-loop-done : goal.invariant-loop-done
+invariant-loop-done l = Writing2 l.initial.out l.start l.roll l.at l.terms l.out l.from l.end l.place l.done l.to

@@ -2,8 +2,5 @@
 use Rattle.form2.proofs.ShorterLaws.{Sizing2}
 use Rattle.form2.proofs.shorter.terms_size.Given as goal
 
-abbrev pub invariant-loop-left : goal.invariant-loop-left
-invariant-loop-left l = Sizing2 l.roll l.at l.terms l.from l.end l.place l.left l.size
-
-abbrev pub decreases-loop-left : goal.decreases-loop-left
-decreases-loop-left l = l.left
+abbrev pub invariant-loop-done : goal.invariant-loop-done
+invariant-loop-done l = Sizing2 l.roll l.at l.terms l.from l.end l.place l.done l.size

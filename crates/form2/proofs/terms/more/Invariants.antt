@@ -1,10 +1,6 @@
 -- `more` meets its contract. The loop's invariant is `Placing`: what is told of those still to be read is told of all. Assumes nothing.
-use Prim.Native.Nat.{◌-◌}
 use Rattle.form2.proofs.TermsLaws.{Placing}
 use Rattle.form2.proofs.terms.more.Given as goal
 
 abbrev pub invariant-loop-i : goal.invariant-loop-i
 invariant-loop-i l = Placing l.roll l.at l.initial.values l.from l.count l.table l.values l.place l.i
-
-abbrev pub decreases-loop-i : goal.decreases-loop-i
-decreases-loop-i l = l.count - l.i

@@ -2,8 +2,8 @@
 use Rattle.grouping.proofs.SummingLaws.{sum_more, sum_done}
 use Rattle.grouping.proofs.summing.sum.Goals as goal
 
-pub loop-left-preserved : goal.loop-left-preserved
-loop-left-preserved c = search sum_more
+pub loop-done-preserved : goal.loop-done-preserved
+loop-done-preserved c = search sum_more
 
 pub returns : goal.returns
 returns c = search sum_done

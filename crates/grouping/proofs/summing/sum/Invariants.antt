@@ -1,4 +1,5 @@
 -- `sum` meets its contract: what is left of the entries gives the whole sum. Assumes nothing.
+use Prim.Native.Nat.{◌-◌}
 use mathlib.Core.Path.{◌≡◌}
 use Rattle.geometry.specs.Floats.{zero}
 use Rattle.integrals.specs.Sums.{sum_from}
@@ -6,8 +7,5 @@ use Rattle.integrals.specs.inner.Stored.{own_order_of}
 use Rattle.grouping.specs.inner.Laying.{entries_again}
 use Rattle.grouping.proofs.summing.sum.Given as goal
 
-abbrev pub invariant-loop-left : goal.invariant-loop-left
-invariant-loop-left l = sum_from (own_order_of l.table l.s l.boys) (entries_again l.buffer l.at l.left) l.sum ≡ sum_from (own_order_of l.table l.s l.boys) (entries_again l.buffer 0 l.terms) zero
-
-abbrev pub decreases-loop-left : goal.decreases-loop-left
-decreases-loop-left l = l.left
+abbrev pub invariant-loop-done : goal.invariant-loop-done
+invariant-loop-done l = sum_from (own_order_of l.table l.s l.boys) (entries_again l.buffer l.at (l.terms - l.done)) l.sum ≡ sum_from (own_order_of l.table l.s l.boys) (entries_again l.buffer 0 l.terms) zero

@@ -2,17 +2,17 @@
 use Rattle.importing.proofs.Judging.{lines-first, lines-size, lines_more, lines-refused, lines-done}
 use Rattle.importing.proofs.judge.judge_terms.Goals as goal
 
-pub loop-left-init : goal.loop-left-init
-loop-left-init c = search lines-first
+pub loop-line-init : goal.loop-line-init
+loop-line-init c = search lines-first
 
 pub overflow_add-size : goal.overflow_add-size
 overflow_add-size c = record { fits = search lines-size }
 
-pub returns-in-Refused : goal.returns-in-Refused
-returns-in-Refused c = search lines-refused
+pub returns-in-Err : goal.returns-in-Err
+returns-in-Err c = rw c.refused.ensures (search lines-refused)
 
-pub loop-left-preserved : goal.loop-left-preserved
-loop-left-preserved c = search lines_more
+pub loop-line-preserved : goal.loop-line-preserved
+loop-line-preserved c = search lines_more
 
 pub returns : goal.returns
-returns c = search lines-done
+returns c = lines-done _ _ _ _ _ _ _ _ _ _ _ c.loop-line.invariant c.loop-line-test.false c.end.ensures

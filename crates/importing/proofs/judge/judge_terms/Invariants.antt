@@ -2,8 +2,5 @@
 use Rattle.importing.proofs.Judging.{Lines}
 use Rattle.importing.proofs.judge.judge_terms.Given as goal
 
-abbrev pub invariant-loop-left : goal.invariant-loop-left
-invariant-loop-left l = Lines l.s l.at l.count l.kind l.l l.first l.place l.size l.number l.left
-
-abbrev pub decreases-loop-left : goal.decreases-loop-left
-decreases-loop-left l = l.left
+abbrev pub invariant-loop-line : goal.invariant-loop-line
+invariant-loop-line l = Lines l.s l.at l.count l.kind l.l l.first l.place l.size l.line l.after

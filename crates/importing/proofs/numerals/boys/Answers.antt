@@ -8,8 +8,8 @@ overflow_cast-table c = record { fits = search table_fits }
 pub overflow_sub-table : goal.overflow_sub-table
 overflow_sub-table c = search table-some
 
-pub returns-in-Is : goal.returns-in-Is
-returns-in-Is c = search boys-made
+pub returns : goal.returns
+returns c = boys-made _ _ _ _ _ _ _ _ _ _ _ _ c.most_boys.ensures c.within.ensures c.in_ok-next.was c.table.ensures c.each.ensures
 
-pub returns-in-Wrong : goal.returns-in-Wrong
-returns-in-Wrong c = search boys-wrong
+pub returns-in_err-next : goal.returns-in_err-next
+returns-in_err-next c = rw c.from_residual.ensures (boys-wrong _ _ _ _ _ _ _ _ c.most_boys.ensures c.within.ensures c.in_err-next.was)

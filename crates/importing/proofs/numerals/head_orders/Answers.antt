@@ -6,13 +6,13 @@ pub orders-requires-2 : goal.orders-requires-2
 orders-requires-2 c = search orders-room
 
 pub overflow_cast-result : goal.overflow_cast-result
-overflow_cast-result c = record { fits = search l-byte }
+overflow_cast-result c = record { fits = l-byte _ _ _ _ _ _ _ c.orders.ensures c.orders-2.ensures c.in_ok-l.was }
 
-pub returns-in-Is-within : goal.returns-in-Is-within
-returns-in-Is-within c = search head-made
+pub returns : goal.returns
+returns c = head-made _ _ _ _ _ _ _ _ _ _ c.orders.ensures c.orders-2.ensures c.in_ok-l.was c.within.ensures c.in_ok-terms.was
 
-pub returns-in-Wrong-within : goal.returns-in-Wrong-within
-returns-in-Wrong-within c = search head-uncounted
+pub returns-in_err-terms : goal.returns-in_err-terms
+returns-in_err-terms c = rw c.from_residual-in_err-terms.ensures (head-uncounted _ _ _ _ _ _ _ _ c.orders.ensures c.orders-2.ensures c.in_ok-l.was c.within.ensures c.in_err-terms.was)
 
-pub returns-in-Wrong : goal.returns-in-Wrong
-returns-in-Wrong c = search head-unordered
+pub returns-in_err-l : goal.returns-in_err-l
+returns-in_err-l c = rw c.from_residual.ensures (head-unordered _ _ _ _ _ c.orders.ensures c.orders-2.ensures c.in_err-l.was)

@@ -1,4 +1,5 @@
 -- `term` meets its contract, a law for each answer. Assumes nothing.
+use mathlib.Core.Path.{refl}
 use Rattle.importing.proofs.Numbers.{most-fits, numbers_fit, bytes_fit, size_fits, term-many, term_made, term-wrong}
 use Rattle.importing.proofs.numerals.term.Goals as goal
 
@@ -11,14 +12,15 @@ returns-then-most_prefactors-n c = search term-many
 pub overflow_cast-size : goal.overflow_cast-size
 overflow_cast-size c = record { fits = search bytes_fit }
 
-pub overflow_cast-size-in-Is : goal.overflow_cast-size-in-Is
-overflow_cast-size-in-Is c = record { fits = search numbers_fit }
+pub overflow_cast-size-2 : goal.overflow_cast-size-2
+overflow_cast-size-2 c = record { fits = search numbers_fit }
 
 pub overflow_add-size : goal.overflow_add-size
 overflow_add-size c = record { fits = search size_fits }
 
-pub returns-in-Is : goal.returns-in-Is
-returns-in-Is c = search term_made
+pub returns : goal.returns
+returns c =
+    term_made _ _ _ _ _ _ _ _ _ _ _ _ c.most_prefactors.ensures c.if-most_prefactors-n.false c.within.ensures c.in_ok-scale.was c.length.ensures refl c.boys.ensures
 
-pub returns-in-Wrong : goal.returns-in-Wrong
-returns-in-Wrong c = search term-wrong
+pub returns-in_err-scale : goal.returns-in_err-scale
+returns-in_err-scale c = rw c.from_residual.ensures (term-wrong _ _ _ _ _ _ _ c.most_prefactors.ensures c.if-most_prefactors-n.false c.within.ensures c.in_err-scale.was)

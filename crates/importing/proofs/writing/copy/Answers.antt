@@ -2,17 +2,17 @@
 use Rattle.importing.proofs.Putting.{copying-first, copying-room, copying-more, copying-wrong, copying-done}
 use Rattle.importing.proofs.writing.copy.Goals as goal
 
-pub loop-left-init : goal.loop-left-init
-loop-left-init c = search copying-first
+pub loop-done-init : goal.loop-done-init
+loop-done-init c = search copying-first
 
 pub put-to-requires : goal.put-to-requires
 put-to-requires c = search copying-room
 
-pub returns-in-Wrong : goal.returns-in-Wrong
-returns-in-Wrong c = search copying-wrong
+pub loop-done-preserved : goal.loop-done-preserved
+loop-done-preserved c = search copying-more
 
-pub loop-left-preserved : goal.loop-left-preserved
-loop-left-preserved c = search copying-more
+pub returns-in_default : goal.returns-in_default
+returns-in_default c = search copying-wrong
 
-pub returns : goal.returns
-returns c = search copying-done
+pub returns-after-loop-done : goal.returns-after-loop-done
+returns-after-loop-done c = search copying-done

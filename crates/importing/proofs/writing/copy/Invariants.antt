@@ -2,8 +2,5 @@
 use Rattle.importing.proofs.Putting.{Copying}
 use Rattle.importing.proofs.writing.copy.Given as goal
 
-abbrev pub invariant-loop-left : goal.invariant-loop-left
-invariant-loop-left l = Copying l.text l.at l.n l.initial.out l.place l.out l.from l.to l.left
-
-abbrev pub decreases-loop-left : goal.decreases-loop-left
-decreases-loop-left l = l.left
+abbrev pub invariant-loop-done : goal.invariant-loop-done
+invariant-loop-done l = Copying l.text l.at l.n l.initial.out l.place l.out l.from l.to l.done

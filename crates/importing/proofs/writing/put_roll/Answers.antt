@@ -8,8 +8,8 @@ copy-headed-requires c = search roll-room-head
 pub put_terms-requires : goal.put_terms-requires
 put_terms-requires c = search roll-room-terms
 
-pub returns-in-Line : goal.returns-in-Line
-returns-in-Line c = search roll-put
+pub returns-in-Some : goal.returns-in-Some
+returns-in-Some c = search roll-put
 
-pub returns-in-Broken : goal.returns-in-Broken
-returns-in-Broken c = search roll-broken
+pub returns-in_default : goal.returns-in_default
+returns-in_default c = search roll-broken

@@ -1,12 +1,9 @@
 -- `addend` meets its contract: a law for each case. Assumes nothing.
-use Rattle.integrals.proofs.SumsLaws.{adds-plain, adds-kinetic, adds-nuclear}
+use Rattle.integrals.proofs.SumsLaws.{adds-plain, adds-nuclear}
 use Rattle.integrals.proofs.sums.addend.Goals as goal
 
 pub returns-in-Plain : goal.returns-in-Plain
 returns-in-Plain c = search adds-plain
-
-pub returns-in-Kinetic : goal.returns-in-Kinetic
-returns-in-Kinetic c = search adds-kinetic
 
 pub returns-in-Nuclear : goal.returns-in-Nuclear
 returns-in-Nuclear c = search adds-nuclear

@@ -5,5 +5,5 @@ use Rattle.integrals.proofs.sums.float_at.Goals as goal
 pub returns-then-at-floats : goal.returns-then-at-floats
 returns-then-at-floats c = search read-inside
 
-pub returns : goal.returns
-returns c = search read-outside
+pub returns-else-at-floats : goal.returns-else-at-floats
+returns-else-at-floats c = search read-outside

@@ -2,8 +2,8 @@
 use Rattle.integrals.proofs.SumsLaws.{pass-more, pass-done}
 use Rattle.integrals.proofs.sums.pass.Goals as goal
 
-pub loop-left-preserved : goal.loop-left-preserved
-loop-left-preserved c = search pass-more
+pub loop-done-preserved : goal.loop-done-preserved
+loop-done-preserved c = search pass-more
 
 pub returns : goal.returns
 returns c = search pass-done

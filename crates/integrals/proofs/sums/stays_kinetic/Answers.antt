@@ -5,8 +5,8 @@ use Rattle.integrals.proofs.sums.stays_kinetic.Goals as goal
 pub loop-at-preserved : goal.loop-at-preserved
 loop-at-preserved c = search kinetic-more
 
-pub returns-else-wide-le7 : goal.returns-else-wide-le7
-returns-else-wide-le7 c = search kinetic-not
+pub returns-then-wide-gt7 : goal.returns-then-wide-gt7
+returns-then-wide-gt7 c = search kinetic-not
 
 pub returns : goal.returns
 returns c = search kinetic-done

@@ -6,8 +6,8 @@ use Rattle.integrals.proofs.sums.sum.Goals as goal
 pub addend-sum-requires : goal.addend-sum-requires
 addend-sum-requires c = search head-inside
 
-pub loop-left-preserved : goal.loop-left-preserved
-loop-left-preserved c = search sum_more
+pub loop-done-preserved : goal.loop-done-preserved
+loop-done-preserved c = search sum_more
 
 pub returns : goal.returns
 returns c = search sum_done

@@ -1,10 +1,6 @@
 -- `orders` meets its contract. The loop's invariant is `Ordering`: what was read so far before what is still to be read makes the whole. Assumes nothing.
-use Prim.Native.Nat.{◌-◌}
 use Rattle.roll.proofs.HeaderLaws.{Ordering}
 use Rattle.roll.proofs.header.orders.Given as goal
 
 abbrev pub invariant-loop-i : goal.invariant-loop-i
 invariant-loop-i l = Ordering l.roll l.at l.n l.values l.place l.sum l.l l.i
-
-abbrev pub decreases-loop-i : goal.decreases-loop-i
-decreases-loop-i l = l.n - l.i

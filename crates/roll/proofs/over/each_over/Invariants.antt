@@ -2,8 +2,5 @@
 use Rattle.roll.proofs.OverLaws.{Passing}
 use Rattle.roll.proofs.over.each_over.Given as goal
 
-abbrev pub invariant-loop-left : goal.invariant-loop-left
-invariant-loop-left l = Passing l.roll l.at l.count l.table l.place l.left
-
-abbrev pub decreases-loop-left : goal.decreases-loop-left
-decreases-loop-left l = l.left
+abbrev pub invariant-loop-done : goal.invariant-loop-done
+invariant-loop-done l = Passing l.roll l.at l.count l.table l.place l.done

@@ -2,8 +2,5 @@
 use Rattle.roll.proofs.OverLaws.{Going}
 use Rattle.roll.proofs.over.terms_over.Given as goal
 
-abbrev pub invariant-loop-left : goal.invariant-loop-left
-invariant-loop-left l = Going l.roll l.at l.terms l.boys l.most l.table l.place l.left
-
-abbrev pub decreases-loop-left : goal.decreases-loop-left
-decreases-loop-left l = l.left
+abbrev pub invariant-loop-done : goal.invariant-loop-done
+invariant-loop-done l = Going l.roll l.at l.terms l.boys l.most l.table l.place l.done

@@ -1,20 +1,20 @@
--- `term_count` meets its contract: a kind's limits fit a term's places. Assumes nothing.
+-- `term_count` meets its contract: a law for each way out. Assumes nothing.
+use borrow.Author.Rules.{rules}
 use native.Mathlib.Omega.{arith}
-use Rattle.roll.proofs.TermsLaws.{few-found}
-use Rattle.roll.proofs.TermsLaws.{few-prefactors, count-few, table-some, table_fits, counted, uncounted}
+use Rattle.roll.proofs.TermsLaws.{count-few, table-some, table_fits, counted, miscounted, uncounted}
 use Rattle.roll.proofs.terms.term_count.Goals as goal
 
-pub overflow_cast-most : goal.overflow_cast-most
-overflow_cast-most c = let a = c.args in omega (arith, few-prefactors a.kind a.l c.requires)
+pub returns-in_err-count : goal.returns-in_err-count
+returns-in_err-count c = search (rules, uncounted)
 
-pub prefactors-read-requires : goal.prefactors-read-requires
-prefactors-read-requires c = (search count-few, search table-some, search table_fits)
+pub prefactors-requires : goal.prefactors-requires
+prefactors-requires c = (search (rules, count-few), search (rules, table-some), search (rules, table_fits))
 
-pub with_prefactors-requires : goal.with_prefactors-requires
-with_prefactors-requires c = few-found _ _ _ _ _ (search count-few) c.prefactors-read.ensures
+pub returns-in_err-prefactors : goal.returns-in_err-prefactors
+returns-in_err-prefactors c = search (rules, miscounted)
 
-pub returns-in-Is : goal.returns-in-Is
-returns-in-Is c = search counted
+pub overflow_cast-term : goal.overflow_cast-term
+overflow_cast-term c = omega (arith, count-few _ _ _ _ _ _ _ _ c.requires c.most_prefactors-most.ensures c.within.ensures c.in_ok-count.was)
 
-pub returns-in-Refused : goal.returns-in-Refused
-returns-in-Refused c = search uncounted
+pub returns : goal.returns
+returns c = search (rules, counted)

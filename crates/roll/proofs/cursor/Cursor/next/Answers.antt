@@ -1,9 +1,10 @@
--- `Cursor::next` meets its contract: by the cursor's kind. Assumes nothing.
+-- `next` meets its contract: a law for each way out. Assumes nothing.
+use borrow.Author.Rules.{rules}
 use Rattle.roll.proofs.CursorLaws.{step-kind, step-unknown}
 use Rattle.roll.proofs.cursor.Cursor.next.Goals as goal
 
-pub returns-in-Is : goal.returns-in-Is
-returns-in-Is c = search step-kind
+pub returns-in-Some : goal.returns-in-Some
+returns-in-Some c = search (rules, step-kind)
 
-pub returns-in-Unknown : goal.returns-in-Unknown
-returns-in-Unknown c = search step-unknown
+pub returns-in-None : goal.returns-in-None
+returns-in-None c = search (rules, step-unknown)

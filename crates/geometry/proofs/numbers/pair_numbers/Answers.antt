@@ -1,5 +1,0 @@
--- `pair_numbers` meets its contract: the callees' promises put into its numbers. Assumes nothing.
-use Rattle.geometry.proofs.numbers.pair_numbers.Goals as goal
-
-pub returns : goal.returns
-returns c = rw (c.get_r12_squared-ab.ensures, c.bi_center_of-rp.ensures, c.point.ensures, c.point-2.ensures)

@@ -1,6 +1,0 @@
--- `with_b` meets its contract.
-use Rattle.steps.proofs.BranchesLaws.{both-units}
-use Rattle.steps.proofs.branches.with_b.Goals as goal
-
-pub returns : goal.returns
-returns c = search both-units

@@ -1,6 +1,0 @@
--- `with_c` meets its contract.
-use Rattle.steps.proofs.BranchesLaws.{both-units}
-use Rattle.steps.proofs.branches.with_c.Goals as goal
-
-pub returns : goal.returns
-returns c = search both-units
