@@ -39,7 +39,7 @@ fn refused(side: Side, fault: Fault) -> Told {
 
 // The head, and a line for each position that differs.
 fn text(c: Compared, left: &[u8], right: &[u8], lent: &mut [u8]) -> Told {
-    match comparing::head(c, lent, 0) {
+    match comparing::head(Ok(c), lent, 0) {
         Ok(n) => lines(c.cursor, c.differ, left, right, lent, n),
         Err(fault) => answers::refused_by(fault.refusal),
     }
@@ -52,7 +52,7 @@ fn lines(pair: Pair, count: u32, left: &[u8], right: &[u8], lent: &mut [u8], fro
         let Ok(Some(met)) = at.next(left, right) else {
             return answers::spoiled();
         };
-        match comparing::line(met, lent, long) {
+        match comparing::line(Ok(Some(met)), lent, long) {
             Ok(n) => long = crate::questions::sum(long, n),
             Err(fault) => return cut(fault.refusal, long),
         }

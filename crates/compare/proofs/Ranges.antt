@@ -20,7 +20,7 @@ use Rattle.comparing.specs.contracts.pair.Met as met-type
 use Rattle.comparing.specs.contracts.sides.Sided as sided-type
 use Rattle.comparing.specs.contracts.differ.Compared as compared-type
 use Rattle.comparing.specs.Answers.{piece_room, head_of, met_text, sided_text}
-use Rattle.comparing.proofs.Room.{Small, SmallLine, SmallHead, line-short, head-short, refusal-short}
+use Rattle.comparing.proofs.Room.{Small, SmallLine, SmallHead, met-short, rolls-short, refusal-short}
 
 small-term : (t : Held) (vs : List Val) → Is (row term.the_type) t vs → Small t
 small-term t vs p =
@@ -59,10 +59,10 @@ small-head c vs p =
     }
 
 pub met-room : (m : Met) (vs : List Val) → Is (row met-type.the_type) m vs → length (met_text m) ≤ piece_room
-met-room m vs p = let f = p.1.1 in line-short m f.0.1 (small_line m.line _ f.1.0)
+met-room m vs p = let f = p.1.1 in met-short m f.0.1 (small_line m.line _ f.1.0)
 
 pub head-room : (c : Compared) (vs : List Val) → Is (row compared-type.the_type) c vs → length (head_of c) ≤ piece_room
-head-room c vs p = head-short c (small-head c vs p)
+head-room c vs p = rolls-short c (small-head c vs p)
 
 pub refusal-room : (e : Sided) (vs : List Val) → Is (row sided-type.the_type) e vs → length (sided_text e) ≤ piece_room
 refusal-room e vs p = let fault = p.1.1.1.0.1.1 in refusal-short e fault.1.0.1

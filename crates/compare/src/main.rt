@@ -5,7 +5,7 @@
 
 ghost use Rattle.std.specs.Prelude.{◌≤◌, length, IfOk, IfSome, OnOk};
 ghost use Rattle.std.specs.Io.KnownBytes.{Appends};
-ghost use Rattle.comparing.specs.Answers.{piece_room, head_of, met_text, sided_text};
+ghost use Rattle.comparing.specs.Answers.{piece_room, head_of, compared_text, met_text, sided_text};
 ghost use Rattle.compare.specs.inner.Room.{Holds};
 
 use comparing::{Compared, Met, Pair, Sided};
@@ -33,12 +33,12 @@ struct File {
     whole: bool,
 }
 
-// How many bytes of text say what a comparison answers.
-fn told_head(compared: Compared, text: &mut [u8]) -> usize
+// How many bytes of text say what differs between two rolls that read.
+fn told_rolls(compared: Compared, text: &mut [u8]) -> usize
     requires { piece_room ≤ length text.old }
     ensures { Holds text.new result (head_of compared) }
 {
-    comparing::head(compared, text, 0).unwrap_or(0)
+    comparing::head(Ok(compared), text, 0).unwrap_or(0)
 }
 
 // How many bytes of text say what a step has met.
@@ -46,7 +46,7 @@ fn told_line(met: Met, text: &mut [u8]) -> usize
     requires { piece_room ≤ length text.old }
     ensures { Holds text.new result (met_text met) }
 {
-    comparing::line(met, text, 0).unwrap_or(0)
+    comparing::line(Ok(Some(met)), text, 0).unwrap_or(0)
 }
 
 // How many bytes of text say what is refused.
@@ -57,11 +57,26 @@ fn told_refusal(refused: Sided, text: &mut [u8]) -> usize
     comparing::refusal_line(refused, text, 0).unwrap_or(0)
 }
 
-fn write_head<W: Write>(out: &mut W, compared: Compared, text: &mut [u8]) -> io::Result<()>
+// How many bytes of text say what a comparison answers.
+fn told_head(answer: Result<Compared, Sided>, text: &mut [u8]) -> usize
     requires { piece_room ≤ length text.old }
-    ensures { OnOk result (Appends (W.contents out.old) (W.contents out.new) (head_of compared)) }
+    ensures { Holds text.new result (compared_text answer) }
 {
-    let n = told_head(compared, text);
+    match answer {
+        Ok(compared) => told_rolls(compared, text),
+        Err(refused) => told_refusal(refused, text),
+    }
+}
+
+fn write_head<W: Write>(
+    out: &mut W,
+    answer: Result<Compared, Sided>,
+    text: &mut [u8],
+) -> io::Result<()>
+    requires { piece_room ≤ length text.old }
+    ensures { OnOk result (Appends (W.contents out.old) (W.contents out.new) (compared_text answer)) }
+{
+    let n = told_head(answer, text);
     out.write_all(&text[0..n])
 }
 
@@ -70,14 +85,6 @@ fn write_line<W: Write>(out: &mut W, met: Met, text: &mut [u8]) -> io::Result<()
     ensures { OnOk result (Appends (W.contents out.old) (W.contents out.new) (met_text met)) }
 {
     let n = told_line(met, text);
-    out.write_all(&text[0..n])
-}
-
-fn write_refusal<W: Write>(out: &mut W, refused: Sided, text: &mut [u8]) -> io::Result<()>
-    requires { piece_room ≤ length text.old }
-    ensures { OnOk result (Appends (W.contents out.old) (W.contents out.new) (sided_text refused)) }
-{
-    let n = told_refusal(refused, text);
     out.write_all(&text[0..n])
 }
 
@@ -101,12 +108,11 @@ fn write_lines<W: Write>(
 
 fn show<W: Write>(out: &mut W, left: &[u8], right: &[u8]) -> io::Result<()> {
     let mut text = [0u8; PIECE];
-    match comparing::compare(left, right) {
-        Ok(compared) => {
-            write_head(out, compared, &mut text)?;
-            write_lines(out, left, right, compared.cursor, &mut text)
-        }
-        Err(refused) => write_refusal(out, refused, &mut text),
+    let answer = comparing::compare(left, right);
+    write_head(out, answer, &mut text)?;
+    match answer {
+        Ok(compared) => write_lines(out, left, right, compared.cursor, &mut text),
+        Err(_) => Ok(()),
     }
 }
 

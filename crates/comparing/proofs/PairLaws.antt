@@ -6,10 +6,10 @@ use mathlib.Core.Bool.{Bool, true, false, ◌&&◌}
 use mathlib.Core.List.{List, [], ◌∷◌}
 use borrow.Author.Tests.{le-ltb}
 use lib.Dec.{eqb}
-use Rattle.std.specs.Prelude.{Option, Some, None, Result, Ok, Err}
+use Rattle.std.specs.Prelude.{cond, Option, Some, None, Result, Ok, Err}
 use Rattle.std.specs.Cmp.Lexicographic.{pointwise}
 use Rattle.kind.specs.Limits.{most_terms}
-use Rattle.laws.proofs.Cases.{clash, false-not-true}
+use Rattle.laws.proofs.Cases.{clash, tested, false-not-true}
 use Rattle.form2.specs.declared.cursor.Cursor2.{Cursor2}
 use Rattle.form2.specs.declared.cursor.Step2.{Step2}
 use Rattle.form2.specs.Cursor.{Stepped2}
@@ -20,7 +20,8 @@ use Rattle.comparing.specs.declared.sides.Side.TheVariants as side
 use Rattle.comparing.specs.declared.sides.Sided.{Sided}
 use Rattle.comparing.specs.Sides.{step_side, on_side}
 use Rattle.laws.specs.Same.{same_numbers}
-use Rattle.comparing.specs.Pairs.{number_after, same_line, Answered, met_by, position, turn_as, turn_of, over_same, met_from, next_of}
+use Rattle.comparing.specs.inner.Behind.{behind_both, behind_as}
+use Rattle.comparing.specs.Pairs.{number_after, same_held, same_line, Answered, met_by, position, turn_as, turn_of, over_same, met_from, next_of}
 use Rattle.comparing.proofs.SidesLaws.{side-ok, side-err, step_falls}
 
 -- ---- the same numbers
@@ -125,27 +126,70 @@ pub record Going (s t : List ℕ) (first p : Pair) : Type 0 where
 pub going-first : (s t : List ℕ) (p : Pair) → Going s t p p
 going-first s t p = record { whole = refl }
 
-pub going_less : (s t : List ℕ) (p : Pair) (x : Answered) (o : Option Met) (m : Met) (b : Bool) → x ≡ turn_of p s t → x ≡ Ok o → o ≡ Some m → b ≡ same_line m.line → b ≡ true → m.next.left.cursor.left < p.left.cursor.left
-going_less s t p x o m b is ok some same on =
-    let turn : turn_of p s t ≡ Ok (Some m) = sym is ∙ ok ∙ ap (λ (o : Option Met). Ok o) some in
-    let f = same-falls p s t m turn (sym same ∙ on) in
-    omega (arith, f.0, f.1)
+-- ---- a position that is gone over, and one that is told
 
-module _ (s t : List ℕ) (first p : Pair) (x : Answered) (o : Option Met) where
-  pub going_more : (m : Met) (b : Bool) → Going s t first p → x ≡ turn_of p s t → x ≡ Ok o → o ≡ Some m → b ≡ same_line m.line → b ≡ true → Going s t first m.next
-  going_more m b g is ok some same on =
-      let turn : turn_of p s t ≡ Ok (Some m) = sym is ∙ ok ∙ ap (λ (o : Option Met). Ok o) some in
-      record { whole = sym (turn-over p s t m turn (sym same ∙ on)) ∙ g.whole }
+over-terms : (p q : Pair) (l r : Step2) → behind_as p.number (Some l) (Some r) ≡ Some q → same_held l.term r.term ≡ true
+over-terms p q l r is =
+    tested (same_held l.term r.term)
+    (λ on. on)
+    (λ off.
+    let none : None ≡ Some q = ap (λ (b : Bool). cond b (Some (behind_both p.number l r)) None) (sym off) ∙ is in
+    absurd (clash (cc)))
 
-  pub going_met : (m : Met) (b : Bool) → Going s t first p → x ≡ turn_of p s t → x ≡ Ok o → o ≡ Some m → b ≡ same_line m.line → b ≡ false → Ok (Some m) ≡ next_of first s t
-  going_met m b g is ok some same off =
-      let turn : turn_of p s t ≡ Ok (Some m) = sym is ∙ ok ∙ ap (λ (o : Option Met). Ok o) some in
-      sym (turn-next p s t m turn (sym same ∙ off)) ∙ g.whole
+told-terms : (p : Pair) (l r : Step2) → behind_as p.number (Some l) (Some r) ≡ None → same_held l.term r.term ≡ false
+told-terms p l r is =
+    tested (same_held l.term r.term)
+    (λ on.
+    let some : Some (behind_both p.number l r) ≡ None = ap (λ (b : Bool). cond b (Some (behind_both p.number l r)) None) (sym on) ∙ is in
+    absurd (clash (cc)))
+    (λ off. off)
 
-  pub going_end : Going s t first p → x ≡ turn_of p s t → x ≡ Ok o → o ≡ None → Ok None ≡ next_of first s t
-  going_end g is ok none =
-      let turn : turn_of p s t ≡ Ok None = sym is ∙ ok ∙ ap (λ (o : Option Met). Ok o) none in
-      sym (turn-end p s t turn) ∙ g.whole
+-- what is gone over is a position with the same term on both sides
+behind-some : (p q : Pair) (l r : Option Step2) → behind_as p.number l r ≡ Some q → (m : Met) × (position l r p ≡ Some m) × (same_line m.line ≡ true) × (m.next ≡ q)
+behind-some p q (Some l) (Some r) is =
+    let on = over-terms p q l r is in
+    let some : Some (behind_both p.number l r) ≡ Some q = ap (λ (b : Bool). cond b (Some (behind_both p.number l r)) None) (sym on) ∙ is in
+    let made : behind_both p.number l r ≡ q = cc in
+    (met_by p.number (line.Both l.term r.term) l.next r.next, refl, on, made)
+behind-some p q (Some l) None is = absurd (clash (cc))
+behind-some p q None r is = absurd (clash (cc))
 
-pub going-refused : (s t : List ℕ) (first p : Pair) (x : Answered) (d : Sided) → Going s t first p → x ≡ turn_of p s t → x ≡ Err d → Err d ≡ next_of first s t
-going-refused s t first p x d g is e = sym (turn-refused p s t d (sym is ∙ e)) ∙ g.whole
+module _ (s t : List ℕ) (first p : Pair) (u v : Result (Option Step2) Sided) (l r : Option Step2) (one : u ≡ on_side side.Left (step_side p.left s)) (ok : u ≡ Ok l) (two : v ≡ on_side side.Right (step_side p.right t)) (also : v ≡ Ok r) where
+  turned : Ok (position l r p) ≡ turn_of p s t
+  turned = turn_is p s t u v l r (position l r p) one ok two also refl
+
+  met-over : (q : Pair) → behind_as p.number l r ≡ Some q → (m : Met) × (turn_of p s t ≡ Ok (Some m)) × (same_line m.line ≡ true) × (m.next ≡ q)
+  met-over q is =
+      let f = behind-some p q l r is in
+      (f.0, sym turned ∙ ap (λ (o : Option Met). Ok o) f.1, f.2, f.3)
+
+  pub going_less : (o : Option Pair) (q : Pair) → o ≡ behind_as p.number l r → o ≡ Some q → q.left.cursor.left < p.left.cursor.left
+  going_less o q is some =
+      let f = met-over q (sym is ∙ some) in
+      let falls = same-falls p s t f.0 f.1 f.2 in
+      let left : f.0.next.left.cursor.left ≡ q.left.cursor.left = ap (λ (q : Pair). q.left.cursor.left) f.3 in
+      omega (arith, falls.0, falls.1, left)
+
+  pub going_more : (o : Option Pair) (q : Pair) → Going s t first p → o ≡ behind_as p.number l r → o ≡ Some q → Going s t first q
+  going_more o q g is some =
+      let f = met-over q (sym is ∙ some) in
+      record { whole = ap (λ (q : Pair). next_of q s t) (sym f.3) ∙ sym (turn-over p s t f.0 f.1 f.2) ∙ g.whole }
+
+-- the position that is told: one that differs, or none
+told-next : (p : Pair) (s t : List ℕ) (l r : Option Step2) → Ok (position l r p) ≡ turn_of p s t → behind_as p.number l r ≡ None → Ok (position l r p) ≡ next_of p s t
+told-next p s t (Some l) (Some r) turn is = sym (turn-next p s t (met_by p.number (line.Both l.term r.term) l.next r.next) (sym turn) (told-terms p l r is))
+told-next p s t (Some l) None turn is = sym (turn-next p s t (met_by p.number (line.Left l.term) l.next p.right) (sym turn) refl)
+told-next p s t None (Some r) turn is = sym (turn-next p s t (met_by p.number (line.Right r.term) p.left r.next) (sym turn) refl)
+told-next p s t None None turn is = sym (turn-end p s t (sym turn))
+
+pub going_told : (s t : List ℕ) (first p : Pair) (u v : Result (Option Step2) Sided) (l r : Option Step2) → Going s t first p → u ≡ on_side side.Left (step_side p.left s) → u ≡ Ok l → v ≡ on_side side.Right (step_side p.right t) → v ≡ Ok r → (o : Option Pair) → o ≡ behind_as p.number l r → o ≡ None → (x : Option Met) → x ≡ position l r p → Ok x ≡ next_of first s t
+going_told s t first p u v l r g one ok two also o is none x told =
+    ap (λ (x : Option Met). Ok x) told
+    ∙ told-next p s t l r (turn_is p s t u v l r (position l r p) one ok two also refl) (sym is ∙ none)
+    ∙ g.whole
+
+pub going-refused-left : (s t : List ℕ) (first p : Pair) (u : Result (Option Step2) Sided) (d : Sided) → Going s t first p → u ≡ on_side side.Left (step_side p.left s) → u ≡ Err d → Err d ≡ next_of first s t
+going-refused-left s t first p u d g one e = sym (turn-refused p s t d (sym (turn-refused-left p s t u d one e))) ∙ g.whole
+
+pub going-refused-right : (s t : List ℕ) (first p : Pair) (u v : Result (Option Step2) Sided) (l : Option Step2) (d : Sided) → Going s t first p → u ≡ on_side side.Left (step_side p.left s) → u ≡ Ok l → v ≡ on_side side.Right (step_side p.right t) → v ≡ Err d → Err d ≡ next_of first s t
+going-refused-right s t first p u v l d g one ok two e = sym (turn-refused p s t d (sym (turn-refused-right p s t u v l d one ok two e))) ∙ g.whole

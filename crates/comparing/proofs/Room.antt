@@ -5,6 +5,7 @@ use mathlib.Core.Path.{◌≡◌}
 use mathlib.Core.Bool.{Bool, true, false}
 use mathlib.Core.List.{List, [], ◌∷◌, ◌++◌}
 use lib.ListN.{length, take, length-append}
+use Rattle.std.specs.Prelude.{Some, None, Result, Ok, Err}
 use Rattle.kind.specs.Limits.{most_l·any, request_orders}
 use Rattle.number.specs.Numbers.{Bytes}
 use Rattle.term.specs.declared.Term.{Term as Held}
@@ -23,7 +24,8 @@ use Rattle.comparing.specs.declared.sides.Side.{Side}
 use Rattle.comparing.specs.declared.sides.Side.TheVariants as side
 use Rattle.comparing.specs.declared.sides.Sided.{Sided}
 use Rattle.comparing.specs.Text.{both, terms_word, both_word, left_word, right_word, count_line, pair_line, orders_line, reading_text, numbered_text, one_line, line_text, side_end, refused_text}
-use Rattle.comparing.specs.Answers.{used_of, head_of, sided_text, position_as, met_text, piece_room}
+use Rattle.comparing.specs.Pairs.{Answered}
+use Rattle.comparing.specs.Answers.{used_of, head_of, compared_text, sided_text, position_as, met_text, answered_text, piece_room}
 
 -- ---- a number's decimal
 
@@ -90,9 +92,9 @@ line-most (line.Both l r) n few small = both_most n l r few small.0 small.1
 line-most (line.Left l) n few small = omega (arith, one-most n left_word l few small)
 line-most (line.Right r) n few small = omega (arith, one-most n right_word r few small)
 
-pub line-short : (m : Met) → m.number < 2 ^ 32 → SmallLine m.line → length (met_text m) ≤ piece_room
+pub met-short : (m : Met) → m.number < 2 ^ 32 → SmallLine m.line → length (met_text m) ≤ piece_room
 unfolding met_text
-line-short m few small = line-most m.line m.number few small
+met-short m few small = line-most m.line m.number few small
 
 -- ---- a refusal
 
@@ -167,9 +169,9 @@ pub record SmallHead (c : Compared) : Type 0 where
   pub left-long : length c.left ≡ request_orders
   pub right-long : length c.right ≡ request_orders
 
-pub head-short : (c : Compared) → SmallHead c → length (head_of c) ≤ piece_room
+pub rolls-short : (c : Compared) → SmallHead c → length (head_of c) ≤ piece_room
 unfolding head_of
-head-short c small =
+rolls-short c small =
     let l = c.cursor.left.cursor in
     let r = c.cursor.right.cursor in
     simp length-append
@@ -180,3 +182,25 @@ head-short c small =
       orders-most c.orders (used_of l.kind) (used_of r.kind) c.left c.right small.left-bytes small.right-bytes small.left-long small.right-long,
       terms-most c.terms l.left r.left small.left-terms small.right-terms,
     ))
+
+-- ---- what a comparison and a step answer
+
+-- what the numbers of a comparison's answer are within
+abbrev pub SmallCompared : Result Compared Sided → Type 0
+SmallCompared (Ok c) = SmallHead c
+SmallCompared (Err e) = e.fault.place < 2 ^ 64
+
+pub head-short : (a : Result Compared Sided) → SmallCompared a → length (compared_text a) ≤ piece_room
+head-short (Ok c) small = rolls-short c small
+head-short (Err e) small = refusal-short e small
+
+-- what the numbers of a step's answer are within
+abbrev pub SmallAnswered : Answered → Type 0
+SmallAnswered (Ok (Some m)) = (m.number < 2 ^ 32) × SmallLine m.line
+SmallAnswered (Ok None) = 0 ≤ piece_room
+SmallAnswered (Err e) = e.fault.place < 2 ^ 64
+
+pub line-short : (a : Answered) → SmallAnswered a → length (answered_text a) ≤ piece_room
+line-short (Ok (Some m)) small = met-short m small.0 small.1
+line-short (Ok None) small = small
+line-short (Err e) small = refusal-short e small

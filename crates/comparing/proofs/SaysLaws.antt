@@ -4,7 +4,7 @@ use native.Mathlib.Omega.{arith}
 use mathlib.Core.Path.{◌≡◌, sym, ap, ◌∙◌}
 use mathlib.Core.Bool.{Bool, true, false}
 use mathlib.Core.List.{List, ◌++◌}
-use borrow.Author.Tests.{leb-true, leb-false}
+use borrow.Author.Tests.{leb-true, leb-false, le-leb}
 use lib.Dec.{leb}
 use lib.ListN.{length, take, drop}
 use lib.Seq.{take_all}
@@ -23,10 +23,13 @@ use Rattle.kind.specs.Refusals.{refusal_number}
 use Rattle.comparing.specs.declared.differ.Compared.{Compared}
 use Rattle.comparing.specs.declared.pair.Met.{Met}
 use Rattle.comparing.specs.declared.pair.Line.TheVariants as line
+use Rattle.comparing.specs.declared.pieces.Piece.{Piece}
+use Rattle.comparing.specs.declared.pieces.Piece.TheVariants as piece
 use Rattle.comparing.specs.declared.sides.Side.TheVariants as side
 use Rattle.comparing.specs.declared.sides.Sided.{Sided}
 use Rattle.comparing.specs.Text.{both, differ_word, orders_word, terms_word, bar, bar_blank, both_word, left_word, right_word, left_end, right_end, count_line, pair_line, orders_line, reading_text, numbered_text, one_line, line_text, refused_text}
 use Rattle.comparing.specs.Answers.{used_of, head_of, sided_text, met_text}
+use Rattle.comparing.specs.inner.Piece.{piece_text}
 
 -- ---- a row
 
@@ -109,6 +112,11 @@ used-said room kind n name os a b c w q r is one two =
 pub head-said : (room : ℕ) (k : Compared) (a b c d : List ℕ) (w x y : Option ℕ) → Said room a (Some 0) (count_line k.differ ++ pair_line k.kinds kind_word k.cursor.left.cursor.kind k.cursor.right.cursor.kind) w b → Said room b w (orders_line k.orders (take (used_of k.cursor.left.cursor.kind) k.left) (take (used_of k.cursor.right.cursor.kind) k.right)) x c → Said room c x (pair_line k.terms terms_word k.cursor.left.cursor.left k.cursor.right.cursor.left) y d → Said room a (Some 0) (head_of k) y d
 unfolding head_of
 head-said room k a b c d w x y one two three = said-both one (said-both two three)
+
+-- ---- the end
+
+pub end-said : (room : ℕ) (p : Piece) (a : List ℕ) → p ≡ piece.End → Said room a (Some 0) (piece_text p) (Some 0) a
+end-said room p a is = rw is (said-none room a (Some 0) (rw (le-leb 0 room (omega arith))))
 
 -- ---- a position's line
 

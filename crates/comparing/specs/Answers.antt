@@ -17,7 +17,7 @@ use Rattle.comparing.specs.declared.pair.Met.{Met}
 use Rattle.comparing.specs.declared.sides.Side.TheVariants as side
 use Rattle.comparing.specs.declared.sides.Sided.{Sided}
 use Rattle.comparing.specs.Sides.{side_at, open_side, refused_on}
-use Rattle.comparing.specs.Pairs.{lines_of}
+use Rattle.comparing.specs.Pairs.{Answered, lines_of}
 use Rattle.comparing.specs.Text.{Difference, both, left, right, differences, kinds_differ, orders_differ, terms_differ, count_line, pair_line, orders_line, line_text, refused_text, terms_word}
 
 -- ---- the comparison
@@ -94,6 +94,12 @@ position_of m = position_as m.line m.number
 
 unfoldable pub met_text : Met → List ℕ
 met_text m = line_text (position_of m)
+
+-- the line of what a step answers: of its position, no bytes at the end, or of a refusal
+abbrev pub answered_text : Answered → List ℕ
+answered_text (Ok (Some m)) = met_text m
+answered_text (Ok None) = []
+answered_text (Err e) = sided_text e
 
 -- one line after the other
 unfoldable pub pieces_text : List Met → List ℕ

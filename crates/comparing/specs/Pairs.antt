@@ -1,5 +1,5 @@
 -- 02, Q-4: both rolls gone through beside each other, position by position; a step goes on to the next that differs.
-use Rattle.std.specs.Prelude.{ℕ, zero, suc, ◌+◌, Bool, false, cond, ◌&&◌, List, [], ◌∷◌, ltb, eqb, Option, Some, None, Result, Ok, Err}
+use Rattle.std.specs.Prelude.{ℕ, zero, suc, ◌+◌, Bool, true, false, cond, ◌&&◌, List, [], ◌∷◌, ltb, eqb, Option, Some, None, Result, Ok, Err}
 use Rattle.kind.specs.Limits.{most_terms}
 use Rattle.term.specs.declared.Term.{Term as Held}
 use Rattle.form2.specs.declared.cursor.Cursor2.{Cursor2}
@@ -68,6 +68,12 @@ unfoldable pub next_of : Pair → List ℕ → List ℕ → Answered
 next_of p s t = met_from p.left.cursor.left p s t
 
 -- ---- stepping from a pair on
+
+-- what has a line of its own: a position that differs
+abbrev pub is_line : Answered → Bool
+is_line (Ok (Some m)) = true
+is_line (Ok None) = false
+is_line (Err e) = false
 
 -- a position that differs, and those behind it
 abbrev pub lines_with : Answered → (Pair → List Met) → List Met

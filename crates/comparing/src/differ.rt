@@ -2,11 +2,11 @@
 ghost use Rattle.std.specs.Prelude.{◌≡◌, ◌≤◌, ◌*◌, not, length, take, Ok};
 ghost use Rattle.kind.specs.Limits.{most_terms};
 ghost use Rattle.laws.specs.Same.{same_numbers};
-ghost use Rattle.comparing.specs.Pairs.{terms_left, lines_of};
+ghost use Rattle.comparing.specs.Pairs.{is_line, terms_left, lines_of};
 ghost use Rattle.comparing.specs.Answers.{compared_of, used_of};
 ghost use Rattle.comparing.specs.inner.Judged.{Judged};
 
-use crate::pair::Pair;
+use crate::pair::{Met, Pair};
 use crate::sides::{Side, Sided};
 use form2::Opened2;
 use kind::Kind;
@@ -22,6 +22,16 @@ pub struct Compared {
     pub left: [u8; Kind::ORDERS],
     pub right: [u8; Kind::ORDERS],
     pub cursor: Pair,
+}
+
+// Whether a step has met a position that differs.
+pub fn is_line(answer: Result<Option<Met>, Sided>) -> bool
+    ensures { result ≡ is_line answer }
+{
+    match answer {
+        Ok(Some(_)) => true,
+        Ok(None) | Err(_) => false,
+    }
 }
 
 // How many positions the steps from a pair on give.

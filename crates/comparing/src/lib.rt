@@ -7,7 +7,7 @@ mod pieces;
 mod says;
 mod sides;
 
-pub use differ::{Compared, compare};
+pub use differ::{Compared, compare, is_line};
 pub use pair::{Line, Met, Pair};
 pub use pieces::{head, line, refusal_line};
 pub use sides::{Side, Sided};

@@ -1,6 +1,7 @@
 // Both rolls gone through beside each other: a step by value goes on to the next position that differs.
 ghost use Rattle.std.specs.Prelude.{◌≡◌};
-ghost use Rattle.comparing.specs.Pairs.{number_after, same_held, same_line, met_by, position, turn_of, next_of};
+ghost use Rattle.comparing.specs.Pairs.{number_after, same_held, met_by, position, next_of};
+ghost use Rattle.comparing.specs.inner.Behind.{behind_as};
 
 use crate::sides::{Side, Sided};
 use form2::{Cursor2, Step2};
@@ -31,23 +32,15 @@ pub struct Met {
     pub next: Pair,
 }
 
-fn same_held(left: Term, right: Term) -> bool
-    ensures { result ≡ same_held left right }
+// Out of line, since terms that are read where they stand are compared eight bytes at a time.
+#[inline(never)]
+fn same_held(left: &Term, right: &Term) -> bool
+    ensures { result ≡ same_held left.now right.now }
 {
     left.scale == right.scale
         && left.boys == right.boys
         && left.count == right.count
         && left.prefactors == right.prefactors
-}
-
-// Whether both sides have the same term.
-fn same_line(line: Line) -> bool
-    ensures { result ≡ same_line line }
-{
-    match line {
-        Line::Both(left, right) => same_held(left, right),
-        Line::Left(_) | Line::Right(_) => false,
-    }
 }
 
 fn number_after(number: u32) -> u32
@@ -88,26 +81,32 @@ fn position(pair: Pair, left: Option<Step2>, right: Option<Step2>) -> Option<Met
 }
 
 impl Pair {
-    // The position where both readers stand, or none at the end; the left side's refusal comes first.
-    fn turn(self, left: &[u8], right: &[u8]) -> Result<Option<Met>, Sided>
-        ensures { result ≡ turn_of self left.now right.now }
+    // The pair behind a position that has the same term on both sides; none where it has not.
+    fn behind(self, left: &Option<Step2>, right: &Option<Step2>) -> Option<Pair>
+        ensures { result ≡ behind_as self.number left.now right.now }
     {
-        let l = Side::Left.step(left, self.left)?;
-        let r = Side::Right.step(right, self.right)?;
-        Ok(position(self, l, r))
+        match (left, right) {
+            (Some(l), Some(r)) if same_held(&l.term, &r.term) => Some(Pair {
+                left: l.next,
+                right: r.next,
+                number: number_after(self.number),
+            }),
+            _ => None,
+        }
     }
 
-    // The next position that differs, or none at the end.
+    // The next position that differs, or none at the end; the left side's refusal comes first. What is the same is never laid down.
     pub fn next(self, left: &[u8], right: &[u8]) -> Result<Option<Met>, Sided>
         ensures { result ≡ next_of self left.now right.now }
     {
         let mut at = self;
-        while let Some(met) = at.turn(left, right)? {
-            if !same_line(met.line) {
-                return Ok(Some(met));
+        loop {
+            let l = Side::Left.step(left, at.left)?;
+            let r = Side::Right.step(right, at.right)?;
+            match at.behind(&l, &r) {
+                Some(next) => at = next,
+                None => return Ok(position(at, l, r)),
             }
-            at = met.next;
         }
-        Ok(None)
     }
 }

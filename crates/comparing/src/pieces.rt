@@ -1,9 +1,8 @@
-// The pieces of a comparison's text, each into a lent buffer: the head, then the line of one position after the other, or the line of
-// a refusal.
+// The pieces of a comparison's text, each into a lent buffer: what a comparison answers, then what one step after the other does.
 ghost use Rattle.std.specs.Prelude.{Some};
 ghost use Rattle.saying.specs.Said.{Said};
 ghost use Rattle.listing.specs.Answers.{TextTold};
-ghost use Rattle.comparing.specs.Answers.{head_of, met_text, sided_text};
+ghost use Rattle.comparing.specs.Answers.{head_of, compared_text, met_text, answered_text, sided_text};
 ghost use Rattle.comparing.specs.inner.Piece.{piece_text};
 
 use crate::differ::Compared;
@@ -12,11 +11,12 @@ use crate::says::{say_both, say_first, say_one, say_orders, say_pair, say_refuse
 use crate::sides::Sided;
 use kind::{Fault, Refusal};
 
-// One of them.
+// One of them; the end has no bytes.
 #[derive(Clone, Copy)]
 enum Piece {
     Head(Compared),
     Position(Met),
+    End,
     Refusal(Sided),
 }
 
@@ -58,6 +58,7 @@ fn say_piece(out: &mut [u8], room: usize, piece: Piece) -> Option<usize>
     match piece {
         Piece::Head(compared) => say_head(out, room, compared),
         Piece::Position(met) => say_met(out, room, met),
+        Piece::End => Some(0),
         Piece::Refusal(refused) => say_refused(out, room, refused),
     }
 }
@@ -77,18 +78,29 @@ fn told(piece: Piece, out: &mut [u8], start: usize) -> Result<usize, Fault>
     Ok(length)
 }
 
-// The first lines of what a comparison says.
-pub fn head(compared: Compared, out: &mut [u8], start: usize) -> Result<usize, Fault>
-    ensures { TextTold (head_of compared) out.old start result out.new }
+// The first lines of what a comparison answers, or its refusal's line.
+pub fn head(answer: Result<Compared, Sided>, out: &mut [u8], start: usize) -> Result<usize, Fault>
+    ensures { TextTold (compared_text answer) out.old start result out.new }
 {
-    told(Piece::Head(compared), out, start)
+    match answer {
+        Ok(compared) => told(Piece::Head(compared), out, start),
+        Err(refused) => told(Piece::Refusal(refused), out, start),
+    }
 }
 
-// The line of a position that differs.
-pub fn line(met: Met, out: &mut [u8], start: usize) -> Result<usize, Fault>
-    ensures { TextTold (met_text met) out.old start result out.new }
+// The line of what a step answers: of a position that differs, of none at the end, or of a refusal.
+pub fn line(
+    answer: Result<Option<Met>, Sided>,
+    out: &mut [u8],
+    start: usize,
+) -> Result<usize, Fault>
+    ensures { TextTold (answered_text answer) out.old start result out.new }
 {
-    told(Piece::Position(met), out, start)
+    match answer {
+        Ok(Some(met)) => told(Piece::Position(met), out, start),
+        Ok(None) => told(Piece::End, out, start),
+        Err(refused) => told(Piece::Refusal(refused), out, start),
+    }
 }
 
 // The line of a refusal, which stands alone.

@@ -63,7 +63,8 @@ fn check_side(roll: &[u8]) -> Result<Opened2, Fault>
     Ok(as_opened2(opened))
 }
 
-// The next term and the cursor one term further on, or none at the end.
+// The next term and the cursor one term further on, or none at the end. It stands out of line, so that what it answers is laid down once.
+#[inline(never)]
 #[tactic(auto, unfolding(crate::specs::Sides::step_side))]
 fn step_side(roll: &[u8], at: Cursor2) -> Result<Option<Step2>, Fault>
     ensures { result ≡ step_side at roll.now }
@@ -71,8 +72,10 @@ fn step_side(roll: &[u8], at: Cursor2) -> Result<Option<Step2>, Fault>
     if is_form2(roll) {
         return at.next(roll);
     }
-    let step = at.cursor.next(roll)?;
-    Ok(step.map(as_step2))
+    match at.cursor.next(roll)? {
+        Some(step) => Ok(Some(as_step2(step))),
+        None => Ok(None),
+    }
 }
 
 impl Side {
@@ -84,6 +87,7 @@ impl Side {
     }
 
     // Its next term and the cursor one term further on, or none at the end.
+    #[inline(always)]
     pub(crate) fn step(self, roll: &[u8], at: Cursor2) -> Result<Option<Step2>, Sided>
         ensures { result ≡ on_side self (step_side at roll.now) }
     {

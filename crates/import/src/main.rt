@@ -3,6 +3,8 @@
 // Where the text is refused, the line of the refusal comes in place of the roll.
 #![tactic(auto)]
 
+ghost use Rattle.std.specs.Prelude.{◌≡◌, ◌<◌, ◌↔◌, length, take, IsSome, IfSome};
+
 use importing::ImportFault;
 use kind::Refusal;
 use std::io;
@@ -36,15 +38,26 @@ fn answer(rt: &(impl Print + Alloc), text: &[u8], room: usize) -> io::Result<()>
     }
 }
 
-// The answer by way of larger buffers, for a text that begins so. A text that fills the buffer is longer than any that a roll has.
+// The text of so many bytes of a buffer; none where it fills the buffer, since it is then longer than any that a roll has.
+fn whole(bytes: &[u8], n: usize) -> Option<&[u8]>
+    ensures shorter { IsSome result ↔ n < length bytes.now }
+    ensures text { IfSome result (λ text. text.now ≡ take n bytes.now) }
+{
+    if bytes.len() <= n {
+        return None;
+    }
+    Some(&bytes[..n])
+}
+
+// The answer by way of larger buffers, for a text that begins so.
 fn in_large(rt: &(impl Input + Print + Alloc), first: &[u8]) -> io::Result<()> {
     let mut bytes = vec![in rt.alloc(); 0u8; LARGE_TEXT]?;
     let n = read_behind(&mut rt.reader(), &mut bytes, first)?;
-    if bytes.len() <= n {
+    let Some(text) = whole(&bytes, n) else {
         let refusal = Refusal::NoRoom;
         return say_refused(rt, ImportFault { refusal, line: 0 });
-    }
-    answer(rt, &bytes[..n], LARGE)
+    };
+    answer(rt, text, LARGE)
 }
 
 fn main(rt: HostRuntime) -> io::Result<()> {

@@ -7,6 +7,9 @@ use native.Mathlib.Numerals.{add-one}
 use native.Mathlib.Nat.{suc-mul}
 use native.Mathlib.Omega.{arith}
 use borrow.Author.Tests.{eq-eqb, ne_eqb, leb-true, le-leb, lt-leb}
+use denote.Laws.{Is as Held}
+use denote.Struct.Declared.{row}
+use mir.Val.{Val}
 use lib.Dec.{leb, eqb}
 use lib.Ieee.{Float}
 use lib.ListN.{length, take, drop, get_or, drop_of_length-le}
@@ -41,8 +44,15 @@ use Rattle.integrals.specs.Sums.{kinetic_start, total_of, factor_of, integral_of
 use Rattle.integrals.specs.Values.{Value, refused_unless, result_of}
 use Rattle.integrals.specs.inner.Stored.{again_from}
 use Rattle.nuclei.specs.declared.Nuclei.{Nuclei}
+use Rattle.nuclei.specs.contracts.Nuclei as nuclei-type
 use Rattle.nuclei.specs.Nuclei.{most_nuclei, nuclei_of, list_kept, inputs_finite, boys_counted, charged_value, sum_from, list_of, is_nuclear, of_roll, nuclear_of}
 use Rattle.nuclei.specs.inner.Listed.{product_of, summed_from, of_cursor}
+
+-- ---- the list
+
+-- the array has its 32 places
+pub centres-long : (n : Nuclei) (vs : List Val) → Held (row nuclei-type.the_type) n vs → length n.centres ≡ most_nuclei
+centres-long n vs p = p.1.1.0.1.0.1
 
 -- ---- check 17
 

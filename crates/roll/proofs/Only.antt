@@ -2,10 +2,11 @@
 use Prim.Native.Nat.{ℕ}
 use contract.Lifetimes.{Lfts}
 use Rattle.kind.specs.declared.Kind.{Kind}
+use Rattle.kind.specs.declared.refusals.Refusal.{Refusal}
 use Rattle.laws.proofs.Contract.{Alone, alone, Shown, ◌▸◌, end}
 use Rattle.roll.specs.declared.cursor.Cursor.{Cursor}
 use Rattle.roll.specs.Cursor.{no_cursor, step_of}
-use Rattle.roll.specs.Header.{open_kind_of, open_of, check_of}
+use Rattle.roll.specs.Header.{refused_opened, open_kind_of, open_of, check_of}
 use Rattle.roll.specs.Reading.{within_at, most_boys}
 use Rattle.roll.specs.inner.Again.{seen_at, head_at, boys_at, end_at}
 use Rattle.roll.proofs.again.number_at.Reads.{Post as NumberAt}
@@ -17,11 +18,15 @@ use Rattle.roll.proofs.cursor.no_cursor.Reads.{Post as NoCursor}
 use Rattle.roll.proofs.field.within.Reads.{Post as Within}
 use Rattle.roll.proofs.header.open.Reads.{Post as Open}
 use Rattle.roll.proofs.header.open_kind.Reads.{Post as OpenKind}
+use Rattle.roll.proofs.header.refused_roll.Reads.{Post as RefusedRoll}
 use Rattle.roll.proofs.judge.check.Reads.{Post as Check}
 use Rattle.roll.proofs.terms.most_boys.Reads.{Post as MostBoys}
 
 pub no-cursor-only : Alone (λ r. NoCursor tt end r end) no_cursor
 no-cursor-only = alone (λ r p. p)
+
+pub refused-roll-only : (refusal : Refusal) (place : ℕ) → let g = refusal ▸ place ▸ end in Alone (λ r. RefusedRoll tt g r g) (refused_opened refusal place)
+refused-roll-only refusal place = alone (λ r p. p)
 
 pub most-boys-only : (k : Kind) (l : ℕ) → let g = k ▸ l ▸ end in Alone (λ r. MostBoys tt g r g) (most_boys k l)
 most-boys-only k l = alone (λ r p. p)

@@ -2,18 +2,25 @@
 ghost use Rattle.std.specs.Prelude.{◌≡◌, ◌+◌, ◌≤◌};
 ghost use Rattle.kind.specs.Limits.{most_order, request_orders};
 ghost use Rattle.roll.specs.Reading.{sum_after, orders_at};
-ghost use Rattle.roll.specs.Header.{open_kind_of, open_of};
+ghost use Rattle.roll.specs.Header.{refused_opened, open_kind_of, open_of};
 ghost use Rattle.roll.specs.inner.Held.{held_orders};
 
 use crate::cursor::Cursor;
 use crate::field::{bad_roll, within};
-use kind::{Fault, Kind};
+use kind::{Fault, Kind, Refusal};
 
 // A roll's orders, zeros after them, and the cursor at its first term.
 #[derive(Clone, Copy)]
 pub struct Opened {
     pub cursor: Cursor,
     pub orders: [u8; Kind::ORDERS],
+}
+
+// The answer of a roll that is refused, with the place of the refusal.
+pub fn refused_roll(refusal: Refusal, place: usize) -> Result<Opened, Fault>
+    ensures { result ≡ refused_opened refusal place }
+{
+    Err(Fault { refusal, place })
 }
 
 // The orders of a roll, zeros after them, their sum, and the place after them.

@@ -12,6 +12,6 @@ mod terms;
 pub use again::{Head, Seen, boys_at, end_at, head_at, number_at};
 pub use cursor::{Cursor, Step, no_cursor};
 pub use field::within;
-pub use header::{Opened, open, open_kind};
+pub use header::{Opened, open, open_kind, refused_roll};
 pub use judge::check;
 pub use terms::most_boys;

@@ -7,13 +7,13 @@ use Rattle.kind.specs.declared.refusals.Refusal.{Refusal}
 use Rattle.kind.specs.declared.refusals.Fault.{Fault}
 use Rattle.kind.specs.Kinds.{kind_of}
 use Rattle.expansion.specs.declared.Expanded.{Expanded}
-use Rattle.expansion.specs.Expanding.{named_told, named_measured, named_out, named_told2, named_out2}
+use Rattle.expansion.specs.Expanding.{named_told, named_measured, named_out, named_told2, named_out2, length_in as roll_length, count_in, refusal_of as expanded_refusal}
 use Rattle.shell.specs.declared.Listed.{Listed}
-use Rattle.shell.specs.Shells.{listed_at, listed_out, shell2_of, shell4_of}
+use Rattle.shell.specs.Shells.{listed_at, listed_out, length_in, triples_in, shell2_of, shell4_of, refusal_of as shell_refusal}
 use Rattle.roll.specs.declared.cursor.Cursor.{Cursor}
 use Rattle.roll.specs.declared.cursor.Step.{Step}
 use Rattle.roll.specs.declared.header.Opened.{Opened}
-use Rattle.roll.specs.Header.{open_of, check_of}
+use Rattle.roll.specs.Header.{open_of, check_of, refusal_of, place_of}
 use Rattle.roll.specs.Cursor.{no_cursor, step_of}
 use Rattle.roll.specs.Reading.{Reading, Roll, roll_at}
 use Rattle.form2.specs.declared.cursor.Cursor2.{Cursor2}
@@ -39,17 +39,17 @@ use Rattle.salvaging.specs.declared.After.{After}
 use Rattle.salvaging.specs.declared.After.TheVariants as after
 use Rattle.salvaging.specs.declared.Told.{Told}
 use Rattle.salvaging.specs.Salvage.{salvaged_of, out_of as salvage_out}
-use Rattle.form2.specs.Moves.{in_form1, in_form2, moved_of, out_of}
-use Rattle.totals.specs.Totals.{total_of, roll_total_of}
+use Rattle.form2.specs.Moves.{in_form1, in_form2, moved_of, out_of, length_in as moved_length, place_of as moved_place, count_in as moved_count, refusal_of as moved_refusal}
+use Rattle.totals.specs.Totals.{total_of, roll_total_of, total_in, refusal_of as total_refusal, scales_in}
 use Rattle.geometry.specs.declared.Centre.{Centre}
 use Rattle.geometry.specs.Checks.{prefactor_table_of}
-use Rattle.root.specs.Root.{rooted_of}
+use Rattle.root.specs.Root.{rooted_of, refusal_of as root_refusal}
 use Rattle.geometry.specs.Floats.{zero as 0·0}
 use Rattle.contracting.specs.declared.Contracted.{Contracted}
 use Rattle.contracting.specs.Elements.{contracted_of}
 use Rattle.nuclei.specs.declared.Nuclei.{Nuclei}
 use Rattle.nuclei.specs.Nuclei.{nuclear_of}
-use Rattle.integrals.specs.Evaluation.{evaluate_of}
+use Rattle.integrals.specs.Evaluation.{evaluate_of, float_of, place_of as value_place, refusal_of as value_refusal}
 use Rattle.grouping.specs.Evaluation.{of_roll as grouped_of_roll, buffer_of}
 use Rattle.grouping.specs.Restoring.{restored_of}
 use Rattle.jk.specs.Outcome.{Answer, jk_of}
@@ -85,8 +85,7 @@ cursor2_in c = record { cursor = cursor_in c.cursor; count = c.count; earlier = 
 -- ---- xew_expand: the length, the term count and the refusal of the answer
 
 abbrev pub host_expanded : Result Expanded Refusal → xew_written
-host_expanded (Ok e) = record { length = e.length; terms = e.terms; refusal = 0 }
-host_expanded (Err r) = record { length = 0; terms = 0; refusal = refusal_number r }
+host_expanded e = record { length = roll_length e; terms = count_in e; refusal = expanded_refusal e }
 
 pub record ExpandCallTold (kind : ℕ) (orders before : List ℕ) (start : ℕ) (r : xew_written) (after : List ℕ) : Type 0 where
   pub answer : r ≡ host_expanded (named_told (kind_of kind) orders before start)
@@ -106,8 +105,7 @@ pub record Expand2CallTold (kind : ℕ) (orders before : List ℕ) (start : ℕ)
 -- ---- xew_shell_list: the length, the triples and the refusal
 
 abbrev pub host_listed : Result Listed Refusal → xew_written
-host_listed (Ok l) = record { length = l.length; terms = l.triples; refusal = 0 }
-host_listed (Err r) = record { length = 0; terms = 0; refusal = refusal_number r }
+host_listed l = record { length = length_in l; terms = triples_in l; refusal = shell_refusal l }
 
 pub record ListCallTold (order : ℕ) (before : List ℕ) (start : ℕ) (r : xew_written) (after : List ℕ) : Type 0 where
   pub answer : r ≡ host_listed (listed_at order before start)
@@ -119,9 +117,12 @@ pub record ListCallTold (order : ℕ) (before : List ℕ) (start : ℕ) (r : xew
 abbrev pub no_orders : List ℕ
 no_orders = replicate request_orders 0
 
+abbrev pub orders_in : Result (List ℕ) Refusal → List ℕ
+orders_in (Ok orders) = orders
+orders_in (Err r) = no_orders
+
 abbrev pub host_component : Result (List ℕ) Refusal → xew_component
-host_component (Ok orders) = record { orders = orders; refusal = 0 }
-host_component (Err r) = record { orders = no_orders; refusal = refusal_number r }
+host_component c = record { orders = orders_in c; refusal = shell_refusal c }
 
 unfoldable pub shell2_answer : ℕ → ℕ → ℕ → xew_component
 shell2_answer a b number = host_component (shell2_of a b number)
@@ -137,9 +138,12 @@ host_cursor c = record { place = c.place; left = c.left; kind = c.kind; l = c.l 
 abbrev pub unopened : ℕ → ℕ → xew_opened
 unopened place number = record { cursor = host_cursor no_cursor; place = place; orders = no_orders; refusal = number }
 
+abbrev pub opened_beside : Result Opened Fault → ℕ → ℕ → xew_opened
+opened_beside (Ok o) place number = record { cursor = host_cursor o.cursor; place = place; orders = o.orders; refusal = number }
+opened_beside (Err f) place number = unopened place number
+
 abbrev pub host_opened : Result Opened Fault → xew_opened
-host_opened (Ok o) = record { cursor = host_cursor o.cursor; place = 0; orders = o.orders; refusal = 0 }
-host_opened (Err f) = unopened f.place (refusal_number f.refusal)
+host_opened o = opened_beside o (place_of o) (refusal_of o)
 
 unfoldable pub open_answer : List ℕ → xew_opened
 open_answer roll = host_opened (open_of roll)
@@ -177,9 +181,12 @@ no_host_cursor2 = record { cursor = host_cursor no_cursor; count = 0; earlier = 
 abbrev pub unopened2 : ℕ → ℕ → xew_opened2
 unopened2 place number = record { cursor = no_host_cursor2; place = place; orders = no_orders; refusal = number }
 
+abbrev pub opened2_beside : Result Opened2 Fault → ℕ → ℕ → xew_opened2
+opened2_beside (Ok o) place number = record { cursor = host_cursor2 o.cursor; place = place; orders = o.orders; refusal = number }
+opened2_beside (Err f) place number = unopened2 place number
+
 abbrev pub host_opened2 : Result Opened2 Fault → xew_opened2
-host_opened2 (Ok o) = record { cursor = host_cursor2 o.cursor; place = 0; orders = o.orders; refusal = 0 }
-host_opened2 (Err f) = unopened2 f.place (refusal_number f.refusal)
+host_opened2 o = opened2_beside o (place_of o) (refusal_of o)
 
 unfoldable pub open2_answer : List ℕ → xew_opened2
 open2_answer roll = host_opened2 (open2_of roll)
@@ -207,8 +214,7 @@ next2_answer c roll = host_step2 (step2_of (cursor2_in c) roll)
 -- ---- xew_to_form2 and xew_to_form1: the length, the term count, and a refusal with its place
 
 abbrev pub host_moved : Result Moved Fault → xew_moved
-host_moved (Ok m) = record { length = m.length; place = 0; terms = m.terms; refusal = 0 }
-host_moved (Err f) = record { length = 0; place = f.place; terms = 0; refusal = refusal_number f.refusal }
+host_moved m = record { length = moved_length m; place = moved_place m; terms = moved_count m; refusal = moved_refusal m }
 
 pub record MoveCallTold (form : Roll → List ℕ) (reading : Reading Roll) (before : List ℕ) (start : ℕ) (r : xew_moved) (after : List ℕ) : Type 0 where
   pub answer : r ≡ host_moved (moved_of form reading before start)
@@ -327,10 +333,13 @@ compare_next_answer p left right = host_met (next_of (pair_in p) left right)
 -- ---- xew_scale_total: the number, whether one is claimed, and the refusal
 
 -- claimed is 1 beside a number, else 0 (D-90)
+abbrev pub claimed_code : Result (Option ℕ) Refusal → ℕ
+claimed_code (Ok (Some n)) = 1
+claimed_code (Ok None) = 0
+claimed_code (Err r) = 0
+
 abbrev pub host_total : Result (Option ℕ) Refusal → xew_total
-host_total (Ok (Some n)) = record { total = n; claimed = 1; refusal = 0 }
-host_total (Ok None) = record { total = 0; claimed = 0; refusal = 0 }
-host_total (Err r) = record { total = 0; claimed = 0; refusal = refusal_number r }
+host_total t = record { total = total_in t; claimed = claimed_code t; refusal = total_refusal t }
 
 unfoldable pub scale_total_answer : ℕ → List ℕ → xew_total
 scale_total_answer kind orders = host_total (total_of kind orders)
@@ -338,8 +347,7 @@ scale_total_answer kind orders = host_total (total_of kind orders)
 -- ---- xew_roll_total: the sum of a roll's scales, and a refusal with its place
 
 abbrev pub host_scales : Result ℕ Fault → xew_scales
-host_scales (Ok n) = record { total = n; place = 0; refusal = 0 }
-host_scales (Err f) = record { total = 0; place = f.place; refusal = refusal_number f.refusal }
+host_scales t = record { total = scales_in t; place = place_of t; refusal = refusal_of t }
 
 unfoldable pub roll_total_answer : List ℕ → xew_scales
 roll_total_answer roll = host_scales (roll_total_of roll)
@@ -355,9 +363,12 @@ prefactors_answer kind a b c d = host_table (prefactor_table_of kind a b c d)
 
 -- ---- xew_root: the root and the refusal
 
+abbrev pub root_in : Result Float Refusal → Float
+root_in (Ok x) = x
+root_in (Err r) = 0·0
+
 abbrev pub host_rooted : Result Float Refusal → xew_rooted
-host_rooted (Ok x) = record { root = x; refusal = 0 }
-host_rooted (Err r) = record { root = 0·0; refusal = refusal_number r }
+host_rooted r = record { root = root_in r; refusal = root_refusal r }
 
 unfoldable pub root_answer : Float → xew_rooted
 root_answer x = host_rooted (rooted_of x)
@@ -365,8 +376,7 @@ root_answer x = host_rooted (rooted_of x)
 -- ---- xew_evaluate: the integral, and a refusal with its place
 
 abbrev pub host_value : Result Float Fault → xew_value
-host_value (Ok x) = record { value = x; place = 0; refusal = 0 }
-host_value (Err f) = record { value = 0·0; place = f.place; refusal = refusal_number f.refusal }
+host_value v = record { value = float_of v; place = value_place v; refusal = value_refusal v }
 
 unfoldable pub evaluate_answer : List ℕ → Centre → Centre → Centre → Centre → Float → List Float → xew_value
 evaluate_answer roll a b c d aux boys = host_value (evaluate_of roll a b c d aux boys)

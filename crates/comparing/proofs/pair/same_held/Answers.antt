@@ -7,7 +7,7 @@ use Rattle.comparing.proofs.pair.same_held.Goals as goal
 
 pub returns-then-left-right-3 : goal.returns-then-left-right-3
 unfolding same_held
-returns-then-left-right-3 c = let is = numbers-pointwise c.args.left.prefactors c.args.right.prefactors in grind (arith, nat_tests, c.eq.ensures)
+returns-then-left-right-3 c = let is = numbers-pointwise c.args.left.now.prefactors c.args.right.now.prefactors in grind (arith, nat_tests, c.eq.ensures)
 
 pub returns-else-left-right-3 : goal.returns-else-left-right-3
 unfolding same_held

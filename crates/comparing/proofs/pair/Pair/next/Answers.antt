@@ -1,24 +1,23 @@
--- `next` meets its contract. The loop's invariant is `Going`: the step from here on is the whole step. Assumes nothing.
+-- `next` meets its contract: what is gone over, what is told, and a refusal of a side. Assumes nothing.
 use Rattle.std.proofs.lemmas.Result.{err_from_is_err_and}
-use Rattle.comparing.proofs.PairLaws.{going-first, going_less, going_more, going_met, going_end, going-refused}
+use Rattle.comparing.proofs.PairLaws.{going_less, going_more, going_told, going-refused-left, going-refused-right}
 use Rattle.comparing.proofs.pair.Pair.next.Goals as goal
 
-pub loop-met-init : goal.loop-met-init
-loop-met-init c = search going-first
-
-pub returns-in_err-met : goal.returns-in_err-met
-returns-in_err-met c =
+pub returns-in_err-l : goal.returns-in_err-l
+returns-in_err-l c =
     let p = err_from_is_err_and c.from_residual.result c.from_residual.ensures.1 in
-    rw (p.1, p.2) (going-refused _ _ _ _ _ _ c.loop-met.invariant c.turn.ensures c.in_err-met.was)
+    rw (p.1, p.2) (going-refused-left _ _ _ _ _ _ c.loop-l.invariant c.step.ensures c.in_err-l.was)
 
-pub returns-then-not-same_line : goal.returns-then-not-same_line
-returns-then-not-same_line c = going_met _ _ _ _ _ _ _ _ c.loop-met.invariant c.turn.ensures c.in_ok-met.was c.in-Some.is c.same_line.ensures c.if-not-same_line.true
+pub returns-in_err-r : goal.returns-in_err-r
+returns-in_err-r c =
+    let p = err_from_is_err_and c.from_residual-in_err-r.result c.from_residual-in_err-r.ensures.1 in
+    rw (p.1, p.2) (going-refused-right _ _ _ _ _ _ _ _ c.loop-l.invariant c.step.ensures c.in_ok-l.was c.step-in-loop-l.ensures c.in_err-r.was)
 
-pub loop-met-smaller : goal.loop-met-smaller
-loop-met-smaller c = going_less _ _ _ _ _ _ _ c.turn.ensures c.in_ok-met.was c.in-Some.is c.same_line.ensures c.if-not-same_line.false
+pub loop-l-smaller : goal.loop-l-smaller
+loop-l-smaller c = going_less _ _ c.args.self c.loop-l.at _ _ _ _ c.step.ensures c.in_ok-l.was c.step-in-loop-l.ensures c.in_ok-r.was _ _ c.behind.ensures c.in-Some.is
 
-pub loop-met-preserved : goal.loop-met-preserved
-loop-met-preserved c = going_more _ _ _ _ _ _ _ _ c.loop-met.invariant c.turn.ensures c.in_ok-met.was c.in-Some.is c.same_line.ensures c.if-not-same_line.false
+pub loop-l-preserved : goal.loop-l-preserved
+loop-l-preserved c = going_more _ _ _ _ _ _ _ _ c.step.ensures c.in_ok-l.was c.step-in-loop-l.ensures c.in_ok-r.was _ _ c.loop-l.invariant c.behind.ensures c.in-Some.is
 
-pub returns : goal.returns
-returns c = going_end _ _ _ _ _ _ c.loop-met.invariant c.turn.ensures c.in_ok-met.was c.in_default.is
+pub returns-in-None : goal.returns-in-None
+returns-in-None c = going_told _ _ _ _ _ _ _ _ c.loop-l.invariant c.step.ensures c.in_ok-l.was c.step-in-loop-l.ensures c.in_ok-r.was _ c.behind.ensures c.in-None.is _ c.position.ensures

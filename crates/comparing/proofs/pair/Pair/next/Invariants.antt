@@ -2,8 +2,8 @@
 use Rattle.comparing.proofs.PairLaws.{Going}
 use Rattle.comparing.proofs.pair.Pair.next.Given as goal
 
-abbrev pub invariant-loop-met : goal.invariant-loop-met
-invariant-loop-met l = Going l.left l.right l.initial.at l.at
+abbrev pub invariant-loop-l : goal.invariant-loop-l
+invariant-loop-l l = Going l.left l.right l.initial.at l.at
 
-abbrev pub decreases-loop-met : goal.decreases-loop-met
-decreases-loop-met l = l.at.left.cursor.left
+abbrev pub decreases-loop-l : goal.decreases-loop-l
+decreases-loop-l l = l.at.left.cursor.left
