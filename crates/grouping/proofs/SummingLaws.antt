@@ -38,8 +38,8 @@ use Rattle.grouping.specs.inner.Laying.{entry_head, entries_again, ShortTold}
 pub short-not : (b : List ℕ) (at : ℕ) → ShortTold b at None
 short-not b at = record { end = λ n none. absurd (clash (cc)) }
 
-told : (b : List ℕ) (at n : ℕ) → (seen_at b at).next ≡ n → ShortTold b at (Some n)
-told b at n e = record { end = λ m same. let is : n ≡ m = cc in e ∙ is }
+told : (b : List ℕ) (at n : ℕ) → (seen_at b at).next ≡ n → at < n → n ≤ length b → ShortTold b at (Some n)
+told b at n e past inside = record { end = λ m same. let is : n ≡ m = cc in (e ∙ is, omega (arith, past, is), omega (arith, inside, is)) }
 
 module _ (b : List ℕ) (at x : ℕ) (inside : at < length b) (first : x ≡ get_or b at 0) where
   seen-is : (n next : ℕ) → Is n next ≡ read_at b at → (seen_at b at).next ≡ next
@@ -47,14 +47,14 @@ module _ (b : List ℕ) (at x : ℕ) (inside : at < length b) (first : x ≡ get
   seen-is n next e = rw (← e)
 
   pub short-one : (t : Bool) → t ≡ one_byte x → t ≡ true → ShortTold b at (Some (at + 1))
-  short-one t e p = told b at (at + 1) (seen-is x (at + 1) (read_one b at x inside first (ltb-true x 128 (sym e ∙ p))))
+  short-one t e p = told b at (at + 1) (seen-is x (at + 1) (read_one b at x inside first (ltb-true x 128 (sym e ∙ p)))) (omega arith) (omega arith)
 
   module _ (t : Bool) (e : t ≡ one_byte x) (p : t ≡ false) (room : 3 ≤ length b - at) (y : ℕ) (second : y ≡ get_or b (at + 1) 0) (some : y ≡ 0 → ⊥) where
     pub short-two : (u : Bool) → u ≡ one_byte y → u ≡ true → ShortTold b at (Some (at + 2))
     short-two u f q =
         let more : Is y (at + 1 + 1) ≡ higher (drop (at + 1) b) (at + 1) 3 = higher-last b (at + 1) 3 y (omega arith) second (λ z. omega (arith, z)) some (ltb-true y 128 (sym f ∙ q)) in
         let two : at + 1 + 1 ≡ at + 2 = omega arith in
-        told b at (at + 2) (seen-is (x % 128 + 128 * y) (at + 1 + 1) (read_more b at x (at + 1) t (Is (x % 128 + 128 * y) (at + 1 + 1)) (Is y (at + 1 + 1)) inside first refl e p more refl) ∙ two)
+        told b at (at + 2) (seen-is (x % 128 + 128 * y) (at + 1 + 1) (read_more b at x (at + 1) t (Is (x % 128 + 128 * y) (at + 1 + 1)) (Is y (at + 1 + 1)) inside first refl e p more refl) ∙ two) (omega arith) (omega arith)
 
     pub short-three : (u : Bool) (w : ℕ) (v : Bool) → w ≡ get_or b (at + 2) 0 → u ≡ one_byte y → u ≡ false → (w ≡ 0 → ⊥) → v ≡ one_byte w → v ≡ true → ShortTold b at (Some (at + 3))
     short-three u w v third f q some-too g r =
@@ -64,13 +64,13 @@ module _ (b : List ℕ) (at x : ℕ) (inside : at < length b) (first : x ≡ get
         let high : 128 ≤ y = ltb-false y 128 (sym f ∙ q) in
         let more : Is (y % 128 + 128 * w) (at + 1 + 1 + 1) ≡ higher (drop (at + 1) b) (at + 1) 3 = higher-more b (at + 1) 3 2 y (Is (y % 128 + 128 * w) (at + 1 + 1 + 1)) (Is w (at + 1 + 1 + 1)) (omega arith) second (λ z. omega (arith, z)) refl high last refl in
         let three : at + 1 + 1 + 1 ≡ at + 3 = omega arith in
-        told b at (at + 3) (seen-is (x % 128 + 128 * (y % 128 + 128 * w)) (at + 1 + 1 + 1) (read_more b at x (at + 1) t (Is (x % 128 + 128 * (y % 128 + 128 * w)) (at + 1 + 1 + 1)) (Is (y % 128 + 128 * w) (at + 1 + 1 + 1)) inside first refl e p more refl) ∙ three)
+        told b at (at + 3) (seen-is (x % 128 + 128 * (y % 128 + 128 * w)) (at + 1 + 1 + 1) (read_more b at x (at + 1) t (Is (x % 128 + 128 * (y % 128 + 128 * w)) (at + 1 + 1 + 1)) (Is (y % 128 + 128 * w) (at + 1 + 1 + 1)) inside first refl e p more refl) ∙ three) (omega arith) (omega arith)
 
 pub end_seen : (b : List ℕ) (at : ℕ) (n : Seen) → n ≡ seen_at b at → n.next ≡ (seen_at b at).next
 end_seen b at n e = ap (λ (s : Seen). s.next) e
 
 pub end_short : (b : List ℕ) (at n : ℕ) (r : Option ℕ) → ShortTold b at r → r ≡ Some n → n ≡ (seen_at b at).next
-end_short b at n r told is = sym (told.end n is)
+end_short b at n r told is = sym (told.end n is).0
 
 pub entry-is : (b : List ℕ) (at n : ℕ) (h : Head) → n ≡ (seen_at b at).next → h ≡ head_at b n → h ≡ entry_head b at
 unfolding entry_head
