@@ -126,7 +126,34 @@ pub record Going (s t : List ℕ) (first p : Pair) : Type 0 where
 pub going-first : (s t : List ℕ) (p : Pair) → Going s t p p
 going-first s t p = record { whole = refl }
 
--- ---- a position that is gone over, and one that is told
+-- ---- by what a turn answers: a position that is gone over, one that differs, the end, a refusal
+
+pub going_less : (s t : List ℕ) (p : Pair) (x : Answered) (o : Option Met) (m : Met) (b : Bool) → x ≡ turn_of p s t → x ≡ Ok o → o ≡ Some m → b ≡ same_line m.line → b ≡ true → m.next.left.cursor.left < p.left.cursor.left
+going_less s t p x o m b is ok some same on =
+    let turn : turn_of p s t ≡ Ok (Some m) = sym is ∙ ok ∙ ap (λ (o : Option Met). Ok o) some in
+    let f = same-falls p s t m turn (sym same ∙ on) in
+    omega (arith, f.0, f.1)
+
+module _ (s t : List ℕ) (first p : Pair) (x : Answered) (o : Option Met) where
+  pub going_more : (m : Met) (b : Bool) → Going s t first p → x ≡ turn_of p s t → x ≡ Ok o → o ≡ Some m → b ≡ same_line m.line → b ≡ true → Going s t first m.next
+  going_more m b g is ok some same on =
+      let turn : turn_of p s t ≡ Ok (Some m) = sym is ∙ ok ∙ ap (λ (o : Option Met). Ok o) some in
+      record { whole = sym (turn-over p s t m turn (sym same ∙ on)) ∙ g.whole }
+
+  pub going_met : (m : Met) (b : Bool) → Going s t first p → x ≡ turn_of p s t → x ≡ Ok o → o ≡ Some m → b ≡ same_line m.line → b ≡ false → Ok (Some m) ≡ next_of first s t
+  going_met m b g is ok some same off =
+      let turn : turn_of p s t ≡ Ok (Some m) = sym is ∙ ok ∙ ap (λ (o : Option Met). Ok o) some in
+      sym (turn-next p s t m turn (sym same ∙ off)) ∙ g.whole
+
+  pub going_end : Going s t first p → x ≡ turn_of p s t → x ≡ Ok o → o ≡ None → Ok None ≡ next_of first s t
+  going_end g is ok none =
+      let turn : turn_of p s t ≡ Ok None = sym is ∙ ok ∙ ap (λ (o : Option Met). Ok o) none in
+      sym (turn-end p s t turn) ∙ g.whole
+
+pub going-refused : (s t : List ℕ) (first p : Pair) (x : Answered) (d : Sided) → Going s t first p → x ≡ turn_of p s t → x ≡ Err d → Err d ≡ next_of first s t
+going-refused s t first p x d g is e = sym (turn-refused p s t d (sym is ∙ e)) ∙ g.whole
+
+-- ---- by what each side's step answers: a position that is gone over, one that is told, a refusal
 
 over-terms : (p q : Pair) (l r : Step2) → behind_as p.number (Some l) (Some r) ≡ Some q → same_held l.term r.term ≡ true
 over-terms p q l r is =
@@ -163,24 +190,28 @@ module _ (s t : List ℕ) (first p : Pair) (u v : Result (Option Step2) Sided) (
       let f = behind-some p q l r is in
       (f.0, sym turned ∙ ap (λ (o : Option Met). Ok o) f.1, f.2, f.3)
 
-  pub going_less : (o : Option Pair) (q : Pair) → o ≡ behind_as p.number l r → o ≡ Some q → q.left.cursor.left < p.left.cursor.left
-  going_less o q is some =
+  pub over_less : (o : Option Pair) (q : Pair) → o ≡ behind_as p.number l r → o ≡ Some q → q.left.cursor.left < p.left.cursor.left
+  over_less o q is some =
       let f = met-over q (sym is ∙ some) in
-      let falls = same-falls p s t f.0 f.1 f.2 in
+      let less = going_less s t p (turn_of p s t) (Some f.0) f.0 true refl f.1 refl (sym f.2) refl in
       let left : f.0.next.left.cursor.left ≡ q.left.cursor.left = ap (λ (q : Pair). q.left.cursor.left) f.3 in
-      omega (arith, falls.0, falls.1, left)
+      omega (arith, less, left)
 
-  pub going_more : (o : Option Pair) (q : Pair) → Going s t first p → o ≡ behind_as p.number l r → o ≡ Some q → Going s t first q
-  going_more o q g is some =
+  pub over_more : (o : Option Pair) (q : Pair) → Going s t first p → o ≡ behind_as p.number l r → o ≡ Some q → Going s t first q
+  over_more o q g is some =
       let f = met-over q (sym is ∙ some) in
-      record { whole = ap (λ (q : Pair). next_of q s t) (sym f.3) ∙ sym (turn-over p s t f.0 f.1 f.2) ∙ g.whole }
+      let more = going_more s t first p (turn_of p s t) (Some f.0) f.0 true g refl f.1 refl (sym f.2) refl in
+      record { whole = ap (λ (q : Pair). next_of q s t) (sym f.3) ∙ more.whole }
 
 -- the position that is told: one that differs, or none
+told-met : (p : Pair) (s t : List ℕ) (m : Met) → turn_of p s t ≡ Ok (Some m) → same_line m.line ≡ false → Ok (Some m) ≡ next_of p s t
+told-met p s t m turn off = going_met s t p p (turn_of p s t) (Some m) m (same_line m.line) (going-first s t p) refl turn refl refl off
+
 told-next : (p : Pair) (s t : List ℕ) (l r : Option Step2) → Ok (position l r p) ≡ turn_of p s t → behind_as p.number l r ≡ None → Ok (position l r p) ≡ next_of p s t
-told-next p s t (Some l) (Some r) turn is = sym (turn-next p s t (met_by p.number (line.Both l.term r.term) l.next r.next) (sym turn) (told-terms p l r is))
-told-next p s t (Some l) None turn is = sym (turn-next p s t (met_by p.number (line.Left l.term) l.next p.right) (sym turn) refl)
-told-next p s t None (Some r) turn is = sym (turn-next p s t (met_by p.number (line.Right r.term) p.left r.next) (sym turn) refl)
-told-next p s t None None turn is = sym (turn-end p s t (sym turn))
+told-next p s t (Some l) (Some r) turn is = told-met p s t (met_by p.number (line.Both l.term r.term) l.next r.next) (sym turn) (told-terms p l r is)
+told-next p s t (Some l) None turn is = told-met p s t (met_by p.number (line.Left l.term) l.next p.right) (sym turn) refl
+told-next p s t None (Some r) turn is = told-met p s t (met_by p.number (line.Right r.term) p.left r.next) (sym turn) refl
+told-next p s t None None turn is = going_end s t p p (turn_of p s t) None (going-first s t p) refl (sym turn) refl
 
 pub going_told : (s t : List ℕ) (first p : Pair) (u v : Result (Option Step2) Sided) (l r : Option Step2) → Going s t first p → u ≡ on_side side.Left (step_side p.left s) → u ≡ Ok l → v ≡ on_side side.Right (step_side p.right t) → v ≡ Ok r → (o : Option Pair) → o ≡ behind_as p.number l r → o ≡ None → (x : Option Met) → x ≡ position l r p → Ok x ≡ next_of first s t
 going_told s t first p u v l r g one ok two also o is none x told =
@@ -189,7 +220,7 @@ going_told s t first p u v l r g one ok two also o is none x told =
     ∙ g.whole
 
 pub going-refused-left : (s t : List ℕ) (first p : Pair) (u : Result (Option Step2) Sided) (d : Sided) → Going s t first p → u ≡ on_side side.Left (step_side p.left s) → u ≡ Err d → Err d ≡ next_of first s t
-going-refused-left s t first p u d g one e = sym (turn-refused p s t d (sym (turn-refused-left p s t u d one e))) ∙ g.whole
+going-refused-left s t first p u d g one e = going-refused s t first p (turn_of p s t) d g refl (sym (turn-refused-left p s t u d one e))
 
 pub going-refused-right : (s t : List ℕ) (first p : Pair) (u v : Result (Option Step2) Sided) (l : Option Step2) (d : Sided) → Going s t first p → u ≡ on_side side.Left (step_side p.left s) → u ≡ Ok l → v ≡ on_side side.Right (step_side p.right t) → v ≡ Err d → Err d ≡ next_of first s t
-going-refused-right s t first p u v l d g one ok two e = sym (turn-refused p s t d (sym (turn-refused-right p s t u v l d one ok two e))) ∙ g.whole
+going-refused-right s t first p u v l d g one ok two e = going-refused s t first p (turn_of p s t) d g refl (sym (turn-refused-right p s t u v l d one ok two e))
